@@ -1,0 +1,3 @@
+pub mod Signal
+pub mod Table
+pub mod View
