@@ -1,0 +1,5 @@
+use Rattle.hq_footprint.proofs.laws.kernels_suit.Goals as goal
+use Rattle.hq_footprint.proofs.TaskLaws as laws
+
+pub returns : goal.returns
+returns c = laws.kernels_suit

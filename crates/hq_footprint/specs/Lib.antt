@@ -1,0 +1,5 @@
+pub mod Bytes
+pub mod Tasks
+pub mod Table
+pub mod Conflicts
+pub mod Laws

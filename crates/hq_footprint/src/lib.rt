@@ -1,0 +1,22 @@
+//! What a packet reads, writes and computes: ranges of bytes and tasks.
+#![tactic(auto)]
+
+mod buffers;
+mod conflicts;
+mod evaluating;
+mod fault;
+mod footprint;
+pub mod laws;
+mod task;
+mod work;
+
+pub use buffers::inside;
+pub use conflicts::{Kinds, conflict};
+pub use evaluating::{evaluate, evaluate_ranges};
+pub use fault::FootFault;
+pub use footprint::{Footprint, Range, Work};
+pub use task::{Code, Task};
+pub use work::{of_kernel, of_service};
+
+#[cfg(test)]
+mod tests;

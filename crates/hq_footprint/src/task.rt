@@ -1,0 +1,35 @@
+//! Tasks.
+
+/// What is written of the bytes that were read.
+#[derive(Clone, Copy, Debug, PartialEq, Eq)]
+pub enum Task {
+    /// The byte, everywhere.
+    Fill(u8),
+    /// The bytes as they are.
+    Copy,
+    /// The bytes from the last to the first.
+    Rev,
+    /// The exclusive or of the first half and the second.
+    Xor,
+    /// The sum mod 256 of the first half and the second.
+    Add,
+    /// The sum of the bytes mod 2^64, 8 bytes, the least first.
+    Sum,
+    /// The word, 8 bytes, the least first.
+    Store64(u64),
+    /// How many bytes equal this one, 8 bytes, the least first.
+    Count(u8),
+    /// Nothing.
+    Nop,
+}
+
+/// The kernels that a job can name.
+#[derive(Clone, Copy, Debug, PartialEq, Eq)]
+pub enum Code {
+    Fill,
+    Copy,
+    Rev,
+    Xor,
+    Add,
+    Sum,
+}
