@@ -1,0 +1,5 @@
+use Rattle.hq_model.proofs.examples.either_orders.Goals as goal
+use Rattle.hq_model.proofs.RowsLaws as laws
+
+pub returns : goal.returns
+returns c = laws.either_orders

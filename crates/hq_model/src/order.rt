@@ -1,0 +1,24 @@
+//! The order of packets, and lists that keep it.
+
+ghost use Rattle.hq_model.specs.Order.{OrderListsExtend, NoneWhereStuck};
+ghost use Rattle.hq_model.specs.Schedule.{SchedulesSettle, OrderedOrStuck};
+
+/// Every order list extends the job's order.
+pub fn order_lists_extend()
+    ensures { OrderListsExtend }
+{}
+
+/// No order list exists where a stuck set does.
+pub fn none_where_stuck()
+    ensures { NoneWhereStuck }
+{}
+
+/// A list that packets may come to, until none may, is an order list or leaves what is stuck.
+pub fn schedules_settle()
+    ensures { SchedulesSettle }
+{}
+
+/// Each job has an order list or a stuck set.
+pub fn ordered_or_stuck()
+    ensures { OrderedOrStuck }
+{}
