@@ -1,0 +1,6 @@
+pub mod Bytes
+pub mod Meaning
+pub mod Says
+pub mod Fits
+pub mod Order
+pub mod Gives

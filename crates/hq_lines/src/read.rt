@@ -1,0 +1,78 @@
+//! Lines read.
+
+ghost use Rattle.std.specs.Prelude.{◌≡◌, if◌then◌else◌, ◌⊎◌, ◌↔◌, List, length, map, IfOk, IfErr, Ok, Err, Some, None, codes, IsTrue};
+ghost use Rattle.std.specs.List.{list_any};
+ghost use Rattle.hq_text.specs.Lines.{words_of};
+ghost use Rattle.hq_lines.specs.Bytes.{is_outside};
+ghost use Rattle.hq_lines.specs.Meaning.{Meaning, view};
+ghost use Rattle.hq_lines.specs.Says.{SaysLine};
+ghost use Rattle.hq_lines.specs.Order.{line_fault};
+ghost use Rattle.hq_lines.specs.Fits.{Fits};
+ghost use Rattle.hq_lines.specs.Gives.{Gives};
+
+use crate::fault::LineFault;
+use crate::line::{Line, Version};
+use crate::words::words_said;
+use hq_text::words_of;
+use std::alloc::Global;
+
+fn has_outside(line: &[u8]) -> bool
+    ensures { result ≡ list_any is_outside line.now }
+{
+    line.iter().any(|b| *b < 32 || *b > 126)
+}
+
+fn check_bytes(line: &[u8]) -> Result<(), LineFault>
+    ensures { result ≡ (if list_any is_outside line.now then Err LineFault.Byte else Ok tt) }
+{
+    if has_outside(line) {
+        return Err(LineFault::Byte);
+    }
+    Ok(())
+}
+
+/// The version that the first line of a job text names.
+pub fn first_line(line: &[u8]) -> Result<Version, LineFault>
+    ensures one { (result ≡ Ok Version.One) ↔ (line.now ≡ codes "hsaq 1") }
+    ensures two { (result ≡ Ok Version.Two) ↔ (line.now ≡ codes "hsaq 2") }
+    ensures fault { IfErr result (λ e. e ≡ (if list_any is_outside line.now then LineFault.Byte else LineFault.Word)) }
+{
+    if line == b"hsaq 1".as_slice() {
+        return Ok(Version::One);
+    }
+    if line == b"hsaq 2".as_slice() {
+        return Ok(Version::Two);
+    }
+    Err(line_behind_end(line))
+}
+
+fn line_said(alloc: Global, line: &[u8]) -> Result<Line, LineFault>
+    ensures found { IfOk result (λ l. SaysLine line.now (view l)) }
+    ensures fault { IfErr result (λ e. (e ≡ LineFault.Memory) ⊎ (line_fault line.now ≡ Some e)) }
+{
+    check_bytes(line)?;
+    let words = words_of(alloc, line)?;
+    words_said(alloc, &words)
+}
+
+/// What a line behind the first says, apart from the tables that the lines before it leave, or the first test that it
+/// fails: of its bytes, its words, its numbers, its digits, its packet, its queue size and its count of digits.
+pub fn read_line(alloc: Global, line: &[u8]) -> Result<Line, LineFault>
+    ensures found { IfOk result (λ l. SaysLine line.now (view l)) }
+    // What a line says is read, unless memory runs out.
+    ensures only { (m : Meaning) → SaysLine line.now m → Gives view result (Ok m) }
+    ensures fits { IfOk result (λ l. Fits (view l)) }
+    ensures fault { IfErr result (λ e. (e ≡ LineFault.Memory) ⊎ (line_fault line.now ≡ Some e)) }
+{
+    line_said(alloc, line)
+}
+
+/// What is wrong with a line behind the `end` line, whatever it says.
+pub fn line_behind_end(line: &[u8]) -> LineFault
+    ensures { result ≡ (if list_any is_outside line.now then LineFault.Byte else LineFault.Word) }
+{
+    match check_bytes(line) {
+        Err(fault) => fault,
+        Ok(()) => LineFault::Word,
+    }
+}

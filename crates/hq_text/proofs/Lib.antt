@@ -1,0 +1,4 @@
+pub mod Lines
+pub mod NumberLaws
+pub mod Spelled
+pub mod Taken

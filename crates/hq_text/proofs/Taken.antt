@@ -1,0 +1,65 @@
+-- Pieces that were taken from a reader, joined.
+use Rattle.std.proofs.Common.{◌≡◌, ℕ, ◌+◌, ◌<◌, ◌≤◌, List, [], ◌++◌, take, Option, Some, None, refl, sym, ap, subst, ◌∙◌, append_assoc, arith}
+use Rattle.std.specs.Prelude.{Result, Ok, Err, IfOk, IfSome}
+use Rattle.std.specs.Io.KnownBytes.{Consumes, IsAtEnd}
+use Rattle.std.proofs.lemmas.List.{append-nil}
+use Rattle.hq_text.specs.Turns.{Turn, Gives, start, more, Ends, Passes, ReadTurn}
+
+pub starts : (S : Type 0) (T : Turn S) (s : S) (text : List ℕ) → text ≡ [] → Gives S T s 0 text s
+starts S T s text e = subst (λ (t : List ℕ). Gives S T s 0 t s) (sym e) (start s)
+
+-- one turn more, which wasn't the end
+pub gives_more : (S : Type 0) (T : Turn S) (s mid new : S) (n count : ℕ) (text buffer all : List ℕ) → Gives S T s n text mid → 0 < count → T mid (Some count) buffer new → all ≡ text ++ take count buffer → Gives S T s (n + 1) all new
+gives_more S T s mid new n count text buffer all given some turn e = subst (λ (t : List ℕ). Gives S T s (n + 1) t new) (sym e) (more s mid new n count text buffer given some turn)
+
+pub ends : (S : Type 0) (T : Turn S) (turns : ℕ) (s mid new : S) (n count : ℕ) (text buffer : List ℕ) → Gives S T s n text mid → n < turns → T mid (Some count) buffer new → count ≡ 0 → Ends S T turns s text new
+ends S T turns s mid new n count text buffer given within turn e =
+    record { count = n; last = mid; buffer = buffer; given = given; within = within; ended = subst (λ (k : ℕ). T mid (Some k) buffer new) e turn }
+
+pub passes : (S : Type 0) (T : Turn S) (turns : ℕ) (s new : S) (n : ℕ) (text : List ℕ) → Gives S T s n text new → turns ≤ n → n ≤ turns → Passes S T turns s new
+passes S T turns s new n text given low high =
+    let same : n ≡ turns = omega arith in
+    record { text = text; given = subst (λ (k : ℕ). Gives S T s k text new) same given }
+
+consumes_nothing : (old : Option (List ℕ)) → Consumes old old []
+consumes_nothing None = tt
+consumes_nothing (Some xs) = refl
+
+consumes_more : (old mid new : Option (List ℕ)) (a b text : List ℕ) → Consumes old mid a → Consumes mid new b → text ≡ a ++ b → Consumes old new text
+consumes_more None mid new a b text p q e = tt
+consumes_more (Some xs) None new a b text p q e = absurd p
+consumes_more (Some xs) (Some ys) None a b text p q e = absurd q
+consumes_more (Some xs) (Some ys) (Some zs) a b text p q e = p ∙ ap (λ r. a ++ r) q ∙ sym (append_assoc a b zs) ∙ ap (λ r. r ++ zs) (sym e)
+
+given_consumes : {S : Type 0} (left : S → Option (List ℕ)) (s new : S) (n : ℕ) (text : List ℕ) → Gives S (ReadTurn left) s n text new → Consumes (left s) (left new) text
+given_consumes left s new n text (start r) = consumes_nothing (left r)
+given_consumes left s new n text (more r mid last k count before buffer given some turn) =
+    consumes_more (left r) (left mid) (left last) before (take count buffer) (before ++ take count buffer) (given_consumes left r mid k before given) turn.0 refl
+
+ends_consumes : {S : Type 0} (left : S → Option (List ℕ)) (turns : ℕ) (s new : S) (text : List ℕ) → Ends S (ReadTurn left) turns s text new → Consumes (left s) (left new) text
+ends_consumes left turns s new text e =
+    consumes_more (left s) (left e.last) (left new) text [] text (given_consumes left s e.last e.count text e.given) e.ended.0 (sym (append-nil text))
+
+ends_at_end : {S : Type 0} (left : S → Option (List ℕ)) (turns : ℕ) (s new : S) (text : List ℕ) → Ends S (ReadTurn left) turns s text new → IsAtEnd (left new)
+ends_at_end left turns s new text e = e.ended.1 refl
+
+if_ok : {A E : Type 0} (r : Result A E) (P Q : A → Type 0) → ((a : A) → P a → Q a) → IfOk r P → IfOk r Q
+if_ok (Ok a) P Q f h = f a h
+if_ok (Err e) P Q f h = tt
+
+pub taken_consumes : {A E S : Type 0} (r : Result A E) (v : A → List ℕ) (left : S → Option (List ℕ)) (turns : ℕ) (s new : S) → IfOk r (λ a. Ends S (ReadTurn left) turns s (v a) new) → IfOk r (λ a. Consumes (left s) (left new) (v a))
+taken_consumes r v left turns s new = if_ok r _ _ (λ a. ends_consumes left turns s new (v a))
+
+pub taken_at_end : {A E S : Type 0} (r : Result A E) (v : A → List ℕ) (left : S → Option (List ℕ)) (turns : ℕ) (s new : S) → IfOk r (λ a. Ends S (ReadTurn left) turns s (v a) new) → IfOk r (λ a. IsAtEnd (left new))
+taken_at_end r v left turns s new = if_ok r _ _ (λ a. ends_at_end left turns s new (v a))
+
+-- what holds of the text that was taken holds of the known bytes
+pub known_text : (P : List ℕ → Type 0) (old new : Option (List ℕ)) (text : List ℕ) → Consumes old new text → IsAtEnd new → P text → IfSome old P
+known_text P None new text p q h = tt
+known_text P (Some xs) None text p q h = absurd p
+known_text P (Some xs) (Some ys) text p q h = subst P (sym (p ∙ ap (λ r. text ++ r) q ∙ append-nil text)) h
+
+-- what holds of all bytes holds of the known ones
+pub any_known : (P : List ℕ → Type 0) (old : Option (List ℕ)) → ((xs : List ℕ) → P xs) → IfSome old P
+any_known P None h = tt
+any_known P (Some xs) h = h xs

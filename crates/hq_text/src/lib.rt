@@ -1,0 +1,15 @@
+//! What every text of the project is made of: lines, words, numbers and names, and how a whole text is taken from a reader.
+#![tactic(auto)]
+
+mod name;
+mod number;
+mod take;
+mod words;
+
+pub use name::Name;
+pub use number::number_of;
+pub use take::{TextFault, take_text};
+pub use words::{lines_of, words_of};
+
+#[cfg(test)]
+mod tests;

@@ -1,0 +1,96 @@
+use super::*;
+use std::io;
+use std::io::Read;
+use std::test::*;
+
+/// Gives one byte a turn, so many of them, and then its end or an error.
+#[derive(Drop)]
+struct OneByOne {
+    left: usize,
+    fails: bool,
+}
+
+impl Read for OneByOne {
+    fn read(&mut self, buffer: &mut [u8]) -> io::Result<usize> {
+        if self.left == 0 || buffer.is_empty() {
+            if self.fails {
+                return Err(io::ErrorKind::Interrupted.into());
+            }
+            return Ok(0);
+        }
+        self.left -= 1;
+        buffer[0] = b'a';
+        Ok(1)
+    }
+}
+
+#[test]
+fn takes(rt: HostRuntime) -> Result<(), Fail> {
+    let mut slice: &[u8] = b"hsaq 1\nend\n";
+    let text = take_text(rt.alloc(), &mut slice)?;
+    assert_eq!(rt; text.as_slice(), b"hsaq 1\nend\n".as_slice());
+    let mut reader = OneByOne {
+        left: 1_999_999,
+        fails: false,
+    };
+    assert_eq!(rt; take_text(rt.alloc(), &mut reader)?.len(), 1_999_999);
+    for (left, fails) in [(2_000_000, false), (3, true), (0, true)] {
+        let mut reader = OneByOne { left, fails };
+        let taken = take_text(rt.alloc(), &mut reader);
+        assert_eq!(rt; taken.err(), Some(TextFault::Read));
+    }
+    Ok(())
+}
+
+#[test]
+fn cuts(rt: HostRuntime) -> Result<(), Fail> {
+    assert_eq!(rt; lines_of(rt.alloc(), b"")?.len(), 0);
+    assert_eq!(rt; lines_of(rt.alloc(), b"a\nb")?.len(), 2);
+    let lines = lines_of(rt.alloc(), b"a\n\nb c\n")?;
+    assert_eq!(rt; lines.as_slice(), [b"a".as_slice(), b"", b"b c"].as_slice());
+    assert_eq!(rt; lines_of(rt.alloc(), b"\n\n")?.len(), 2);
+    let words = words_of(rt.alloc(), b"a  b ")?;
+    assert_eq!(rt;
+        words.as_slice(),
+        [b"a".as_slice(), b"", b"b", b""].as_slice()
+    );
+    assert_eq!(rt; words_of(rt.alloc(), b"")?.len(), 1);
+    Ok(())
+}
+
+#[test]
+fn numbers(rt: HostRuntime) {
+    for (word, number) in [
+        (b"0".as_slice(), Some(0)),
+        (b"18446744073709551615", Some(u64::MAX)),
+        (b"18446744073709551616", None),
+        (b"00", None),
+        (b"01", None),
+        (b"", None),
+        (b"1a", None),
+        (b"-1", None),
+        (b"+1", None),
+    ] {
+        assert_eq!(rt; number_of(word), number);
+    }
+}
+
+#[test]
+fn names(rt: HostRuntime) {
+    for (word, is) in [
+        (b"a".as_slice(), true),
+        (b"z_09", true),
+        (b"abcdefghijklmnop", true),
+        (b"abcdefghijklmnopq", false),
+        (b"", false),
+        (b"_a", false),
+        (b"9", false),
+        (b"aB", false),
+        (b"a-", false),
+    ] {
+        assert_eq!(rt; Name::new(word).is_some(), is);
+    }
+    let name = Name::new(b"q_1");
+    assert_eq!(rt; name.map(|n| n.as_str() == "q_1"), Some(true));
+    assert!(rt; name == Name::new(b"q_1") && name != Name::new(b"q_") && name.is_some());
+}
