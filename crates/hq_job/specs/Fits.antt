@@ -1,0 +1,47 @@
+-- What the tables keep while lines are added.
+use Rattle.std.specs.Prelude.{◌≡◌, ◌≢◌, ℕ, ◌<◌, ◌≤◌, length, All, AllPairs, Some, IsTrue, IfSome, slice_get, count_by}
+use Rattle.hq_footprint.specs.Bytes.{read_entries, written_bytes}
+use Rattle.hq_footprint.specs.Tasks.{Suits}
+use Rattle.hq_signals.specs.Table.{OpenSignal, handles}
+use Rattle.hq_model.specs.Job.{is_signal}
+use Rattle.hq_model.specs.Job.Kind.{BarrierOr}
+use Rattle.hq_job.specs.declared.rows.Placed.{Placed}
+use Rattle.hq_job.specs.Plan.{kind_of}
+use Rattle.hq_job.specs.Tables.{Tables, total_of}
+
+-- the limits
+pub record Within (ts : Tables) : Type 0 where
+  pub agents : length ts.agents ≤ 16
+  pub buffers : length ts.buffers ≤ 64
+  pub bytes : total_of ts.buffers ≤ 65536
+  pub arguments : length ts.arguments ≤ 256
+  pub signals : length ts.signals ≤ 1024
+  pub kernels : length ts.kernels ≤ 64
+  pub queues : length ts.queues ≤ 32
+  pub packets : length ts.placed ≤ 1024
+
+-- a packet's queue, bytes and signals are there, and a barrier-OR has a dependency
+pub record PacketFits (ts : Tables) (p : Placed) : Type 0 where
+  pub queue : p.queue < length ts.queues
+  pub reads : All (λ b. b < total_of ts.buffers) (read_entries p.bytes)
+  pub writes : All (λ b. b < total_of ts.buffers) (written_bytes p.bytes)
+  -- as many bytes are read and written as the task asks for
+  pub suits : Suits p.work.task (length (read_entries p.bytes)) (length (written_bytes p.bytes))
+  pub slots : All (λ slot. IfSome slot (λ k. k < length ts.signals)) p.slots
+  pub done : IfSome p.done (λ k. k < length ts.signals)
+  pub not_null : kind_of p.packet ≡ BarrierOr → (slot : ℕ) × (k : ℕ) × (slice_get p.slots slot ≡ Some (Some k))
+
+-- signal k has the decrementers that stand in the table, and is waited on where a packet's slot names it
+pub record SignalFits (ts : Tables) (k : ℕ) (s : OpenSignal) : Type 0 where
+  pub decrementers : s.decrementers ≡ count_by (λ p. is_signal k p.done) ts.placed
+  pub waited : All (λ p. (slot : ℕ) → slice_get p.slots slot ≡ Some (Some k) → IsTrue s.waited) ts.placed
+
+pub record TablesFit (ts : Tables) : Type 0 where
+  pub within : Within ts
+  pub current : IfSome ts.current (λ q. q < length ts.queues)
+  pub agents : All (λ q. q.agent < length ts.agents) ts.queues
+  pub sizes : All (λ q. 0 < q.size) ts.queues
+  pub handles_apart : AllPairs (λ h g. h ≢ g) (handles ts.signals)
+  pub handles_some : All (λ s. 0 < s.handle) ts.signals
+  pub packets : All (PacketFits ts) ts.placed
+  pub signals : (k : ℕ) (s : OpenSignal) → slice_get ts.signals k ≡ Some s → SignalFits ts k s

@@ -1,0 +1,13 @@
+-- What is true of a `Job`'s fields beside what its value shows.
+use Rattle.std.specs.Prelude.{◌≡◌, map, length}
+use Rattle.hq_model.specs.Journal.{numbers}
+use Rattle.hq_job.specs.declared.job.Job.TheInside.{Inside}
+use Rattle.hq_job.specs.Numbering.{by_number}
+use Rattle.hq_job.specs.View.{value_of, IsRead}
+
+pub record FieldsFit (j : Inside) : Type 0 where
+  pub is_read : IsRead (value_of j)
+  -- the packets stand by number
+  pub by_number_is : j.packets.items ≡ by_number (length j.tables.queues.items) j.tables.placed.items
+  -- as many packets come before a queue's first as lower queues have
+  pub firsts_are : j.firsts.items ≡ map (λ q. length (by_number q j.tables.placed.items)) (numbers (length j.tables.queues.items))

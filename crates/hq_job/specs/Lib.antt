@@ -1,0 +1,15 @@
+pub mod Value
+pub mod Plan
+pub mod View
+pub mod Numbering
+pub mod LineFaults
+pub mod Tables
+pub mod PacketTests
+pub mod Blocks
+pub mod Adds
+pub mod TablesView
+pub mod JobText
+pub mod Fits
+pub mod Access
+pub mod JobFields
+pub mod Conflicts

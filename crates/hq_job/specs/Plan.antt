@@ -1,0 +1,46 @@
+-- The job as numbers: what a job means to everything above the texts.
+use Rattle.std.specs.Prelude.{map, length}
+use Rattle.std.specs.List.{flat_map}
+use Rattle.hq_packet.specs.declared.packet.Packet.{Packet}
+use Rattle.hq_packet.specs.declared.packet.Packet.TheVariants as packet
+use Rattle.hq_packet.specs.Parts.{head_of}
+use Rattle.hq_footprint.specs.Bytes.{read_entries, written_bytes}
+use Rattle.hq_job.specs.declared.rows.Placed.{Placed}
+use Rattle.hq_job.specs.Value.{JobValue}
+use Rattle.hq_signals.specs.Table.{starts}
+use Rattle.hq_model.specs.Job as model
+
+-- a kernel or agent dispatch is work
+abbrev pub kind_of : Packet → model.Kind
+kind_of (packet.Kernel k) = model.Kind.Work
+kind_of (packet.Agent a) = model.Kind.Work
+kind_of (packet.And b) = model.Kind.BarrierAnd
+kind_of (packet.Or b) = model.Kind.BarrierOr
+
+abbrev pub planned : Placed → model.Packet
+planned p =
+    record {
+      queue = p.queue;
+      kind = kind_of p.packet;
+      bit = (head_of p.packet).barrier;
+      acquire = (head_of p.packet).acquire;
+      release = (head_of p.packet).release;
+      reads = read_entries p.bytes;
+      writes = written_bytes p.bytes;
+      task = p.work.task;
+      deps = p.slots;
+      done = p.done;
+    }
+
+abbrev pub plan : JobValue → model.Job
+plan job =
+    record {
+      agents = length job.agents;
+      memory = flat_map (λ b. b.bytes) job.buffers;
+      starts = starts job.signals;
+      queues = map (λ q. q.agent) job.queues;
+      sizes = map (λ q. q.size) job.queues;
+      packets = map planned job.packets;
+      rings = job.rings;
+      submissions = job.submissions;
+    }

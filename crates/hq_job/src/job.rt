@@ -1,0 +1,185 @@
+//! Jobs.
+
+ghost use Rattle.std.specs.Prelude.{◌≡◌, ◌<◌, ◌↔◌, ℕ, Some, IsNone, All, IfOk, length};
+ghost use Rattle.hq_job.specs.Access.{StandsAt};
+ghost use Rattle.hq_job.specs.Blocks.{blocks_of};
+ghost use Rattle.hq_job.specs.Plan.{plan, planned};
+ghost use Rattle.hq_job.specs.Tables.{byte_number};
+ghost use Rattle.hq_model.specs.Job.{packet};
+ghost use Rattle.hq_model.specs.Theorems.{Valid};
+
+use crate::addresses::byte_number;
+use crate::memory::memory_of;
+use crate::numbering::{by_number, submissions};
+use crate::places::number_at;
+use crate::rows::{Block, Kernel, Placed, Queue};
+use crate::tables::Tables;
+use hq_signals::SignalTable;
+use hq_text::Name;
+use std::alloc::{AllocError, Global};
+use std::marker::Model;
+
+/// A job that was read. Contracts see it as the value that its text describes; everything above the texts speaks of the
+/// plan of that value, the job as numbers.
+#[derive(Drop)]
+pub struct Job {
+    tables: Tables,
+    packets: Vec<Placed>,
+    firsts: Vec<usize>,
+    submissions: Vec<u16>,
+}
+
+impl Model for Job {
+    ghost use Rattle.hq_job.specs.Value.{JobValue};
+    ghost use Rattle.hq_job.specs.View.{value_of};
+    ghost use Rattle.hq_job.specs.JobFields.{FieldsFit};
+
+    ghost Value = { JobValue };
+
+    ghost view = { value_of };
+
+    ghost invariant = { FieldsFit };
+}
+
+impl Job {
+    ghost use Rattle.hq_job.specs.View.{WithinLimits, PacketIsRead};
+    ghost use Rattle.hq_job.specs.Fits.{TablesFit};
+    ghost use Rattle.hq_job.specs.TablesView.{tables_of};
+    ghost use Rattle.hq_job.specs.JobText.{value_of as job_of};
+    ghost use Rattle.hq_signals.specs.Table.{IsUndershot, NeverReachesZero};
+
+    /// The job of tables that are complete and have no signal against them.
+    pub(crate) fn of_tables(alloc: Global, tables: Tables) -> Result<Job, AllocError>
+        requires fit { TablesFit (tables_of tables) }
+        requires enough { All (λ s. ¬ IsUndershot s) tables.signals }
+        requires exact { All (λ s. ¬ NeverReachesZero s) tables.signals }
+        ensures { IfOk result (λ job. job ≡ job_of (tables_of tables)) }
+    {
+        let (packets, firsts) = by_number(alloc, tables.queues.len(), &tables.placed)?;
+        let next = firsts.clone()?;
+        let submissions = submissions(alloc, tables.queues.len(), next, &tables.placed)?;
+        Ok(Job {
+            tables,
+            packets,
+            firsts,
+            submissions,
+        })
+    }
+
+    /// The plan is one that all laws of the model speak of.
+    pub fn valid(&self)
+        ensures valid { Valid (plan self.now) }
+        ensures limits { WithinLimits self.now }
+        ensures packets { All (PacketIsRead self.now) self.now.packets }
+    {
+        let _tables = &self.tables;
+    }
+
+    /// How many agents there are.
+    pub fn agents(&self) -> usize
+        ensures { result ≡ length self.now.agents }
+    {
+        self.tables.agents.len()
+    }
+
+    /// The names of the agents, in file order.
+    pub fn agent_names(&self) -> &[Name]
+        ensures { result.now ≡ self.now.agents }
+    {
+        self.tables.agents.as_slice()
+    }
+
+    /// The buffers as the job starts, in file order.
+    pub fn buffers(&self) -> &[Block]
+        ensures { blocks_of result.now ≡ self.now.buffers }
+    {
+        &self.tables.buffers
+    }
+
+    /// The kernarg blocks, in file order.
+    pub fn arguments(&self) -> &[Block]
+        ensures { blocks_of result.now ≡ self.now.arguments }
+    {
+        &self.tables.arguments
+    }
+
+    /// The kernels, in file order.
+    pub fn kernels(&self) -> &[Kernel]
+        ensures { result.now ≡ self.now.kernels }
+    {
+        &self.tables.kernels
+    }
+
+    /// The queues, in file order.
+    pub fn queues(&self) -> &[Queue]
+        ensures { result.now ≡ self.now.queues }
+    {
+        &self.tables.queues
+    }
+
+    /// The signals, in file order.
+    pub fn signals(&self) -> &SignalTable
+        ensures { result.now ≡ self.now.signals }
+    {
+        &self.tables.signals
+    }
+
+    /// The names of the signals, in file order.
+    pub fn signal_names(&self) -> &[Name]
+        ensures { result.now ≡ self.now.signal_names }
+    {
+        self.tables.signal_names.as_slice()
+    }
+
+    /// The packets, by number.
+    pub fn packets(&self) -> &[Placed]
+        ensures { result.now ≡ self.now.packets }
+    {
+        &self.packets
+    }
+
+    /// The packet of a number.
+    pub fn packet(&self, number: usize) -> &Placed
+        requires { number < length self.now.packets }
+        ensures { planned result.now ≡ packet (plan self.now) number }
+    {
+        &self.packets[number]
+    }
+
+    /// The numbers of the packets in the order of their submission, which is the order of their lines.
+    pub fn submissions(&self) -> &[u16]
+        ensures { result.now ≡ self.now.submissions }
+    {
+        &self.submissions
+    }
+
+    /// Whether queues are rings, which may have more packets than slots.
+    pub fn rings(&self) -> bool
+        ensures { result ≡ self.now.rings }
+    {
+        self.tables.rings
+    }
+
+    /// The number of the byte at an address, if a buffer has it.
+    pub fn byte_of(&self, address: u64) -> Option<u32>
+        ensures { result ≡ byte_number self.now.buffers address }
+    {
+        byte_number(&self.tables.buffers, address)
+    }
+
+    /// The number of the packet at a place of a queue, from 0, if the queue has so many.
+    pub fn number(&self, queue: usize, place: usize) -> Option<u16>
+        ensures found { (p : ℕ) → (result ≡ Some p) ↔ StandsAt (plan self.now) queue place p }
+        ensures none { IsNone result ↔ ((p : ℕ) → ¬ StandsAt (plan self.now) queue place p) }
+    {
+        let number = number_at(&self.firsts, &self.packets, queue, place)?;
+        Some(number as u16)
+    }
+
+    /// The bytes of memory as the job starts, by number.
+    pub fn memory(&self, alloc: Global) -> Result<Vec<u8>, AllocError>
+        ensures { IfOk result (λ bytes. bytes.items ≡ (plan self.now).memory) }
+    {
+        memory_of(alloc, &self.tables.buffers)
+    }
+}

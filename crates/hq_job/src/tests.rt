@@ -1,0 +1,57 @@
+use super::*;
+use std::io;
+use std::io::Read;
+use std::test::*;
+
+#[test]
+fn a_job(rt: HostRuntime) -> Result<(), Fail> {
+    let text = b"hsaq 2\nagent a\nbuffer b 16 3 0aFf10\nqueue q a 4\nend\n";
+    let job = read_text(rt.alloc(), text)?;
+    job.valid();
+    assert!(rt; job.rings());
+    assert_eq!(rt; job.agents(), 1);
+    assert_eq!(rt; job.byte_of(18), Some(2));
+    assert_eq!(rt; job.byte_of(19), None);
+    assert_eq!(rt; job.number(0, 0), None);
+    assert_eq!(rt;
+        job.memory(rt.alloc())?.as_slice(),
+        [10, 255, 16].as_slice()
+    );
+    Ok(())
+}
+
+#[test]
+fn first_faults(rt: HostRuntime) {
+    for (text, line, reason) in [
+        (b"".as_slice(), 1, Reason::NoEnd),
+        (b"hsaq 1\nend\n\n", 3, Reason::Word),
+        (b"hsaq 1\nagent  a\nend", 2, Reason::Word),
+        (b"hsaq 1\nqueue q a 1\nend", 2, Reason::Unknown),
+        (b"hsaq 1\nto q\nend", 2, Reason::Word),
+    ] {
+        let fault = read_text(rt.alloc(), text).err();
+        assert_eq!(rt; fault, Some(JobFault { line, reason }));
+    }
+}
+
+/// Fails at once.
+#[derive(Drop)]
+struct Failing;
+
+impl Read for Failing {
+    fn read(&mut self, _buffer: &mut [u8]) -> io::Result<usize> {
+        Err(io::ErrorKind::Interrupted.into())
+    }
+}
+
+#[test]
+fn a_failing_reader(rt: HostRuntime) {
+    let fault = read(rt.alloc(), &mut Failing).err();
+    assert_eq!(rt;
+        fault,
+        Some(JobFault {
+            line: 0,
+            reason: Reason::Read
+        })
+    );
+}

@@ -1,0 +1,184 @@
+-- Round after round, until one adds nothing: then all of the order is there.
+use Rattle.std.proofs.Common.{◌≡◌, ◌↔◌, ℕ, zero, suc, ◌+◌, ◌-◌, ◌<◌, inl, inr, List, [], ◌∷◌, ◌++◌, length, refl, sym, ◌∙◌, ap, subst, arith, IsTrue, slice_index_or, map, length-append}
+use Rattle.std.specs.Global.{Vec}
+use Rattle.std.proofs.lemmas.Bool.{cases_lt}
+use Rattle.hq_model.specs.Job.{Job, Decrements}
+use Rattle.hq_model.specs.Order.{Before, Branch}
+use Rattle.hq_model.specs.Order.Before.{by_bit_of, by_bit_ahead, by_queue, by_and, by_or, through}
+use Rattle.hq_model.specs.Order.Branch.{itself, after}
+use Rattle.hq_order.specs.Bits.{has}
+use Rattle.hq_order.specs.Matrix.{row, Marks, Grown, IsSquare, AreRounds, IsClosed, matrix, last, IsMarkedNowhere, IsMarkedFirst}
+use Rattle.std.specs.Prelude.{Option, Some, None, MatchOption}
+use Rattle.hq_order.specs.Rounds.{Direct, Reaches, Next, Within, IsFirstWithin}
+use Rattle.hq_order.specs.Rounds.Precedes.{by_bit_of as bit_of, by_bit_ahead as bit_ahead, by_queue as queued}
+use Rattle.hq_order.specs.Rounds.Awaits.{by_and as waits_one, by_or as waits_each}
+use Rattle.hq_order.specs.Rounds.Next.{by_known, by_either, through as joining}
+use Rattle.hq_order.proofs.Rows.{marked_below}
+
+-- ---- lists of rows
+
+pub below_pushed : {X Y : Type 0} (f : X → List Y) (xs : List X) (x : X) (k : ℕ) → k < length xs → slice_index_or (map f (xs ++ x ∷ [])) k [] ≡ slice_index_or (map f xs) k []
+below_pushed f [] x k l = absurd (omega arith)
+below_pushed f (y ∷ ys) x zero l = refl
+below_pushed f (y ∷ ys) x (suc k) l = below_pushed f ys x k (omega arith)
+
+pub at_pushed : {X Y : Type 0} (f : X → List Y) (xs : List X) (x : X) → slice_index_or (map f (xs ++ x ∷ [])) (length xs) [] ≡ f x
+at_pushed f [] x = refl
+at_pushed f (y ∷ ys) x = at_pushed f ys x
+
+-- ---- one round from another
+
+known_more : (job : Job) (R S : ℕ → ℕ → Type 0) → ((p r : ℕ) → R p r → S p r) → (p s : ℕ) → Reaches job R p s → Reaches job S p s
+known_more job R S h p s x = record { d = x.d; decrements = x.decrements; upto = elim x.upto [ inl e ↦ inl e | inr k ↦ inr (h p x.d k) ] }
+
+pub next_more : (job : Job) (R S : ℕ → ℕ → Type 0) → ((p r : ℕ) → R p r → S p r) → (p r : ℕ) → Next job R p r → Next job S p r
+next_more job R S h p r (by_known k) = by_known (h p r k)
+next_more job R S h p r (by_either e) = by_either (record { kind = e.kind; some = e.some; each = λ slot s d. known_more job R S h p s (e.each slot s d) })
+next_more job R S h p r (joining {m} k l) = joining {m = m} (h p m k) (h m r l)
+
+pub next_within : (job : Job) (rows : List (Vec ℕ)) (p r : ℕ) → length rows ≡ length job.packets → Next job (Marks rows) p r → r < length rows
+next_within job rows p r e (by_known k) = marked_below rows p r k
+next_within job rows p r e (by_either b) = let l : r < length job.packets = b.some.2.is_packet in omega arith
+next_within job rows p r e (joining {m} k l) = marked_below rows m r l
+
+-- ---- rounds
+
+pub first_round : (job : Job) (x : Vec (Vec ℕ)) → IsSquare (length job.packets) x.items → ((p r : ℕ) → Marks x.items p r ↔ Direct job p r) → AreRounds job (x ∷ [])
+first_round job x sq h = record {
+  some = omega arith;
+  square = λ k l. square k l;
+  exact = λ k p r l. exact k p r l;
+}
+  where
+    square : (k : ℕ) → k < 1 → IsSquare (length job.packets) (matrix (x ∷ []) k)
+    square zero l = sq
+    square (suc k) l = absurd (omega arith)
+
+    exact : (k p r : ℕ) → k < 1 → Marks (matrix (x ∷ []) k) p r ↔ Within job k p r
+    exact zero p r l = h p r
+    exact (suc k) p r l = absurd (omega arith)
+
+-- the last of some rounds
+pub record IsLast (rounds : List (Vec (Vec ℕ))) (k : ℕ) : Type 0 where
+  pub is_last : length rounds ≡ suc k
+
+pub more_rounds : (job : Job) (rounds : List (Vec (Vec ℕ))) (x : Vec (Vec ℕ)) → AreRounds job rounds → IsSquare (length job.packets) x.items → ((p r : ℕ) → Marks x.items p r ↔ Next job (Marks (last rounds)) p r) → AreRounds job (rounds ++ x ∷ [])
+more_rounds job rounds x a sq h =
+    let more : length (rounds ++ x ∷ []) ≡ length rounds + 1 = length-append rounds (x ∷ []) in
+    record {
+      some = omega arith;
+      square = λ k l. elim (cases_lt k (length rounds)) [
+        | inl low ↦ subst (IsSquare (length job.packets)) (sym (below_pushed (λ v. v.items) rounds x k low)) (a.square k low)
+        | inr high ↦ let here : length rounds ≡ k = omega arith in subst (λ j. IsSquare (length job.packets) (matrix (rounds ++ x ∷ []) j)) here (subst (IsSquare (length job.packets)) (sym (at_pushed (λ v. v.items) rounds x)) sq)
+      ];
+      exact = λ k p r l. elim (cases_lt k (length rounds)) [
+        | inl low ↦ subst (λ rows. Marks rows p r ↔ Within job k p r) (sym (below_pushed (λ v. v.items) rounds x k low)) (a.exact k p r low)
+        | inr high ↦
+            let here : length rounds ≡ k = omega arith in
+            let before = length rounds - 1 in
+            let some = a.some in
+            let low : before < length rounds = omega arith in
+            let step : suc before ≡ length rounds = omega arith in
+            let exact : Marks x.items p r ↔ Within job (length rounds) p r = subst (λ j. Marks x.items p r ↔ Within job j p r) step (
+              λ m. next_more job (Marks (last rounds)) (Within job before) (λ q s. (a.exact before q s low).0) p r ((h p r).0 m),
+              λ w. (h p r).1 (next_more job (Within job before) (Marks (last rounds)) (λ q s. (a.exact before q s low).1) p r w),
+            ) in
+            subst (λ j. Marks (matrix (rounds ++ x ∷ []) j) p r ↔ Within job j p r) here (subst (λ rows. Marks rows p r ↔ Within job (length rounds) p r) (sym (at_pushed (λ v. v.items) rounds x)) exact)
+      ];
+    }
+
+pub last_pushed : (rounds : List (Vec (Vec ℕ))) (x : Vec (Vec ℕ)) → last (rounds ++ x ∷ []) ≡ x.items
+last_pushed rounds x =
+    let more : length (rounds ++ x ∷ []) ≡ length rounds + 1 = length-append rounds (x ∷ []) in
+    let e : length (rounds ++ x ∷ []) - 1 ≡ length rounds = omega arith in
+    ap (matrix (rounds ++ x ∷ [])) e ∙ at_pushed (λ v. v.items) rounds x
+
+pub closed_same : (job : Job) (rounds : List (Vec (Vec ℕ))) (new : List (Vec ℕ)) → ((p r : ℕ) → Marks new p r ↔ Next job (Marks (last rounds)) p r) → ((r : ℕ) → row new r ≡ row (last rounds) r) → IsClosed job rounds
+closed_same job rounds new h same p r n = subst (λ words. IsTrue (has words p)) (same r) ((h p r).1 n)
+
+-- ---- what is within a round is before
+
+direct_before : (job : Job) (p r : ℕ) → Direct job p r → Before job p r
+direct_before job p r (inl (bit_of e b)) = by_bit_of e b
+direct_before job p r (inl (bit_ahead {j} e b f)) = by_bit_ahead {j = j} e b f
+direct_before job p r (inl (queued e b)) = by_queue e b
+direct_before job p r (inr (waits_one {slot} {s} k d c)) = by_and {slot = slot} {s = s} k d c
+direct_before job p r (inr (waits_each {slot} {s} k d c)) = by_or {slot = slot} {s = s} k d (λ slot s d. itself (c slot s d))
+
+next_before : (job : Job) (p r : ℕ) → Next job (Before job) p r → Before job p r
+next_before job p r (by_known b) = b
+next_before job p r (by_either e) =
+    by_or {slot = e.some.0} {s = e.some.1} e.kind e.some.2
+    (λ slot s d. let x = e.each slot s d in elim x.upto [ inl same ↦ itself (subst (λ q. Decrements job q s) (sym same) x.decrements) | inr b ↦ after {d = x.d} x.decrements b ])
+next_before job p r (joining {m} b c) = through {m = m} b c
+
+pub within_before : (job : Job) (k p r : ℕ) → Within job k p r → Before job p r
+within_before job zero p r w = direct_before job p r w
+within_before job (suc k) p r w = next_before job p r (next_more job (Within job k) (Before job) (within_before job k) p r w)
+
+-- ---- and what is before is within the last
+
+pub direct_within : (job : Job) (k p r : ℕ) → Direct job p r → Within job k p r
+direct_within job zero p r d = d
+direct_within job (suc k) p r d = by_known (direct_within job k p r d)
+
+pub record Closed (job : Job) (known : ℕ → ℕ → Type 0) : Type 0 where
+  pub direct : (p r : ℕ) → Direct job p r → known p r
+  pub next : (p r : ℕ) → Next job known p r → known p r
+
+mutual
+  before_known : (job : Job) (known : ℕ → ℕ → Type 0) → Closed job known → {p r : ℕ} → Before job p r → known p r
+  before_known job known c (by_bit_of {p = p} {r = r} e b) = c.direct p r (inl (bit_of e b))
+  before_known job known c (by_bit_ahead {p = p} {j = j} {r = r} e b f) = c.direct p r (inl (bit_ahead {j = j} e b f))
+  before_known job known c (by_queue {p = p} {r = r} e b) = c.direct p r (inl (queued e b))
+  before_known job known c (by_and {p = p} {r = r} {slot = slot} {s = s} k d x) = c.direct p r (inr (waits_one {slot = slot} {s = s} k d x))
+  before_known job known c (by_or {p = p} {r = r} {slot = slot} {s = s} k d f) = c.next p r (by_either (record { kind = k; some = (slot, s, d); each = λ slot s d. branch_known job known c (f slot s d) }))
+  before_known job known c (through {p = p} {m = m} {r = r} b d) = c.next p r (joining {m = m} (before_known job known c b) (before_known job known c d))
+
+  branch_known : (job : Job) (known : ℕ → ℕ → Type 0) → Closed job known → {p s : ℕ} → Branch job p s → Reaches job known p s
+  branch_known job known c (itself {p = p} d) = record { d = p; decrements = d; upto = inl refl }
+  branch_known job known c (after {p = p} {d = d} x b) = record { d = d; decrements = x; upto = inr (before_known job known c b) }
+
+-- so the last round is the order
+pub last_exact : (job : Job) (rounds : List (Vec (Vec ℕ))) → AreRounds job rounds → IsClosed job rounds → (p r : ℕ) → Marks (last rounds) p r ↔ Before job p r
+last_exact job rounds a c p r =
+    let k = length rounds - 1 in
+    let some = a.some in
+    let low : k < length rounds = omega arith in (
+      λ m. within_before job k p r ((a.exact k p r low).0 m),
+      λ b. before_known job (Marks (last rounds)) (record { direct = λ q s d. (a.exact k q s low).1 (direct_within job k q s d); next = c }) b,
+    )
+
+-- what holds of each row below, and of the one that is pushed
+pub pushed : (P : ℕ → List ℕ → Type 0) (rows : List (Vec ℕ)) (x : Vec ℕ) (new : List (Vec ℕ)) (n : ℕ) → length rows ≡ n → new ≡ rows ++ x ∷ [] → ((r : ℕ) → r < n → P r (row rows r)) → P n x.items → (r : ℕ) → r < n + 1 → P r (row new r)
+pushed P rows x new n len e h here r l = subst (λ ys. P r (row ys r)) (sym e) (elim (cases_lt r n) [
+  | inl low ↦ subst (P r) (sym (below_pushed (λ v. v.items) rows x r (omega arith))) (h r low)
+  | inr high ↦
+      let is : n ≡ r = omega arith in
+      subst (λ k. P k (row (rows ++ x ∷ []) k)) is (subst (P n) (sym (ap (row (rows ++ x ∷ [])) (sym len) ∙ at_pushed (λ v. v.items) rows x)) here)
+])
+
+pub square_grown : (n : ℕ) (old new : List (Vec ℕ)) → IsSquare n old → length new ≡ length old → ((r : ℕ) → r < length old → Grown (row old r) (row new r)) → IsSquare n new
+square_grown n old new sq e g = (
+  sq.0,
+  record {
+    height = e ∙ sq.1.height;
+    width = λ r l. (g r (let h = sq.1.height in omega arith)).len ∙ sq.1.width r l;
+    room = sq.1.room;
+  },
+)
+
+pub matrix_is : (rounds : List (Vec (Vec ℕ))) (k : ℕ) (x : Vec (Vec ℕ)) → k < length rounds → x ≡ slice_index_or rounds k x → matrix rounds k ≡ x.items
+matrix_is [] k x l is = absurd (omega arith)
+matrix_is (y ∷ ys) zero x l is = ap (λ v. v.items) (sym is)
+matrix_is (y ∷ ys) (suc k) x l is = matrix_is ys k x (omega arith) is
+
+pub last_is : (rounds : List (Vec (Vec ℕ))) (n : ℕ) (x : Vec (Vec ℕ)) → 0 < length rounds → n ≡ length rounds → x ≡ slice_index_or rounds (n - 1) x → last rounds ≡ x.items
+last_is rounds n x some e is = matrix_is rounds (length rounds - 1) x (omega arith) (is ∙ ap (λ k. slice_index_or rounds (k - 1) x) e)
+
+pub round_exact : (job : Job) (rounds : List (Vec (Vec ℕ))) (p r : ℕ) (o : Option ℕ) → AreRounds job rounds → IsClosed job rounds → MatchOption o (IsMarkedNowhere rounds p r) (λ k. IsMarkedFirst rounds p r k) → MatchOption o (Before job p r → ⊥) (λ k. IsFirstWithin job k p r)
+round_exact job rounds p r None a c h = λ b. let some = a.some in h (length rounds - 1) (omega arith) ((last_exact job rounds a c p r).1 b)
+round_exact job rounds p r (Some k) a c h = record {
+  within = (a.exact k p r h.low).0 h.there;
+  first = λ j l w. let low = h.low in h.first j l ((a.exact j p r (omega arith)).1 w);
+}

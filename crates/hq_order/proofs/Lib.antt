@@ -1,0 +1,13 @@
+pub mod Sets
+pub mod Single
+pub mod Rows
+pub mod Turns
+pub mod Growth
+pub mod Closure
+pub mod Cover
+pub mod Filling
+pub mod Lists
+pub mod Submitting
+pub mod Slots
+pub mod Behind
+pub mod Settling

@@ -1,0 +1,47 @@
+-- One round.
+use Rattle.std.proofs.Common.{◌≡◌, ◌↔◌, ℕ, ◌/◌, ◌<◌, ◌⊎◌, inl, inr, List, length, sym, ◌∙◌, subst, arith, IsTrue, Some, slice_get}
+use Rattle.std.specs.Global.{Vec}
+use Rattle.hq_job.specs.declared.rows.Placed.{Placed}
+use Rattle.hq_job.specs.Plan.{kind_of}
+use Rattle.hq_model.specs.Job.{Job}
+use Rattle.hq_model.specs.Job.Kind.{BarrierOr}
+use Rattle.hq_model.specs.Theorems.{Valid}
+use Rattle.hq_order.specs.Bits.{has}
+use Rattle.hq_order.specs.Matrix.{row, Marks, Square}
+use Rattle.hq_order.specs.Rounds.{Reaches, ByEither, Next}
+use Rattle.hq_order.specs.Rounds.Next.{by_known, by_either, through}
+use Rattle.hq_order.proofs.Single.{Shows, slot_of, dependency, kind_is}
+use Rattle.hq_order.proofs.Rows.{within}
+
+pub reach_within : (job : Job) (rows : List (Vec ℕ)) (words p s : ℕ) → Square (length job.packets) words rows → Reaches job (Marks rows) p s → p / 64 < words
+reach_within job rows words p s sq x = elim x.upto [
+  | inl same ↦ let l : x.d < length job.packets = x.decrements.is_packet in omega (arith, same, sq.room)
+  | inr m ↦ let l : x.d < length job.packets = x.decrements.is_packet in omega (arith, within (row rows x.d) p m, sq.width x.d l)
+]
+
+pub either_exact : (job : Job) (rows : List (Vec ℕ)) (words p r : ℕ) (placed : Placed) (Full Shared : Type 0) → Shows job r placed → Valid job → kind_of placed.packet ≡ BarrierOr → Square (length job.packets) words rows → Full ↔ p / 64 < words → Shared ↔ (Full × ((slot s : ℕ) → slice_get placed.slots slot ≡ Some (Some s) → Reaches job (Marks rows) p s)) → Shared ↔ ByEither job (Marks rows) p r
+either_exact job rows words p r placed Full Shared w v k sq f h =
+    let kind = kind_is job r placed w ∙ k in (
+      λ t. record { kind = kind; some = v.not_null r w.is_packet kind; each = λ slot s d. (h.0 t).1 slot s (slot_of job r slot s placed w d) },
+      λ e. h.1 (
+        f.1 (reach_within job rows words p e.some.1 sq (e.each e.some.0 e.some.1 e.some.2)),
+        λ slot s there. e.each slot s (dependency job r slot s placed w there),
+      ),
+    )
+
+pub next_exact : (job : Job) (rows : List (Vec ℕ)) (known : List ℕ) (p r : ℕ) (A B : Type 0) → known ≡ row rows r → A ↔ (Marks rows p r ⊎ ((m : ℕ) × Marks rows p m × IsTrue (has known m))) → B ↔ (A ⊎ ByEither job (Marks rows) p r) → B ↔ Next job (Marks rows) p r
+next_exact job rows known p r A B same h g = (
+  λ b. elim (g.0 b) [
+    | inl a ↦ elim (h.0 a) [
+      | inl m ↦ by_known m
+      | inr x ↦ through {m = x.0} x.1 (subst (λ k. IsTrue (has k x.0)) same x.2)
+    ]
+    | inr e ↦ by_either e
+  ],
+  λ n. back n,
+)
+  where
+    back : Next job (Marks rows) p r → B
+    back (by_known m) = g.1 (inl (h.1 (inl m)))
+    back (by_either e) = g.1 (inr e)
+    back (through {m} x y) = g.1 (inl (h.1 (inr (m, x, subst (λ k. IsTrue (has k m)) (sym same) y))))

@@ -1,0 +1,43 @@
+use Rattle.std.proofs.Common.{◌+◌, ◌↔◌, ◌∷◌, [], sym, ◌∙◌, arith, length, inl, inr, ap, IsTrue, length-append}
+use Rattle.std.proofs.lemmas.Bool.{cases_lt}
+use Rattle.hq_job.specs.Plan.{plan}
+use Rattle.hq_order.specs.Bits.{has}
+use Rattle.hq_order.specs.Matrix.{row, Marks, Grown}
+use Rattle.hq_order.specs.Rounds.{Next}
+use Rattle.hq_order.proofs.Single.{count}
+use Rattle.hq_order.proofs.Rows.{marked_below, grown_beyond}
+use Rattle.hq_order.proofs.Closure.{pushed, next_within, square_grown}
+use Rattle.hq_order.proofs.before.next_rows.Goals as goal
+
+pub loop-r-preserved : goal.loop-r-preserved
+loop-r-preserved c =
+    let job = plan c.args.job.now in
+    let e = c.in_ok-push.ensures.items in
+    record {
+      len = ap length e ∙ length-append c.loop-r.new.items (c.in_ok-next_row.field-0 ∷ []) ∙ ap (λ n. n + 1) c.loop-r.invariant.len;
+      grown = pushed (λ r words. Grown (row c.args.rows.now r) words) c.loop-r.new.items c.in_ok-next_row.field-0 c.push.new.self.items c.loop-r.r c.loop-r.invariant.len e c.loop-r.invariant.grown c.in_ok-next_row.ensures.grown;
+      exact = λ p. pushed (λ r words. IsTrue (has words p) ↔ Next job (Marks c.args.rows.now) p r) c.loop-r.new.items c.in_ok-next_row.field-0 c.push.new.self.items c.loop-r.r c.loop-r.invariant.len e (c.loop-r.invariant.exact p) (c.in_ok-next_row.ensures.exact p);
+    }
+
+pub returns-clause-exact : goal.returns-clause-exact
+returns-clause-exact c = λ p r.
+    let n = c.loop-r-test.false in (
+      λ m. (c.loop-r.invariant.exact p r (let l = marked_below c.loop-r.new.items p r m in let e = c.loop-r.invariant.len in omega arith)).0 m,
+      λ d. (c.loop-r.invariant.exact p r (let l = next_within (plan c.args.job.now) c.args.rows.now p r (c.requires.square.1.height ∙ sym (count c.args.job.now)) d in omega arith)).1 d,
+    )
+
+pub returns-clause-grown : goal.returns-clause-grown
+returns-clause-grown c = λ r.
+    let n = c.loop-r-test.false in
+    let e = c.loop-r.invariant.len in
+    elim (cases_lt r c.loop-r.r) [
+      | inl low ↦ c.loop-r.invariant.grown r low
+      | inr high ↦ grown_beyond c.args.rows.now c.loop-r.new.items r (omega arith) (omega arith)
+    ]
+
+pub returns-clause-square : goal.returns-clause-square
+returns-clause-square c =
+    let n = c.loop-r-test.false in
+    let e = c.loop-r.invariant.len in
+    let end = c.loop-r.auto.r-end in
+    square_grown (length c.args.job.now.packets) c.args.rows.now c.loop-r.new.items c.requires.square (omega arith) (λ r l. c.loop-r.invariant.grown r (omega arith))

@@ -1,0 +1,6 @@
+pub mod Bits
+pub mod Rounds
+pub mod Matrix
+pub mod View
+pub mod Faults
+pub mod Placing

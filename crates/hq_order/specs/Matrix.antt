@@ -1,0 +1,95 @@
+-- Rows of bits as relations between packets: the row of a packet has those before it.
+use Rattle.std.specs.Prelude.{◌≡◌, ◌≢◌, ℕ, ◌+◌, ◌-◌, ◌^◌, ◌∷◌, ◌*◌, ◌<◌, ◌≤◌, ◌↔◌, IsTrue, List, [], map, length, slice_index, slice_index_or, slice_get, Some, Option}
+use Rattle.std.specs.Global.{Vec}
+use Rattle.hq_model.specs.Job.{Job, packet}
+use Rattle.hq_order.specs.Bits.{has}
+use Rattle.hq_order.specs.Rounds.{Next, Within}
+
+-- the row of r, and none where there is no such packet
+abbrev pub row : List (Vec ℕ) → ℕ → List ℕ
+row rows r = slice_index_or (map (λ v. v.items) rows) r []
+
+-- p is in the row of r
+abbrev pub Marks : List (Vec ℕ) → ℕ → ℕ → Type 0
+Marks rows p r = IsTrue (has (row rows r) p)
+
+-- n rows, each of as many words, with room for n packets
+pub record Square (n words : ℕ) (rows : List (Vec ℕ)) : Type 0 where
+  pub height : length rows ≡ n
+  pub width : (r : ℕ) → r < n → length (row rows r) ≡ words
+  pub room : n ≤ words * 64
+
+-- no word lost a bit
+pub record Grown (old new : List ℕ) : Type 0 where
+  pub len : length new ≡ length old
+  pub words : (i : ℕ) → slice_index old i ≤ slice_index new i
+
+-- a packet of r's queue, above p and below the end, has the barrier bit
+pub record BitAbove (job : Job) (r end p : ℕ) : Type 0 where
+  pub j : ℕ
+  pub above : p < j
+  pub below : j < end
+  pub same_queue : (packet job j).queue ≡ (packet job r).queue
+  pub bit : IsTrue (packet job j).bit
+
+-- the slots name the signal
+abbrev pub Names : List (Option ℕ) → ℕ → Type 0
+Names slots s = (slot : ℕ) × (slice_get slots slot ≡ Some (Some s))
+
+-- and no other
+abbrev pub NamesOnly : List (Option ℕ) → ℕ → Type 0
+NamesOnly slots s = (slot t : ℕ) → slice_get slots slot ≡ Some (Some t) → t ≡ s
+
+-- with some number of words a row
+abbrev pub IsSquare : ℕ → List (Vec ℕ) → Type 0
+IsSquare n rows = (words : ℕ) × Square n words rows
+
+-- a row of the first is another in the second
+pub record Differ (left right : List (Vec ℕ)) : Type 0 where
+  pub r : ℕ
+  pub low : r < length left
+  pub apart : row left r ≢ row right r
+  pub small : (i : ℕ) → slice_index (row left r) i < 2 ^ 64
+
+-- ---- rounds
+
+-- the rows of round k
+abbrev pub matrix : List (Vec (Vec ℕ)) → ℕ → List (Vec ℕ)
+matrix rounds k = slice_index_or (map (λ v. v.items) rounds) k []
+
+abbrev pub last : List (Vec (Vec ℕ)) → List (Vec ℕ)
+last rounds = matrix rounds (length rounds - 1)
+
+-- Round after round, each pair that is within it.
+pub record AreRounds (job : Job) (rounds : List (Vec (Vec ℕ))) : Type 0 where
+  pub some : 0 < length rounds
+  pub square : (k : ℕ) → k < length rounds → IsSquare (length job.packets) (matrix rounds k)
+  pub exact : (k p r : ℕ) → k < length rounds → Marks (matrix rounds k) p r ↔ Within job k p r
+
+-- One more round would add nothing.
+abbrev pub IsClosed : Job → List (Vec (Vec ℕ)) → Type 0
+IsClosed job rounds = (p r : ℕ) → Next job (Marks (last rounds)) p r → Marks (last rounds) p r
+
+-- ---- how far words are from their greatest value
+
+abbrev pub lag_of_words : List ℕ → ℕ
+lag_of_words [] = 0
+lag_of_words (word ∷ words) = (2 ^ 64 - word) + lag_of_words words
+
+abbrev pub lag_of_rows : List (Vec ℕ) → ℕ
+lag_of_rows [] = 0
+lag_of_rows (row ∷ rows) = lag_of_words row.items + lag_of_rows rows
+
+-- of the last round
+abbrev pub lag : List (Vec (Vec ℕ)) → ℕ
+lag rounds = lag_of_rows (last rounds)
+
+-- ---- the first mark
+
+abbrev pub IsMarkedNowhere : List (Vec (Vec ℕ)) → ℕ → ℕ → Type 0
+IsMarkedNowhere rounds p r = (k : ℕ) → k < length rounds → Marks (matrix rounds k) p r → ⊥
+
+pub record IsMarkedFirst (rounds : List (Vec (Vec ℕ))) (p r k : ℕ) : Type 0 where
+  pub low : k < length rounds
+  pub there : Marks (matrix rounds k) p r
+  pub first : (j : ℕ) → j < k → Marks (matrix rounds j) p r → ⊥

@@ -1,0 +1,47 @@
+-- The order of a job's packets, round by round.
+use Rattle.std.specs.Prelude.{◌≡◌, ℕ, zero, suc, ◌<◌, ◌⊎◌, IsTrue}
+use Rattle.hq_model.specs.Job.{Job, packet, Earlier, Dependency, Decrements, IsBarrier}
+use Rattle.hq_model.specs.Job.Kind.{BarrierAnd, BarrierOr}
+
+-- p stands before r in a queue, and r waits for it as it is launched.
+pub data Precedes (job : Job) (p r : ℕ) : Type 0 where
+  by_bit_of : Earlier job p r → IsTrue (packet job r).bit → Precedes job p r
+  by_bit_ahead : {j : ℕ} → Earlier job p j → IsTrue (packet job j).bit → Earlier job j r → Precedes job p r
+  by_queue : Earlier job p r → IsBarrier job p → Precedes job p r
+
+-- r waits for signals, and p completes on one of them for a barrier-AND, on each for a barrier-OR.
+pub data Awaits (job : Job) (p r : ℕ) : Type 0 where
+  by_and : {slot s : ℕ} → (packet job r).kind ≡ BarrierAnd → Dependency job r slot s → Decrements job p s → Awaits job p r
+  by_or : {slot s : ℕ} → (packet job r).kind ≡ BarrierOr → Dependency job r slot s → ((slot s : ℕ) → Dependency job r slot s → Decrements job p s) → Awaits job p r
+
+-- p is before r by a rule that rests on no other pair of packets.
+abbrev pub Direct : Job → ℕ → ℕ → Type 0
+Direct job p r = Precedes job p r ⊎ Awaits job p r
+
+-- p is known to be complete once the signal is over: it is one of the decrementers, or known to be before one.
+pub record Reaches (job : Job) (known : ℕ → ℕ → Type 0) (p s : ℕ) : Type 0 where
+  pub d : ℕ
+  pub decrements : Decrements job d s
+  pub upto : (p ≡ d) ⊎ known p d
+
+-- r is a barrier-OR, and whichever dependency is over, p is known to be complete.
+pub record ByEither (job : Job) (known : ℕ → ℕ → Type 0) (p r : ℕ) : Type 0 where
+  pub kind : (packet job r).kind ≡ BarrierOr
+  pub some : (slot : ℕ) × (s : ℕ) × Dependency job r slot s
+  pub each : (slot s : ℕ) → Dependency job r slot s → Reaches job known p s
+
+-- p is before r by what is known, or by one rule from that.
+pub data Next (job : Job) (known : ℕ → ℕ → Type 0) (p r : ℕ) : Type 0 where
+  by_known : known p r → Next job known p r
+  by_either : ByEither job known p r → Next job known p r
+  through : {m : ℕ} → known p m → known m r → Next job known p r
+
+-- p is before r by the rounds up to k.
+abbrev pub Within : Job → ℕ → ℕ → ℕ → Type 0
+Within job zero p r = Direct job p r
+Within job (suc k) p r = Next job (Within job k) p r
+
+-- and by no fewer
+pub record IsFirstWithin (job : Job) (k p r : ℕ) : Type 0 where
+  pub within : Within job k p r
+  pub first : (j : ℕ) → j < k → Within job j p r → ⊥

@@ -1,0 +1,174 @@
+//! The order of a job's packets, worked out.
+
+ghost use Rattle.std.specs.Prelude.{◌≡◌, ℕ, suc, ◌+◌, ◌-◌, ◌<◌, ◌≤◌, ◌↔◌, ◌++◌, [], ◌∷◌, true, false, IsTrue, IfOk, IfErr, OnOk, MatchOption, length, ◌*◌, ◌^◌, slice_index};
+ghost use Rattle.hq_job.specs.Plan.{plan};
+ghost use Rattle.hq_model.specs.Order as order;
+ghost use Rattle.hq_order.specs.Rounds.{Direct, Next, IsFirstWithin};
+ghost use Rattle.hq_order.specs.Matrix.{row, Marks, IsSquare, Grown, AreRounds, IsClosed, matrix, lag, Differ, IsMarkedNowhere, IsMarkedFirst};
+
+use crate::bits;
+use crate::direct::direct_row;
+use crate::fault::OrderFault;
+use crate::rounds::next_row;
+use hq_job::Job;
+use std::alloc::{AllocError, Global};
+use std::marker::Model;
+
+/// The rows of the packets by the rules that rest on no other pair.
+fn first_rows(alloc: Global, job: &Job) -> Result<Vec<Vec<u64>>, AllocError>
+    ensures square { IfOk result (λ rows. IsSquare (length job.now.packets) rows.items) }
+    ensures exact { IfOk result (λ rows. (p r : ℕ) → Marks rows.items p r ↔ Direct (plan job.now) p r) }
+{
+    let count = job.packets().len();
+    let words = count.div_ceil(64);
+    let mut rows = Vec::with_capacity(alloc, count)?;
+    for r in 0..count {
+        rows.push(direct_row(alloc, job, words, r)?)?;
+    }
+    Ok(rows)
+}
+
+/// The rows after one more round.
+fn next_rows(alloc: Global, job: &Job, rows: &[Vec<u64>]) -> Result<Vec<Vec<u64>>, AllocError>
+    requires square { IsSquare (length job.now.packets) rows.now }
+    ensures square { IfOk result (λ new. IsSquare (length job.now.packets) new.items) }
+    ensures grown { IfOk result (λ new. (r : ℕ) → Grown (row rows.now r) (row new.items r)) }
+    ensures exact { IfOk result (λ new. (p r : ℕ) → Marks new.items p r ↔ Next (plan job.now) (Marks rows.now) p r) }
+{
+    let mut new = Vec::with_capacity(alloc, rows.len())?;
+    for r in 0..rows.len() {
+        new.push(next_row(alloc, job, rows, r)?)?;
+    }
+    Ok(new)
+}
+
+/// Whether two rows are the same.
+fn is_same(left: &[u64], right: &[u64]) -> bool
+    ensures same { IsTrue result ↔ (left.now ≡ right.now) }
+    ensures small { (i : ℕ) → slice_index left.now i < 2 ^ 64 }
+{
+    left == right
+}
+
+/// Whether all rows are the same.
+fn are_same(left: &[Vec<u64>], right: &[Vec<u64>]) -> bool
+    requires { length left.now ≡ length right.now }
+    ensures same { IsTrue result → (r : ℕ) → row left.now r ≡ row right.now r }
+    ensures other { result ≡ false → Differ left.now right.now }
+{
+    for (r, row) in left.iter().enumerate() {
+        if !is_same(row, &right[r]) {
+            return false;
+        }
+    }
+    true
+}
+
+/// Adds the next round, and answers true, unless it would be the same as the last.
+fn add_round(alloc: Global, job: &Job, rounds: &mut Vec<Vec<Vec<u64>>>) -> Result<bool, AllocError>
+    requires { AreRounds (plan job.now) rounds.old.items }
+    ensures rounds { IfOk result (λ _. AreRounds (plan job.now) rounds.new.items) }
+    ensures falls { IfOk result (λ more. IsTrue more → lag rounds.new.items < lag rounds.old.items) }
+    ensures closed { IfOk result (λ more. more ≡ false → IsClosed (plan job.now) rounds.new.items) }
+{
+    let last = &rounds[rounds.len() - 1];
+    let next = next_rows(alloc, job, last)?;
+    if are_same(&next, last) {
+        return Ok(false);
+    }
+    rounds.push(next)?;
+    Ok(true)
+}
+
+/// All rounds, until one would add nothing.
+fn all_rounds(alloc: Global, job: &Job) -> Result<Vec<Vec<Vec<u64>>>, AllocError>
+    ensures rounds { IfOk result (λ rounds. AreRounds (plan job.now) rounds.items) }
+    ensures closed { IfOk result (λ rounds. IsClosed (plan job.now) rounds.items) }
+{
+    let mut rounds = Vec::new(alloc);
+    rounds.push(first_rows(alloc, job)?)?;
+    'rounds: while add_round(alloc, job, &mut rounds)? {}
+    Ok(rounds)
+}
+
+/// Whether the row of r has p.
+fn marks(rows: &[Vec<u64>], p: usize, r: usize) -> bool
+    ensures { IsTrue result ↔ Marks rows.now p r }
+{
+    match rows.get(r) {
+        Some(row) => bits::has(row, p),
+        None => false,
+    }
+}
+
+/// The first of the rounds that marks the pair.
+fn first_round(rounds: &[Vec<Vec<u64>>], p: usize, r: usize) -> Option<usize>
+    ensures { MatchOption result (IsMarkedNowhere rounds.now p r) (λ k. IsMarkedFirst rounds.now p r k) }
+{
+    for (k, rows) in rounds.iter().enumerate() {
+        if marks(rows, p, r) {
+            return Some(k);
+        }
+    }
+    None
+}
+
+/// The order of a job's packets: which is complete before which becomes active, in every run. Contracts see it as the plan
+/// of the job.
+#[derive(Drop)]
+pub struct Before<'a> {
+    job: &'a Job,
+    rounds: Vec<Vec<Vec<u64>>>,
+}
+
+impl<'a> Model for Before<'a> {
+    ghost use Rattle.hq_model.specs.Job.{Job as Plan};
+    ghost use Rattle.hq_order.specs.View.{order_of, IsOrder};
+
+    ghost Value = { Plan };
+
+    ghost view = { order_of };
+
+    ghost invariant = { IsOrder };
+}
+
+impl<'a> Before<'a> {
+    /// Works the order out. The only error is that there is no memory.
+    pub fn build(alloc: Global, job: &'a Job) -> Result<Before<'a>, OrderFault>
+        ensures plan { IfOk result (λ b. b ≡ plan job.now) }
+        ensures memory { IfErr result (λ e. e ≡ OrderFault.Memory) }
+    {
+        let rounds = all_rounds(alloc, job)?;
+        Ok(Before { job, rounds })
+    }
+
+    /// Whether p is complete before r becomes active, in every run; false where there is no such packet.
+    pub fn holds(&self, p: usize, r: usize) -> bool
+        ensures { IsTrue result ↔ order.Before self.now p r }
+    {
+        let last = &self.rounds[self.rounds.len() - 1];
+        marks(last, p, r)
+    }
+
+    /// The earliest round in which that comes: 0 where a rule gives it alone, else one more than the latest of the pairs that
+    /// it rests on.
+    pub fn round(&self, p: usize, r: usize) -> Option<usize>
+        ensures { MatchOption result (order.Before self.now p r → ⊥) (λ k. IsFirstWithin self.now k p r) }
+    {
+        first_round(&self.rounds, p, r)
+    }
+
+    /// The job.
+    pub fn job(&self) -> &'a Job
+        ensures { plan result.now ≡ self.now }
+    {
+        self.job
+    }
+
+    /// How many packets there are.
+    pub fn len(&self) -> usize
+        ensures { result ≡ length self.now.packets }
+    {
+        self.job.packets().len()
+    }
+}

@@ -1,0 +1,23 @@
+//! What must be complete before what, in every run of a job, and lists that keep that order.
+//!
+//! `Before` is the order relation, worked out round by round as rows of bits. `schedule` gives an order list, or the packets that
+//! can never complete.
+#![tactic(auto)]
+
+mod before;
+mod bits;
+mod completing;
+mod direct;
+mod fault;
+mod freeing;
+pub mod laws;
+mod needs;
+mod rounds;
+mod scheduling;
+
+pub use before::Before;
+pub use fault::OrderFault;
+pub use scheduling::schedule;
+
+#[cfg(test)]
+mod tests;
