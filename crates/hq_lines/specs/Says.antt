@@ -31,7 +31,7 @@ pub data Codes : List ℕ → Code → Type 0 where
   add : Codes (codes "add") code.Add
   sum : Codes (codes "sum") code.Sum
 
--- a power of two, as the size of a queue is (HSA Platform System Architecture Specification 1.2, section 2.8)
+-- a power of two, as the size of a queue is (HSA Platform System Architecture Specification 1.2, "User mode queuing")
 pub record IsPower (n : ℕ) : Type 0 where
   pub exponent : ℕ
   pub power : n ≡ 2 ^ exponent
