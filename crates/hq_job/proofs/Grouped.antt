@@ -9,16 +9,16 @@ use Rattle.hq_job.specs.Numbering.{with_key, grouped, number_of}
 pub some_is : {X : Type 0} (x y : X) → Some x ≡ Some y → x ≡ y
 some_is x y e = cc
 
-get_after : {X : Type 0} (xs ys : List X) (i : ℕ) → slice_get (xs ++ ys) (length xs + i) ≡ slice_get ys i
+pub get_after : {X : Type 0} (xs ys : List X) (i : ℕ) → slice_get (xs ++ ys) (length xs + i) ≡ slice_get ys i
 get_after [] ys i = ap (slice_get ys) (omega arith)
 get_after (x ∷ xs) ys i = let e : suc (length xs) + i ≡ suc (length xs + i) = omega arith in rw e (get_after xs ys i)
 
-get_before : {X : Type 0} (xs ys : List X) (i : ℕ) → i < length xs → slice_get (xs ++ ys) i ≡ slice_get xs i
+pub get_before : {X : Type 0} (xs ys : List X) (i : ℕ) → i < length xs → slice_get (xs ++ ys) i ≡ slice_get xs i
 get_before [] ys i l = absurd (omega arith)
 get_before (x ∷ xs) ys zero l = refl
 get_before (x ∷ xs) ys (suc i) l = get_before xs ys i (omega arith)
 
-get_within : {X : Type 0} (xs : List X) (i : ℕ) (x : X) → slice_get xs i ≡ Some x → i < length xs
+pub get_within : {X : Type 0} (xs : List X) (i : ℕ) (x : X) → slice_get xs i ≡ Some x → i < length xs
 get_within [] i x e = absurd (cc)
 get_within (y ∷ ys) zero x e = omega arith
 get_within (y ∷ ys) (suc i) x e = omega (arith, get_within ys i x e)
@@ -26,7 +26,7 @@ get_within (y ∷ ys) (suc i) x e = omega (arith, get_within ys i x e)
 -- ---- filters
 
 -- the k-th of a list passes as the next behind those that pass ahead of it
-get_filtered : {X : Type 0} (test : X → Bool) (xs : List X) (k : ℕ) (x : X) → slice_get xs k ≡ Some x → test x ≡ true → slice_get (filter test xs) (length (filter test (take k xs))) ≡ Some x
+pub get_filtered : {X : Type 0} (test : X → Bool) (xs : List X) (k : ℕ) (x : X) → slice_get xs k ≡ Some x → test x ≡ true → slice_get (filter test xs) (length (filter test (take k xs))) ≡ Some x
 get_filtered test [] k x e t = absurd (cc)
 get_filtered test (y ∷ ys) zero x e t =
     let same : y ≡ x = some_is y x e in
@@ -71,7 +71,7 @@ pub map_numbers_next : (f : ℕ → ℕ) (n : ℕ) → map f (numbers (n + 1)) �
 map_numbers_next f n = rw add-one (map-append f (numbers n) (n ∷ []))
 
 -- the groups of more keys begin with those of fewer
-get_grouped : {X : Type 0} (key : X → ℕ) (n q : ℕ) (xs : List X) (i : ℕ) (x : X) → q < n → slice_get (with_key key xs q) i ≡ Some x → slice_get (grouped key n xs) (length (grouped key q xs) + i) ≡ Some x
+pub get_grouped : {X : Type 0} (key : X → ℕ) (n q : ℕ) (xs : List X) (i : ℕ) (x : X) → q < n → slice_get (with_key key xs q) i ≡ Some x → slice_get (grouped key n xs) (length (grouped key q xs) + i) ≡ Some x
 get_grouped key zero q xs i x l e = absurd (omega arith)
 get_grouped key (suc n) q xs i x l e = elim (cases_eq q n) [
   | inl same ↦ rw (grouped_more key n xs) (rw same (get_after (grouped key n xs) (with_key key xs n) i ∙ subst (λ m. slice_get (with_key key xs m) i ≡ Some x) same e))

@@ -19,3 +19,4 @@ pub mod RowLaws
 pub mod QueuePlaces
 pub mod MemoryBytes
 pub mod Shares
+pub mod Spans

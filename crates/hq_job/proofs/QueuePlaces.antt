@@ -1,12 +1,11 @@
 -- The places of packets in their queues.
-use Rattle.std.proofs.Common.{◌≡◌, ℕ, zero, suc, ◌+◌, ◌-◌, ◌<◌, ◌≤◌, ◌≢◌, ◌↔◌, inl, inr, Bool, true, false, cond, ◌==◌, List, [], ◌∷◌, ◌++◌, length, map, take, Option, Some, None, IsNone, refl, sym, ◌∙◌, ap, subst, arith, slice_get, slice_index, slice_index_or, All, count_by, length-append}
-use Rattle.std.proofs.lemmas.Bool.{cases_eq, cases_lt, cond-true, cond-false, eq-eqb, ne_eqb, eqb-true}
+use Rattle.std.proofs.Common.{◌≡◌, ℕ, zero, suc, ◌+◌, ◌-◌, ◌<◌, ◌≤◌, ◌↔◌, inl, inr, Bool, true, false, cond, ◌==◌, List, [], ◌∷◌, ◌++◌, length, map, take, Option, Some, None, IsNone, refl, sym, ◌∙◌, ap, subst, arith, slice_get, slice_index, slice_index_or, All, count_by}
+use Rattle.std.proofs.lemmas.Bool.{cases_lt, cond-true, eq-eqb, ne_eqb, eqb-true}
 use Rattle.std.proofs.lemmas.List.{take-append-le, take-map, length-map}
 use Rattle.std.proofs.lemmas.List.Elements.{All-nil, All-cons, All-append, All-weaker}
 use Rattle.std.proofs.lemmas.List.Sums.{sum_by-cons, sum_by-append}
 use Rattle.hq_model.specs.Job as model
 use Rattle.hq_model.specs.Job.{Job, packet, IsPacket, place_in_queue}
-use Rattle.hq_model.specs.Journal.{numbers}
 use Rattle.hq_job.specs.declared.rows.Placed.{Placed}
 use Rattle.hq_job.specs.declared.job.Job.TheInside.{Inside}
 use Rattle.hq_job.specs.JobFields.{FieldsFit}
@@ -17,8 +16,8 @@ use Rattle.hq_job.specs.Numbering.{with_key, grouped, by_number}
 use Rattle.hq_job.specs.Access.{StandsAt, LiesAt}
 use Rattle.hq_job.proofs.Grouped.{grouped_more, some_is}
 use Rattle.hq_job.proofs.GroupedSums.{count_map, count_none}
-use Rattle.hq_job.proofs.Submitted.{At, at, within, all_at}
-use Rattle.hq_job.proofs.Counted.{Counted, counted_none}
+use Rattle.hq_job.proofs.Submitted.{at, within, all_at}
+use Rattle.hq_job.proofs.Counted.{counted_none}
 
 -- ---- lists end to end
 
@@ -45,7 +44,7 @@ count_front test (x ∷ xs) (suc k) all l =
 
 -- ---- groups
 
-keys_are : {X : Type 0} (key : X → ℕ) (xs : List X) (q : ℕ) → All (λ x. key x ≡ q) (with_key key xs q)
+pub keys_are : {X : Type 0} (key : X → ℕ) (xs : List X) (q : ℕ) → All (λ x. key x ≡ q) (with_key key xs q)
 keys_are key [] q = All-nil (λ x. key x ≡ q)
 keys_are {X} key (x ∷ xs) q = go (key x == q) refl (keys_are key xs q)
   where
@@ -99,7 +98,7 @@ stands key (suc n) xs p x e = elim (cases_lt p (length (grouped key n xs))) [
 abbrev pub queue_of : Placed → ℕ
 queue_of p = p.queue
 
-packet_at : (job : Job) (rows : List Placed) (p : ℕ) (x : Placed) → job.packets ≡ map planned rows → slice_get rows p ≡ Some x → packet job p ≡ planned x
+pub packet_at : (job : Job) (rows : List Placed) (p : ℕ) (x : Placed) → job.packets ≡ map planned rows → slice_get rows p ≡ Some x → packet job p ≡ planned x
 packet_at job rows p x e there =
     ap (λ ps. slice_index_or ps p model.no_packet) e ∙ row_at rows p there
   where
@@ -152,7 +151,7 @@ stands_where job n placed queue place p e f =
 
 -- ---- by the fields of a job
 
-first_is : (j : Inside) → FieldsFit j → (q : ℕ) → q < length j.firsts.items → (q < length j.tables.queues.items) × (slice_index j.firsts.items q ≡ length (by_number q j.tables.placed.items))
+pub first_is : (j : Inside) → FieldsFit j → (q : ℕ) → q < length j.firsts.items → (q < length j.tables.queues.items) × (slice_index j.firsts.items q ≡ length (by_number q j.tables.placed.items))
 first_is j fit q l =
     let counted = counted_none queue_of (length j.tables.queues.items) j.tables.placed.items j.firsts.items fit.firsts_are in
     let below : q < length j.tables.queues.items = omega (arith, counted.count) in

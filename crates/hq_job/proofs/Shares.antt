@@ -1,5 +1,5 @@
 -- Bytes that two packets of a plan share are those that their footprints share.
-use Rattle.std.proofs.Common.{◌≡◌, ℕ, ◌<◌, ◌↔◌, ◌⊎◌, inl, inr, List, length, refl, sym, ◌∙◌, ap, subst, arith, Contains, slice_index, slice_index_or, IsTrue, Bool, true, false}
+use Rattle.std.proofs.Common.{◌≡◌, ℕ, ◌<◌, ◌↔◌, inl, inr, List, length, sym, ◌∙◌, ap, subst, Contains, slice_index_or, IsTrue, false}
 use Rattle.std.proofs.lemmas.List.{get_or-map}
 use Rattle.hq_footprint.specs.declared.footprint.Footprint.{Footprint}
 use Rattle.hq_footprint.specs.declared.conflicts.Kinds.{Kinds}
@@ -9,7 +9,7 @@ use Rattle.hq_job.specs.declared.rows.Placed.{Placed}
 use Rattle.hq_job.specs.Value.{JobValue}
 use Rattle.hq_job.specs.Plan.{plan, planned}
 use Rattle.hq_job.specs.Conflicts.{HasConflicts}
-use Rattle.hq_model.specs.Job.{Job, Packet, packet, no_packet}
+use Rattle.hq_model.specs.Job.{Job, packet, no_packet}
 use Rattle.hq_model.specs.Order.{In, place}
 use Rattle.hq_model.specs.Fence.{Share}
 use Rattle.hq_model.proofs.Places.{at_place, in_of}

@@ -1,5 +1,5 @@
 -- What a job's calls answer beside its tables.
-use Rattle.std.specs.Prelude.{◌≡◌, ℕ, ◌+◌, ◌<◌, List, length, Some, slice_get, slice_index}
+use Rattle.std.specs.Prelude.{◌≡◌, ℕ, ◌+◌, ◌<◌, ◌≤◌, List, length, Some, slice_get, slice_index}
 use Rattle.hq_model.specs.Job.{Job, packet, IsPacket, place_in_queue}
 use Rattle.hq_job.specs.declared.rows.Placed.{Placed}
 
@@ -16,3 +16,8 @@ pub record LiesAt (firsts : List ℕ) (packets : List Placed) (queue place p : �
   pub row : Placed
   pub there : slice_get packets p ≡ Some row
   pub queue_is : row.queue ≡ queue
+
+-- the queue's packets are those of the numbers from start up to, but not with, stop
+pub record AreOfQueue (job : Job) (queue start stop : ℕ) : Type 0 where
+  pub within : (p : ℕ) → IsPacket job p → (packet job p).queue ≡ queue → (start ≤ p) × (p < stop)
+  pub of_queue : (p : ℕ) → start ≤ p → p < stop → IsPacket job p × ((packet job p).queue ≡ queue)

@@ -1,7 +1,7 @@
 //! Jobs.
 
 ghost use Rattle.std.specs.Prelude.{◌≡◌, ◌<◌, ◌↔◌, ℕ, Some, IsNone, All, IfOk, length};
-ghost use Rattle.hq_job.specs.Access.{StandsAt};
+ghost use Rattle.hq_job.specs.Access.{StandsAt, AreOfQueue};
 ghost use Rattle.hq_job.specs.Blocks.{blocks_of};
 ghost use Rattle.hq_job.specs.Plan.{plan, planned};
 ghost use Rattle.hq_job.specs.Tables.{byte_number};
@@ -11,13 +11,14 @@ ghost use Rattle.hq_model.specs.Theorems.{Valid};
 use crate::addresses::byte_number;
 use crate::memory::memory_of;
 use crate::numbering::{by_number, submissions};
-use crate::places::number_at;
+use crate::places::{number_at, span_of};
 use crate::rows::{Block, Kernel, Placed, Queue};
 use crate::tables::Tables;
 use hq_signals::SignalTable;
 use hq_text::Name;
 use std::alloc::{AllocError, Global};
 use std::marker::Model;
+use std::ops::Range;
 
 /// A job that was read. Contracts see it as the value that its text describes; everything above the texts speaks of the
 /// plan of that value, the job as numbers.
@@ -174,6 +175,14 @@ impl Job {
     {
         let number = number_at(&self.firsts, &self.packets, queue, place)?;
         Some(number as u16)
+    }
+
+    /// The numbers of a queue's packets.
+    pub fn of_queue(&self, queue: usize) -> Range<usize>
+        requires { queue < length self.now.queues }
+        ensures { AreOfQueue (plan self.now) queue result.start result.end }
+    {
+        span_of(&self.firsts, &self.packets, queue)
     }
 
     /// The bytes of memory as the job starts, by number.

@@ -1,4 +1,4 @@
-use Rattle.std.proofs.Common.{◌≡◌, ◌↔◌, ◌∙◌, ℕ, Some, IsNone, sym, subst}
+use Rattle.std.proofs.Common.{Some}
 use Rattle.hq_job.specs.Access.{StandsAt}
 use Rattle.hq_job.specs.Plan.{plan}
 use Rattle.hq_job.proofs.QueuePlaces.{numbers_places, none_named}

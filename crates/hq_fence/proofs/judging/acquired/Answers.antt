@@ -1,0 +1,8 @@
+use Rattle.hq_fence.specs.declared.search.Goal.TheVariants as asked
+use Rattle.hq_fence.proofs.Telling.{unanswered, not_acquired}
+use Rattle.hq_fence.proofs.judging.acquired.Goals as goal
+
+pub returns-in-None : goal.returns-in-None
+returns-in-None c =
+    not_acquired c.args.before.now c.args.p c.args.r
+    (unanswered c.new.result c.args.before.now c.args.p c.args.r asked.Acquire c.new.ensures.job c.new.ensures.p c.new.ensures.r c.new.ensures.goal c.in-None.ensures)

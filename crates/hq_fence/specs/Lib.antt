@@ -1,0 +1,4 @@
+pub mod Spans
+pub mod Judgement
+pub mod Asking
+pub mod Names

@@ -1,0 +1,140 @@
+//! The judgement of two packets.
+
+ghost use Rattle.std.specs.Prelude.{◌≡◌, false, ◌<◌, ◌↔◌, ℕ, IsTrue, IsOk, IsSome, IfOk, IfErr, IfSome, MatchOption, length};
+ghost use Rattle.hq_job.specs.Conflicts.{HasConflicts};
+ghost use Rattle.hq_model.specs.Job.{IsPacket};
+ghost use Rattle.hq_model.specs.Order as order;
+ghost use Rattle.hq_model.specs.Fence as model;
+ghost use Rattle.hq_fence.specs.Judgement.{ReleasesBefore, ReleasesToAcquire, Shows, IsNotShown, flag_of, IsFirstKind};
+ghost use Rattle.hq_fence.specs.declared.shown.Kind as shown;
+
+use crate::search::{Ending, Goal, Search};
+use crate::shown::{Acquire, Kind, NotShown, Release, Shown, Why};
+use hq_footprint::Kinds;
+use hq_order::Before;
+
+/// How p is released before r.
+fn released(before: &Before, p: usize, r: usize) -> Option<Release>
+    requires p_is { IsPacket before.now p }
+    requires r_is { IsPacket before.now r }
+    ensures { MatchOption result (¬ model.ReleasedBefore before.now p r) (ReleasesBefore before.now p r) }
+{
+    match Search::new(before, p, r, Goal::Second).find() {
+        Some((release, _)) => Some(release),
+        None => None,
+    }
+}
+
+/// How p is released, and r acquires after that.
+fn acquired(before: &Before, p: usize, r: usize) -> Option<(Release, Acquire)>
+    requires p_is { IsPacket before.now p }
+    requires r_is { IsPacket before.now r }
+    ensures { MatchOption result (¬ model.ReleasedToAcquire before.now p r) (ReleasesToAcquire before.now p r) }
+{
+    match Search::new(before, p, r, Goal::Acquire).find() {
+        Some((release, Ending::Acquired(acquire))) => Some((release, acquire)),
+        Some((_, Ending::Second)) => None,
+        None => None,
+    }
+}
+
+/// The first kind of conflict that there is.
+fn first_kind(kinds: Kinds) -> Option<Kind>
+    ensures { MatchOption result ((kind : shown.Kind) → flag_of kinds kind ≡ false) (IsFirstKind kinds) }
+{
+    if kinds.wr {
+        Some(Kind::WriteRead)
+    } else if kinds.ww {
+        Some(Kind::WriteWrite)
+    } else if kinds.rw {
+        Some(Kind::ReadWrite)
+    } else {
+        None
+    }
+}
+
+/// Whether the conflict by a write that r reads is shown, where p is before r and there is such a conflict.
+fn judge_wr(
+    before: &Before,
+    p: usize,
+    r: usize,
+    there: bool,
+) -> Result<Option<(Release, Acquire)>, NotShown>
+    requires p_is { IsPacket before.now p }
+    requires r_is { IsPacket before.now r }
+    requires ordered { order.Before before.now p r }
+    requires there { IsTrue there ↔ model.Conflicts before.now model.Conflict.WriteRead p r }
+    ensures some { IfOk result (λ wr. IsSome wr ↔ model.Conflicts before.now model.Conflict.WriteRead p r) }
+    ensures shown { IfOk result (λ wr. IfSome wr (ReleasesToAcquire before.now p r)) }
+    ensures not_shown { IfErr result (IsNotShown before.now p r) }
+{
+    if !there {
+        return Ok(None);
+    }
+    if let Some(fences) = acquired(before, p, r) {
+        return Ok(Some(fences));
+    }
+    let why = match released(before, p, r) {
+        Some(_) => Why::NotAcquired,
+        None => Why::NotReleased,
+    };
+    Err(NotShown {
+        kind: Kind::WriteRead,
+        why,
+    })
+}
+
+/// Whether the conflict by two writes is shown, where p is before r, there is such a conflict, and that ahead of it is shown.
+fn judge_ww(before: &Before, p: usize, r: usize, there: bool) -> Result<Option<Release>, NotShown>
+    requires p_is { IsPacket before.now p }
+    requires r_is { IsPacket before.now r }
+    requires ordered { order.Before before.now p r }
+    requires there { IsTrue there ↔ model.Conflicts before.now model.Conflict.WriteWrite p r }
+    requires ahead { model.Conflicts before.now model.Conflict.WriteRead p r → model.ReleasedToAcquire before.now p r }
+    ensures some { IfOk result (λ ww. IsSome ww ↔ model.Conflicts before.now model.Conflict.WriteWrite p r) }
+    ensures shown { IfOk result (λ ww. IfSome ww (ReleasesBefore before.now p r)) }
+    ensures not_shown { IfErr result (IsNotShown before.now p r) }
+{
+    if !there {
+        return Ok(None);
+    }
+    match released(before, p, r) {
+        Some(release) => Ok(Some(release)),
+        None => Err(NotShown {
+            kind: Kind::WriteWrite,
+            why: Why::NotReleased,
+        }),
+    }
+}
+
+/// Judges the conflicts of packet `p` with packet `r`, `p` first: answers the fences that order each kind of conflict that there
+/// is, or the first kind that isn't ordered, in the order of `Kind`, and why. Takes no memory.
+pub fn judge(before: &Before, p: usize, r: usize) -> Result<Shown, NotShown>
+    requires p_is { p < length before.now.packets }
+    requires r_is { r < length before.now.packets }
+    ensures shown { IfOk result (Shows before.now p r) }
+    ensures not_shown { IfErr result (IsNotShown before.now p r) }
+    ensures exact { IsOk result ↔ model.Shown before.now p r }
+{
+    let kinds = before.job().kinds(p, r);
+    if !before.holds(p, r) {
+        return match first_kind(kinds) {
+            Some(kind) => Err(NotShown {
+                kind,
+                why: Why::Unordered,
+            }),
+            None => Ok(Shown {
+                wr: None,
+                ww: None,
+                rw: false,
+            }),
+        };
+    }
+    let wr = judge_wr(before, p, r, kinds.wr)?;
+    let ww = judge_ww(before, p, r, kinds.ww)?;
+    Ok(Shown {
+        wr,
+        ww,
+        rw: kinds.rw,
+    })
+}

@@ -1,0 +1,50 @@
+//! Runs of numbers that are gone through from one within on.
+
+ghost use Rattle.std.specs.Prelude.{◌≡◌, ◌<◌, ◌≤◌, ◌-◌};
+ghost use Rattle.hq_fence.specs.Spans.{IsSpan, number_at};
+
+/// The numbers from `start` up to `end`, of which those from `first` on come first.
+#[derive(Clone, Copy, Debug)]
+pub struct Span {
+    pub start: usize,
+    pub first: usize,
+    pub end: usize,
+}
+
+impl Span {
+    /// How many numbers there are.
+    pub fn len(self) -> usize
+        requires { IsSpan self }
+        ensures { result ≡ self.end - self.start }
+    {
+        self.end - self.start
+    }
+
+    /// The number of a turn.
+    pub fn at(self, turn: usize) -> usize
+        requires span { IsSpan self }
+        requires low { turn < self.end - self.start }
+        ensures number { result ≡ number_at self turn }
+        ensures above { self.start ≤ result }
+        ensures below { result < self.end }
+    {
+        let number = self.first + turn;
+        if number < self.end {
+            number
+        } else {
+            number - (self.end - self.start)
+        }
+    }
+
+    /// The same numbers, but what stands behind `number` comes first, if that is one of them.
+    pub fn behind(self, number: usize) -> Span
+        requires { IsSpan self }
+        ensures span { IsSpan result }
+        ensures start { result.start ≡ self.start }
+        ensures end { result.end ≡ self.end }
+    {
+        let is_inside = self.start <= number && number < self.end;
+        let first = if is_inside { number + 1 } else { self.start };
+        Span { first, ..self }
+    }
+}

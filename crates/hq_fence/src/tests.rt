@@ -1,0 +1,39 @@
+use super::*;
+use hq_job::read_text;
+use hq_order::Before;
+use std::test::*;
+
+#[test]
+fn a_store_and_a_count_of_it(rt: HostRuntime) -> Result<(), Fail> {
+    let text =
+        b"hsaq 1\nagent a\nbuffer b 16 16\nqueue q a 4\npacket 04140080000000001000000000000000000000000000000000000000000000000000000000000000000000000000000000000000000000000000000000000000\npacket 04150180000000001800000000000000100000000000000008000000000000000000000000000000000000000000000000000000000000000000000000000000\nend";
+    let job = read_text(rt.alloc(), text)?;
+    let before = Before::build(rt.alloc(), &job)?;
+    if before.len() != 2 {
+        return Err("two packets".into());
+    }
+    let shown = Shown {
+        wr: Some((Release::Alone(0), Acquire::Alone(1))),
+        ww: None,
+        rw: false,
+    };
+    assert_eq!(rt; judge(&before, 0, 1), Ok(shown));
+    Ok(())
+}
+
+#[test]
+fn a_count_that_does_not_acquire(rt: HostRuntime) -> Result<(), Fail> {
+    let text =
+        b"hsaq 1\nagent a\nbuffer b 16 16\nqueue q a 4\npacket 04140080000000001000000000000000000000000000000000000000000000000000000000000000000000000000000000000000000000000000000000000000\npacket 04110180000000001800000000000000100000000000000008000000000000000000000000000000000000000000000000000000000000000000000000000000\nend";
+    let job = read_text(rt.alloc(), text)?;
+    let before = Before::build(rt.alloc(), &job)?;
+    if before.len() != 2 {
+        return Err("two packets".into());
+    }
+    let not_shown = NotShown {
+        kind: Kind::WriteRead,
+        why: Why::NotAcquired,
+    };
+    assert_eq!(rt; judge(&before, 0, 1), Err(not_shown));
+    Ok(())
+}
