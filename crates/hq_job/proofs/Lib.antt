@@ -20,3 +20,5 @@ pub mod QueuePlaces
 pub mod MemoryBytes
 pub mod Shares
 pub mod Spans
+pub mod Options
+pub mod BlockRows

@@ -13,3 +13,4 @@ pub mod Fits
 pub mod Access
 pub mod JobFields
 pub mod Conflicts
+pub mod Equal

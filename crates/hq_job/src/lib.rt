@@ -7,7 +7,8 @@
 //! the first test that it fails.
 //!
 //! A `Job` gives its tables by reference and takes no memory. Contracts see it as a value, and the plan of that value is the
-//! job as numbers: `valid` hands on that the plan is one that all laws of the model speak of.
+//! job as numbers: `valid` hands on that the plan is one that all laws of the model speak of. `same` tells whether two jobs are
+//! one value.
 #![tactic(auto)]
 
 mod addresses;
@@ -22,6 +23,7 @@ mod packets;
 mod places;
 mod reading;
 mod rows;
+mod same;
 mod tables;
 
 pub use fault::{JobFault, Reason};

@@ -21,6 +21,15 @@ fn a_job(rt: HostRuntime) -> Result<(), Fail> {
 }
 
 #[test]
+fn the_same_job(rt: HostRuntime) -> Result<(), Fail> {
+    let job = read_text(rt.alloc(), b"hsaq 1\nagent a\nend\n")?;
+    let other = read_text(rt.alloc(), b"hsaq 2\nagent a\nend\n")?;
+    assert!(rt; job.same(&job));
+    assert!(rt; !job.same(&other));
+    Ok(())
+}
+
+#[test]
 fn first_faults(rt: HostRuntime) {
     for (text, line, reason) in [
         (b"".as_slice(), 1, Reason::NoEnd),

@@ -1,3 +1,4 @@
 mod Entries
 pub mod TableLaws
 mod Verdicts
+pub mod Places

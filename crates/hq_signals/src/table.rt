@@ -28,6 +28,14 @@ impl Entry {
     {
         self.waited && self.decrementers < self.start
     }
+
+    fn same(&self, other: &Entry) -> bool
+        ensures { IsTrue result ↔ ((self.now.start ≡ other.now.start) × ((self.now.decrementers ≡ other.now.decrementers) × (self.now.waited ≡ other.now.waited))) }
+    {
+        self.start == other.start
+            && self.decrementers == other.decrementers
+            && self.waited == other.waited
+    }
 }
 
 /// A job's signals, in the order in which they were opened: the start of each, how many packets complete on it, and
@@ -116,6 +124,32 @@ impl SignalTable {
     {
         let (_, signal) = self.signals.get_index(index).unwrap();
         signal.start
+    }
+
+    fn same_at(&self, other: &SignalTable, index: usize) -> bool
+        requires here { index < length self.now }
+        requires there { index < length other.now }
+        ensures { IsTrue result ↔ (slice_get self.now index ≡ slice_get other.now index) }
+    {
+        let (own_handle, entry) = self.signals.get_index(index).unwrap();
+        let (other_handle, other_entry) = other.signals.get_index(index).unwrap();
+        own_handle == other_handle && entry.same(other_entry)
+    }
+
+    /// Whether both tables show the same signals in the same order of opening: the handle, the start and the decrementers of
+    /// each, and whether a barrier waits on it. It takes no memory.
+    pub fn same(&self, other: &SignalTable) -> bool
+        ensures { IsTrue result ↔ (self.now ≡ other.now) }
+    {
+        if self.len() != other.len() {
+            return false;
+        }
+        for index in 0..self.len() {
+            if !self.same_at(other, index) {
+                return false;
+            }
+        }
+        true
     }
 
     /// Opens a signal, behind those that are open. A signal's value is a signed 64-bit number, so `start` is below 2^63. An

@@ -34,6 +34,8 @@ fn a_waited_signal_with_too_few_decrementers(rt: HostRuntime) -> Result<(), Fail
     assert_eq!(rt; table.verdict(), Ok(()));
     table.note_wait(9);
     assert_eq!(rt; table.verdict(), Err(SignalFault::NeverZero(9)));
+    assert!(rt; table.same(&table));
+    assert!(rt; !table.same(&SignalTable::new(rt.alloc())));
     Ok(())
 }
 

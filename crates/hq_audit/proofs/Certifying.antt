@@ -1,0 +1,81 @@
+-- The certificate holds, and what an ordered job isn't refused for.
+use Rattle.std.proofs.Common.{◌≡◌, ℕ, ◌⊎◌, inl, inr, List, refl, sym, subst, Result, Ok, Err}
+use Rattle.std.specs.Prelude.{IfErr}
+use Rattle.std.specs.Result.{IsErrAnd}
+use Rattle.hq_order.specs.Faults.{StuckWhereSo}
+use Rattle.hq_order.specs.declared.fault.OrderFault.{OrderFault}
+use Rattle.hq_order.specs.declared.fault.OrderFault.TheVariants as order
+use Rattle.hq_fence.specs.Judgement.{conflict_of}
+use Rattle.hq_model.specs.Job.{Job}
+use Rattle.hq_model.specs.Order.{OrderList}
+use Rattle.hq_model.specs.Fence.{Conflict, Conflicts, Ordered}
+use Rattle.hq_model.specs.Fence.Conflict.{WriteRead, WriteWrite, ReadWrite}
+use Rattle.hq_model.specs.Certificate as model
+use Rattle.hq_model.specs.Certificate.{Certificate, CertHolds, HasPairs, FencesHold}
+use Rattle.hq_audit.specs.declared.fault.AuditNo.{AuditNo}
+use Rattle.hq_audit.specs.declared.fault.AuditNo.TheVariants as audit
+use Rattle.hq_audit.specs.declared.directed.Unshown.{Unshown}
+use Rattle.hq_audit.specs.Kept.{AllFollow}
+use Rattle.hq_audit.specs.Paired.{AllHold, HasAll, AllPaired}
+use Rattle.hq_audit.specs.Refused.{IsUnshown, IsFirstUnshown, IsRefused, no_of_order}
+use Rattle.hq_audit.specs.Lawful.{OrderedIsNotRefused}
+
+-- ---- the certificate
+
+abbrev pub parts : List ℕ → List model.Line → List model.Pair → Certificate
+parts order lines pairs = record { order = order; lines = lines; pairs = pairs }
+
+has_pairs : (job : Job) (order : List ℕ) (lines : List model.Line) (pairs : List model.Pair) (p r : ℕ) → HasAll job pairs p r → HasPairs job (parts order lines pairs) p r
+has_pairs job order lines pairs p r h = λ kind c. let x = h kind c in record { k = x.k; pair = x.pair; there = x.there; first = x.first; second = x.second; kind_is = x.kind_is }
+
+has_one : (job : Job) (order : List ℕ) (lines : List model.Line) (pairs : List model.Pair) (p r : ℕ) → HasAll job pairs p r ⊎ HasAll job pairs r p
+    → HasPairs job (parts order lines pairs) p r ⊎ HasPairs job (parts order lines pairs) r p
+has_one job order lines pairs p r (inl h) = inl (has_pairs job order lines pairs p r h)
+has_one job order lines pairs p r (inr h) = inr (has_pairs job order lines pairs r p h)
+
+pub cert_holds : (job : Job) (order : List ℕ) (lines : List model.Line) (pairs : List model.Pair) → OrderList job order → AllFollow job lines → AllHold job lines pairs → AllPaired job pairs → CertHolds job (parts order lines pairs)
+cert_holds job order lines pairs o f h a = record {
+  order = o;
+  lines = λ k line e. f k line e;
+  conflicts = λ p r kind low is c. has_one job order lines pairs p r (a p r low is);
+  pairs = h;
+}
+
+pub cert_same : (job : Job) (c : Certificate) (order : List ℕ) (lines : List model.Line) (pairs : List model.Pair) → c.order ≡ order → c.lines ≡ lines → c.pairs ≡ pairs → CertHolds job (parts order lines pairs) → CertHolds job c
+cert_same job c order lines pairs e f g h =
+    subst (λ o. CertHolds job (parts o c.lines c.pairs)) (sym e)
+    (subst (λ ls. CertHolds job (parts order ls c.pairs)) (sym f)
+    (subst (λ ps. CertHolds job (parts order lines ps)) (sym g) h))
+
+-- ---- refusals
+
+turned : (job : Job) (kind : Conflict) (a b : ℕ) → Conflicts job kind b a → (other : Conflict) × Conflicts job other a b
+turned job WriteRead a b c = (ReadWrite, (c.0, c.2, c.1))
+turned job WriteWrite a b c = (WriteWrite, (c.0, c.2, c.1))
+turned job ReadWrite a b c = (WriteRead, (c.0, c.2, c.1))
+
+conflict_there : (job : Job) (a b : ℕ) (u : Unshown) → IsUnshown job a b u → (kind : Conflict) × Conflicts job kind a b
+conflict_there job a b u i = elim i.which [
+  | inl w ↦ turned job (conflict_of u.fault.kind) a b (subst (λ x. Conflicts job (conflict_of u.fault.kind) x a) w.1 (subst (λ x. Conflicts job (conflict_of u.fault.kind) u.p x) w.2 i.fault.conflicts))
+  | inr w ↦ (conflict_of u.fault.kind, subst (λ x. Conflicts job (conflict_of u.fault.kind) x b) w.1 (subst (λ x. Conflicts job (conflict_of u.fault.kind) u.p x) w.2 i.fault.conflicts))
+]
+
+never_unshown : (job : Job) (u : Unshown) → Ordered job → IsFirstUnshown job u → ⊥
+never_unshown job u o f =
+    let c = conflict_there job f.a f.row.b u f.row.unshown in
+    f.row.unshown.neither (o.shown f.a f.row.b c.0 f.row.above f.row.is_packet c.1)
+
+pub ordered_is_not_refused : OrderedIsNotRefused
+ordered_is_not_refused job (audit.Stuck packets) o r = absurd (r.no_order o.list o.order)
+ordered_is_not_refused job (audit.Conflict p r kind why) o h = absurd (never_unshown job (record { p = p; r = r; fault = record { kind = kind; why = why } }) o h.1)
+ordered_is_not_refused job audit.Memory o r = refl
+
+-- ---- what a fault turns into
+
+pub order_refused : (job : Job) (e : OrderFault) → StuckWhereSo job e → IsRefused job (no_of_order e)
+order_refused job (order.Stuck packets) h = h
+order_refused job order.Memory h = tt
+
+pub err_of : {A : Type 0} (P : AuditNo → Type 0) (result : Result A AuditNo) (v : AuditNo) → IsErrAnd result (λ e. e ≡ v) → P v → IfErr result P
+err_of P (Ok x) v h p = tt
+err_of P (Err e) v h p = subst P (sym h) p

@@ -1,0 +1,61 @@
+-- The fences of pair lines, with what they cite.
+use Rattle.std.proofs.Common.{ℕ, List, length, Option, Some, None}
+use Rattle.hq_cert.specs.declared.citation.Citation.{Citation}
+use Rattle.hq_cert.specs.View.{cited}
+use Rattle.hq_packet.specs.declared.packet.Scope.{Scope}
+use Rattle.hq_model.specs.Job.{Job, packet}
+use Rattle.hq_model.specs.Fence.{Releases, Acquires}
+use Rattle.hq_model.specs.Certificate.{Line, Says, Cites, Fits, Fences, FencesHold, ReleaseHolds, AcquireHolds}
+use Rattle.hq_model.specs.Certificate.Fences.{ForReadWrite, ForWriteWrite, ForWriteRead, ForWriteWriteChained, ForWriteReadChained}
+use Rattle.hq_audit.specs.declared.lines.Lines.{Lines}
+use Rattle.hq_audit.specs.Kept.{lines_of, Grown, Goes, Numbered}
+use Rattle.hq_audit.specs.Paired.{Cited}
+use Rattle.hq_audit.proofs.Growing.{says_more, cites_more}
+
+-- ---- as lines are added
+
+pub release_more : (job : Job) (old new : List Line) (p r x x2 : ℕ) (link : Option ℕ) → Grown old new → ReleaseHolds job old p r x x2 link → ReleaseHolds job new p r x x2 link
+release_more job old new p r x x2 None g h = h
+release_more job old new p r x x2 (Some link) g h = (h.0, h.1, says_more old new (length old) (length new) link x x2 g g.len h.2, h.3)
+
+pub acquire_more : (job : Job) (old new : List Line) (p r y2 y : ℕ) (link : Option ℕ) → Grown old new → AcquireHolds job old p r y2 y link → AcquireHolds job new p r y2 y link
+acquire_more job old new p r y2 y None g h = h
+acquire_more job old new p r y2 y (Some link) g h = (h.0, h.1, says_more old new (length old) (length new) link y2 y g g.len h.2, h.3)
+
+pub fences_more : (job : Job) (old new : List Line) (p r : ℕ) (fences : Fences) → Grown old new → FencesHold job old p r fences → FencesHold job new p r fences
+fences_more job old new p r (ForReadWrite line) g h = says_more old new (length old) (length new) line p r g g.len h
+fences_more job old new p r (ForWriteWrite x from on) g h =
+    (h.0, cites_more old new (length old) (length new) from p x g g.len h.1, says_more old new (length old) (length new) on x r g g.len h.2)
+fences_more job old new p r (ForWriteRead x y from between to) g h = (
+  h.0,
+  h.1,
+  cites_more old new (length old) (length new) from p x g g.len h.2,
+  says_more old new (length old) (length new) between x y g g.len h.3,
+  cites_more old new (length old) (length new) to y r g g.len h.4,
+)
+fences_more job old new p r (ForWriteWriteChained x x2 from link on) g h =
+    (release_more job old new p r x x2 (Some link) g h.0, cites_more old new (length old) (length new) from p x g g.len h.1, says_more old new (length old) (length new) on x2 r g g.len h.2)
+fences_more job old new p r (ForWriteReadChained x x2 y2 y from link between link2 to) g h = (
+  h.0,
+  release_more job old new p r x x2 link g h.1,
+  acquire_more job old new p r y2 y link2 g h.2,
+  cites_more old new (length old) (length new) from p x g g.len h.3,
+  says_more old new (length old) (length new) between x2 y2 g g.len h.4,
+  cites_more old new (length old) (length new) to y r g g.len h.5,
+)
+
+-- ---- fits
+
+pub release_fits : (job : Job) (p x : ℕ) (needed : Scope) → Releases job p x needed → Fits job p x (packet job x).release needed
+release_fits job p x needed h = record { is_packet = h.is_packet; queue = h.queue; scope_reaches = h.scope_reaches }
+
+pub acquire_fits : (job : Job) (r y : ℕ) (needed : Scope) → Acquires job r y needed → Fits job r y (packet job y).acquire needed
+acquire_fits job r y needed h = record { is_packet = h.is_packet; queue = h.queue; scope_reaches = h.scope_reaches }
+
+-- ---- what is cited
+
+pub says_later : (job : Job) (a b d : Lines) (p r k : ℕ) → Numbered job a b p r k → Goes job b d → Says (lines_of d) (length (lines_of d)) k p r
+says_later job a b d p r k n g = says_more (lines_of b) (lines_of d) (length (lines_of b)) (length (lines_of d)) k p r g.grown g.grown.len n.says
+
+pub cites_later : (job : Job) (a b d : Lines) (p x : ℕ) (c : Citation) → Cited job a b p x c → Goes job b d → Cites (lines_of d) (length (lines_of d)) (cited c) p x
+cites_later job a b d p x c n g = cites_more (lines_of b) (lines_of d) (length (lines_of b)) (length (lines_of d)) (cited c) p x g.grown g.grown.len n.cites

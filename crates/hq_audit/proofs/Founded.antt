@@ -1,0 +1,135 @@
+-- What comes before a packet in a round rests on what comes in lower rounds.
+use Rattle.std.proofs.Common.{ℕ, zero, suc, ◌<◌, inl, inr, length, refl, sym, subst, arith, Some, None, Option}
+use Rattle.std.specs.Prelude.{MatchOption, IsSome}
+use Rattle.std.proofs.lemmas.Bool.{cases_lt}
+use Rattle.hq_model.specs.Job.{Job, IsPacket, Earlier}
+use Rattle.hq_model.specs.Order.{Before, Branch}
+use Rattle.hq_model.specs.Order.Before.{by_bit_of as bit_of, by_bit_ahead as bit_ahead, by_queue as queued, by_and as waits_one, by_or as waits_each, through}
+use Rattle.hq_model.specs.Order.Branch.{itself, after}
+use Rattle.hq_order.specs.Rounds.{Direct, Next, Within, Reaches, ByEither, IsFirstWithin}
+use Rattle.hq_order.specs.Rounds.Precedes.{by_bit_of, by_bit_ahead, by_queue}
+use Rattle.hq_order.specs.Rounds.Awaits.{by_and, by_or}
+use Rattle.hq_order.specs.Rounds.Next.{by_known, by_either, through as joining}
+use Rattle.hq_order.proofs.Single.{direct_packet, direct_packet_r}
+use Rattle.hq_order.proofs.Closure.{within_before}
+use Rattle.hq_audit.specs.Rests.{Below, ByBit, ByQueue, BySlot, ByBranch, ByMiddle}
+
+-- ---- what is within a round is of packets
+
+next_second : (job : Job) (k p r : ℕ) → ((p r : ℕ) → Within job k p r → IsPacket job r) → Next job (Within job k) p r → IsPacket job r
+next_second job k p r f (by_known w) = f p r w
+next_second job k p r f (by_either e) = e.some.2.is_packet
+next_second job k p r f (joining {m} a b) = f m r b
+
+pub within_second : (job : Job) (k p r : ℕ) → Within job k p r → IsPacket job r
+within_second job zero p r w = direct_packet_r job p r w
+within_second job (suc k) p r w = next_second job k p r (within_second job k) w
+
+next_first : (job : Job) (k p r : ℕ) → ((p r : ℕ) → Within job k p r → IsPacket job p) → Next job (Within job k) p r → IsPacket job p
+next_first job k p r f (by_known w) = f p r w
+next_first job k p r f (by_either e) =
+    let x = e.each e.some.0 e.some.1 e.some.2 in
+    elim x.upto [ inl same ↦ subst (IsPacket job) (sym same) x.decrements.is_packet | inr w ↦ f p x.d w ]
+next_first job k p r f (joining {m} a b) = f p m a
+
+pub within_first : (job : Job) (k p r : ℕ) → Within job k p r → IsPacket job p
+within_first job zero p r w = direct_packet job p r (direct_packet_r job p r w) w
+within_first job (suc k) p r w = next_first job k p r (within_first job k) w
+
+-- ---- so is what is before
+
+pub before_second : (job : Job) (p r : ℕ) → Before job p r → IsPacket job r
+before_second job p r (bit_of e b) = e.is_packet
+before_second job p r (bit_ahead e b f) = f.is_packet
+before_second job p r (queued e b) = e.is_packet
+before_second job p r (waits_one k d c) = d.is_packet
+before_second job p r (waits_each k d f) = d.is_packet
+before_second job p r (through {m} b c) = before_second job m r c
+
+earlier_first : (job : Job) (p r : ℕ) → Earlier job p r → IsPacket job p
+earlier_first job p r e = let a : p < r = e.ahead in let b : r < length job.packets = e.is_packet in omega arith
+
+mutual
+  first_of : (job : Job) {p r : ℕ} → Before job p r → IsPacket job p
+  first_of job (bit_of {p = p} {r = r} e b) = earlier_first job p r e
+  first_of job (bit_ahead {p = p} {j = j} e b f) = earlier_first job p j e
+  first_of job (queued {p = p} {r = r} e b) = earlier_first job p r e
+  first_of job (waits_one k d c) = c.is_packet
+  first_of job (waits_each {slot = slot} {s = s} k d f) = branch_first job (f slot s d)
+  first_of job (through b c) = first_of job b
+
+  branch_first : (job : Job) {p s : ℕ} → Branch job p s → IsPacket job p
+  branch_first job (itself d) = d.is_packet
+  branch_first job (after d b) = first_of job b
+
+pub before_first : (job : Job) (p r : ℕ) → Before job p r → IsPacket job p
+before_first job p r b = first_of job b
+
+-- ---- lower rounds
+
+pub below_before : (job : Job) (round p r : ℕ) → Below job round p r → Before job p r
+below_before job round p r b = within_before job b.k p r b.within
+
+pub below_is_first : (job : Job) (round p r : ℕ) → Below job round p r → IsPacket job p
+below_is_first job round p r b = within_first job b.k p r b.within
+
+pub below_is_second : (job : Job) (round p r : ℕ) → Below job round p r → IsPacket job r
+below_is_second job round p r b = within_second job b.k p r b.within
+
+pub below_first : (job : Job) (round k p r : ℕ) → IsFirstWithin job k p r → k < round → Below job round p r
+below_first job round k p r f l = record { k = k; lower = l; within = f.within }
+
+pub first_below : (job : Job) (round k p r : ℕ) → IsFirstWithin job k p r → Below job round p r → k < round
+first_below job round k p r f b = elim (cases_lt b.k k) [
+  | inl low ↦ absurd (f.first b.k low b.within)
+  | inr high ↦ let l : b.k < round = b.lower in omega arith
+]
+
+-- ---- the reasons
+
+pub branch_reaches : (job : Job) (round p s d : ℕ) → ByBranch job round p s d → Reaches job (Below job round) p s
+branch_reaches job round p s d b = record { d = d; decrements = b.decrements; upto = b.upto }
+
+pub reaches_branch : (job : Job) (round p s : ℕ) (x : Reaches job (Below job round) p s) → ByBranch job round p s x.d
+reaches_branch job round p s x = record { decrements = x.decrements; upto = x.upto }
+
+pub record Refuted (job : Job) (round p r : ℕ) : Type 0 where
+  pub no_bit : (j : ℕ) → ByBit job p r j → ⊥
+  pub no_queue : ByQueue job p r → ⊥
+  pub no_slot : (slot : ℕ) → BySlot job p r slot → ⊥
+  pub no_either : ByEither job (Below job round) p r → ⊥
+  pub no_middle : (m : ℕ) → ByMiddle job round p r m → ⊥
+
+not_direct : (job : Job) (round p r : ℕ) → Refuted job round p r → Direct job p r → ⊥
+not_direct job round p r n (inl (by_bit_of e b)) = n.no_bit r (record { earlier = e; bit = b; upto = inl refl })
+not_direct job round p r n (inl (by_bit_ahead {j} e b f)) = n.no_bit j (record { earlier = e; bit = b; upto = inr f })
+not_direct job round p r n (inl (by_queue e b)) = n.no_queue (record { earlier = e; barrier = b })
+not_direct job round p r n (inr (by_and {slot} {s} k d c)) = n.no_slot slot (record { s = s; kind = k; dependency = d; decrements = c })
+not_direct job round p r n (inr (by_or {slot} {s} k d all)) =
+    n.no_either (record { kind = k; some = (slot, s, d); each = λ slot s d. record { d = p; decrements = all slot s d; upto = inl refl } })
+
+under : (job : Job) (k p r : ℕ) → Within job k p r → Below job (suc k) p r
+under job k p r w = record { k = k; lower = omega arith; within = w }
+
+not_next : (job : Job) (k p r : ℕ) → Refuted job (suc k) p r → (Within job k p r → ⊥) → Next job (Within job k) p r → ⊥
+not_next job k p r n ban (by_known w) = ban w
+not_next job k p r n ban (by_either e) =
+    n.no_either (record {
+      kind = e.kind;
+      some = e.some;
+      each = λ slot s d.
+          let x = e.each slot s d in
+          record { d = x.d; decrements = x.decrements; upto = elim x.upto [ inl same ↦ inl same | inr w ↦ inr (under job k p x.d w) ] };
+    })
+not_next job k p r n ban (joining {m} a b) = n.no_middle m (record { first = under job k p m a; second = under job k m r b })
+
+-- What comes first in a round has one of the reasons.
+pub never_refuted : (job : Job) (round p r : ℕ) → IsFirstWithin job round p r → Refuted job round p r → ⊥
+never_refuted job zero p r f n = not_direct job zero p r n f.within
+never_refuted job (suc k) p r f n = not_next job k p r n (f.first k (omega arith)) f.within
+
+-- ---- a search that can't fail
+
+pub some_there : (o : Option ℕ) (A : Type 0) (Q : ℕ → Type 0) → MatchOption o A Q → (A → ⊥) → IsSome o
+some_there None A Q h ban = absurd (ban h)
+some_there (Some x) A Q h ban = refl

@@ -1,0 +1,6 @@
+pub mod Rests
+pub mod Kept
+pub mod Marked
+pub mod Paired
+pub mod Refused
+pub mod Lawful

@@ -1,0 +1,74 @@
+//! The audit of a job.
+
+ghost use Rattle.std.specs.Prelude.{◌≡◌, ℕ, IfOk, IfErr, IsOk};
+ghost use Rattle.hq_job.specs.Plan.{plan};
+ghost use Rattle.hq_model.specs.Certificate.{CertHolds};
+ghost use Rattle.hq_model.specs.Fence.{Ordered};
+ghost use Rattle.hq_model.specs.Order.{OrderList};
+ghost use Rattle.hq_audit.specs.Marked.{Marked};
+ghost use Rattle.hq_audit.specs.Refused.{AllShown, IsRefused};
+ghost use Rattle.hq_audit.specs.declared.fault.AuditNo.TheVariants.{Memory};
+
+use crate::fault::AuditNo;
+use crate::lines::Lines;
+use crate::marking::need_all;
+use crate::needs::Needs;
+use crate::pairs::all_pairs;
+use hq_cert::Certificate;
+use hq_job::Job;
+use hq_order::{Before, schedule};
+use std::alloc::{AllocError, Global};
+
+/// The numbers in 32 bits.
+fn widened(alloc: Global, numbers: &[u16]) -> Result<Vec<u32>, AllocError>
+    ensures { IfOk result (λ wide. wide.items ≡ numbers.now) }
+{
+    let mut wide = Vec::with_capacity(alloc, numbers.len())?;
+    for number in numbers {
+        wide.push(u32::from(*number))?;
+    }
+    Ok(wide)
+}
+
+/// The certificate of an order list and of these needs, which has so many pair lines.
+fn certified(
+    alloc: Global,
+    before: &Before,
+    order: &[u16],
+    needs: Needs,
+    room: usize,
+) -> Result<Certificate, AllocError>
+    requires order { OrderList before.now order.now }
+    requires marked { Marked before.now needs }
+    requires shown { AllShown before.now }
+    ensures { IfOk result (λ c. CertHolds before.now c) }
+{
+    let facts = needs.facts(alloc, before)?;
+    let mut lines = Lines::new(alloc, before, facts.len())?;
+    lines.add_all(alloc, before, &facts)?;
+    drop(facts);
+    let pairs = all_pairs(&mut lines, alloc, before, room)?;
+    let order = widened(alloc, order)?;
+    Ok(Certificate::new(order, lines.into_lines(), pairs))
+}
+
+/// The certificate of a job's order.
+///
+/// # Errors
+///
+/// `Stuck` with the packets that can never complete, rising, where there are such; else `Conflict` with the first two packets, by
+/// number, that conflict and that no fences order in either direction; `Memory`.
+pub fn audit(alloc: Global, job: &Job) -> Result<Certificate, AuditNo>
+    ensures holds { IfOk result (λ c. CertHolds (plan job.now) c) }
+    ensures refused { IfErr result (λ no. IsRefused (plan job.now) no) }
+    ensures ordered { Ordered (plan job.now) → IfErr result (λ no. no ≡ Memory) }
+    ensures exact { IsOk result → Ordered (plan job.now) }
+{
+    job.valid();
+    let order = schedule(alloc, job)?;
+    let before = Before::build(alloc, job)?;
+    let mut needs = Needs::new(alloc, &before)?;
+    let room = need_all(&mut needs, &before)?;
+    let certificate = certified(alloc, &before, &order, needs, room)?;
+    Ok(certificate)
+}

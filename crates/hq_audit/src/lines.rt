@@ -1,0 +1,246 @@
+//! The lines of a certificate, gathered.
+
+ghost use Rattle.std.specs.Prelude.{◌≡◌, ℕ, ◌+◌, ◌*◌, ◌^◌, ◌<◌, ◌≤◌, ◌++◌, ◌∷◌, [], All, IfOk, OnOk, MatchOption, Some, length, slice_get, slice_index, slice_set};
+ghost use Rattle.hq_cert.specs.View.{rule_of};
+ghost use Rattle.hq_model.specs.Job.{packet};
+ghost use Rattle.hq_model.specs.Job.{IsPacket};
+ghost use Rattle.hq_model.specs.Job.Kind.{BarrierOr};
+ghost use Rattle.hq_model.specs.Certificate.{signals};
+ghost use Rattle.hq_model.specs.Order as order;
+ghost use Rattle.hq_order.specs.Rounds.{IsFirstWithin, Reaches, ByEither};
+ghost use Rattle.hq_audit.specs.Rests.{Below, ByMiddle};
+ghost use Rattle.hq_audit.specs.Marked.{IsFact};
+ghost use Rattle.hq_audit.specs.Kept.{lines_of, spot, Kept, Numbered, Ruled, Branched, AllBranched};
+
+use crate::grounds::{Ground, branch_of, ground_of};
+use crate::needs::Fact;
+use hq_cert::{Branches, Citation, Line, Rule};
+use hq_order::Before;
+use std::alloc::{AllocError, Global};
+
+/// How many places a row of the table has: the most packets that a job has.
+pub const WIDTH: usize = 1024;
+
+/// More lines than there can be.
+const LIMIT: usize = 1_048_577;
+
+/// The lines so far.
+#[derive(Drop)]
+pub struct Lines {
+    /// At p times the width plus r, one more than the number of the line that p is before r, or 0 where there is none.
+    numbers: Vec<u32>,
+    lines: Vec<Line>,
+}
+
+/// The first round in which p is before r.
+pub fn round_of(before: &Before, p: usize, r: usize) -> usize
+    requires { order.Before before.now p r }
+    ensures { IsFirstWithin before.now result p r }
+{
+    before.round(p, r).unwrap()
+}
+
+impl Lines {
+    /// No lines, with room for so many.
+    pub fn new(alloc: Global, before: &Before, room: usize) -> Result<Lines, AllocError>
+        ensures { IfOk result (λ l. Kept before.now l) }
+    {
+        before.job().valid();
+        let numbers = vec![in alloc; 0; before.len() * WIDTH]?;
+        let lines = Vec::with_capacity(alloc, room)?;
+        Ok(Lines { numbers, lines })
+    }
+
+    /// Adds a line for each fact, and before it those that it cites.
+    pub fn add_all(
+        &mut self,
+        alloc: Global,
+        before: &Before,
+        facts: &[Fact],
+    ) -> Result<(), AllocError>
+        requires kept { Kept before.now self.old }
+        requires facts { All (IsFact before.now) facts.now }
+        ensures { OnOk result (Kept before.now self.new) }
+    {
+        for fact in facts {
+            let round = round_of(before, fact.p as usize, fact.r as usize);
+            self.number(alloc, before, round, fact.p as usize, fact.r as usize)?;
+        }
+        Ok(())
+    }
+
+    /// The lines, by number.
+    pub fn into_lines(self) -> Vec<Line>
+        ensures { result.items ≡ self.lines.items }
+    {
+        self.lines
+    }
+
+    /// The number of the line that p is before r, if there is one.
+    fn known(&self, p: usize, r: usize) -> Option<u32>
+        requires { spot p r < length self.now.numbers.items }
+        ensures { MatchOption result (Unit {0}) (λ k. (slice_index self.now.numbers.items (spot p r) ≡ k + 1) × (k + 1 < 2 ^ 32)) }
+    {
+        match self.numbers[p * WIDTH + r] {
+            0 => None,
+            next => Some(next - 1),
+        }
+    }
+
+    /// Adds a line, and answers its number.
+    fn add(&mut self, p: usize, r: usize, rule: Rule) -> Result<u32, AllocError>
+        requires spot { spot p r < length self.old.numbers.items }
+        requires p_is { p < 1024 }
+        requires r_is { r < 1024 }
+        ensures lines { IfOk result (λ _. lines_of self.new ≡ lines_of self.old ++ record { p = p; r = r; rule = rule_of rule } ∷ []) }
+        ensures numbers { IfOk result (λ k. self.new.numbers.items ≡ slice_set self.old.numbers.items (spot p r) (k + 1)) }
+        ensures number { IfOk result (λ k. k ≡ length (lines_of self.old)) }
+        ensures small { IfOk result (λ k. k + 1 < 2 ^ 32) }
+    {
+        let number = self.lines.len();
+        if number >= LIMIT {
+            return Err(AllocError);
+        }
+        let line = Line {
+            p: p as u32,
+            r: r as u32,
+            rule,
+        };
+        self.lines.push(line)?;
+        self.numbers[p * WIDTH + r] = number as u32 + 1;
+        Ok(number as u32)
+    }
+
+    /// The number of the line that p is before r, which comes first in this round. Where there is none yet, it goes in, behind
+    /// those that it cites.
+    #[cycle(number)]
+    pub fn number(
+        &mut self,
+        alloc: Global,
+        before: &Before,
+        round: usize,
+        p: usize,
+        r: usize,
+    ) -> Result<u32, AllocError>
+        requires kept { Kept before.now self.old }
+        requires first { IsFirstWithin before.now round p r }
+        ensures { IfOk result (λ k. Numbered before.now self.old self.new p r k) }
+    {
+        if let Some(number) = self.known(p, r) {
+            return Ok(number);
+        }
+        let rule = self.rule(alloc, before, round, p, r)?;
+        self.add(p, r, rule)
+    }
+
+    /// The rule by which p is before r, with the lines that it cites.
+    #[cycle(number)]
+    #[tactic(auto, using(crate::proofs::Founded::within_first))]
+    fn rule(
+        &mut self,
+        alloc: Global,
+        before: &Before,
+        round: usize,
+        p: usize,
+        r: usize,
+    ) -> Result<Rule, AllocError>
+        requires kept { Kept before.now self.old }
+        requires first { IsFirstWithin before.now round p r }
+        ensures { IfOk result (λ rule. Ruled before.now self.old self.new p r rule) }
+    {
+        match ground_of(before, round, p, r) {
+            Ground::Bit(j) => Ok(Rule::Bit(j as u32)),
+            Ground::Queue => Ok(Rule::Queue),
+            Ground::And(slot) => Ok(Rule::And(slot as u32)),
+            Ground::Or => self.either(alloc, before, round, p, r),
+            Ground::Through(m) => self.through(alloc, before, round, p, m, r),
+        }
+    }
+
+    /// The rule that p is before m, and m before r.
+    #[cycle(number)]
+    fn through(
+        &mut self,
+        alloc: Global,
+        before: &Before,
+        round: usize,
+        p: usize,
+        m: usize,
+        r: usize,
+    ) -> Result<Rule, AllocError>
+        requires kept { Kept before.now self.old }
+        requires middle { ByMiddle before.now round p r m }
+        ensures { IfOk result (λ rule. Ruled before.now self.old self.new p r rule) }
+    {
+        let first = self.number(alloc, before, round_of(before, p, m), p, m)?;
+        let second = self.number(alloc, before, round_of(before, m, r), m, r)?;
+        Ok(Rule::Through(first, second))
+    }
+
+    /// The rule that p is complete whichever dependency of r is over.
+    #[cycle(number)]
+    fn either(
+        &mut self,
+        alloc: Global,
+        before: &Before,
+        round: usize,
+        p: usize,
+        r: usize,
+    ) -> Result<Rule, AllocError>
+        requires kept { Kept before.now self.old }
+        requires p_is { IsPacket before.now p }
+        requires either { ByEither before.now (Below before.now round) p r }
+        ensures { IfOk result (λ rule. Ruled before.now self.old self.new p r rule) }
+    {
+        let waiting = before.job().packet(r);
+        let citations = self.branches(alloc, before, round, p, &waiting.slots)?;
+        Ok(Rule::Or(Box::new(alloc, Branches { citations })?))
+    }
+
+    /// What is cited for each of the signals.
+    #[cycle(number)]
+    fn branches(
+        &mut self,
+        alloc: Global,
+        before: &Before,
+        round: usize,
+        p: usize,
+        slots: &[Option<u16>],
+    ) -> Result<Vec<Citation>, AllocError>
+        requires kept { Kept before.now self.old }
+        requires p_is { IsPacket before.now p }
+        requires each { (slot s : ℕ) → slice_get slots.now slot ≡ Some (Some s) → Reaches before.now (Below before.now round) p s }
+        ensures { IfOk result (λ citations. AllBranched before.now self.old self.new p (signals slots.now) citations.items) }
+    {
+        let mut citations = Vec::new(alloc);
+        for slot in slots {
+            if let Some(signal) = slot {
+                citations.push(self.branch(alloc, before, round, p, *signal)?)?;
+            }
+        }
+        Ok(citations)
+    }
+
+    /// What is cited for a signal.
+    #[cycle(number)]
+    fn branch(
+        &mut self,
+        alloc: Global,
+        before: &Before,
+        round: usize,
+        p: usize,
+        signal: u16,
+    ) -> Result<Citation, AllocError>
+        requires kept { Kept before.now self.old }
+        requires p_is { IsPacket before.now p }
+        requires reaches { Reaches before.now (Below before.now round) p signal }
+        ensures { IfOk result (λ citation. Branched before.now self.old self.new p signal citation) }
+    {
+        let d = branch_of(before, round, p, signal).unwrap();
+        if d == p {
+            return Ok(Citation::same());
+        }
+        let number = self.number(alloc, before, round_of(before, p, d), p, d)?;
+        Ok(Citation::line(number))
+    }
+}

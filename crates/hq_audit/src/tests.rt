@@ -1,0 +1,42 @@
+use super::*;
+use hq_cert::{Fences, Rule};
+use hq_job::read_text;
+use std::test::*;
+
+#[test]
+fn two_stores_with_a_barrier_bit(rt: HostRuntime) -> Result<(), Fail> {
+    let text =
+        b"hsaq 1\nagent a\nbuffer b 16 16\nqueue q a 4\npacket 04150080000000001000000000000000000000000000000000000000000000000000000000000000000000000000000000000000000000000000000000000000\npacket 04150080000000001000000000000000000000000000000000000000000000000000000000000000000000000000000000000000000000000000000000000000\nend";
+    let job = read_text(rt.alloc(), text)?;
+    let certificate = audit(rt.alloc(), &job)?;
+    assert_eq!(rt; certificate.order(), [0, 1].as_slice());
+    let [line] = certificate.lines() else {
+        return Err("one line".into());
+    };
+    assert!(rt; line.p == 0 && line.r == 1);
+    assert!(rt; matches!(&line.rule, Rule::Bit(1)));
+    let [pair] = certificate.pairs() else {
+        return Err("one pair line".into());
+    };
+    assert!(rt; pair.p == 0 && pair.r == 1);
+    let Fences::WriteWrite { x, from, on } = &pair.fences else {
+        return Err("two writes".into());
+    };
+    assert!(rt; *x == 0 && *on == 0);
+    assert_eq!(rt; from.number(), None);
+    Ok(())
+}
+
+#[test]
+fn two_stores_in_no_order(rt: HostRuntime) -> Result<(), Fail> {
+    let text =
+        b"hsaq 1\nagent a\nbuffer b 16 16\nqueue q a 4\npacket 04140080000000001000000000000000000000000000000000000000000000000000000000000000000000000000000000000000000000000000000000000000\npacket 04140080000000001000000000000000000000000000000000000000000000000000000000000000000000000000000000000000000000000000000000000000\nend";
+    let job = read_text(rt.alloc(), text)?;
+    let Err(AuditNo::Conflict { p, r, kind, why }) = audit(rt.alloc(), &job) else {
+        return Err("no conflict".into());
+    };
+    assert!(rt; p == 0 && r == 1);
+    assert_eq!(rt; kind, Kind::WriteWrite);
+    assert_eq!(rt; why, Why::Unordered);
+    Ok(())
+}

@@ -1,0 +1,13 @@
+pub mod Each
+pub mod Cuts
+pub mod Turns
+pub mod Parts
+pub mod LinesRead
+pub mod PairsRead
+pub mod States
+pub mod Wholes
+pub mod Puts
+pub mod Split
+pub mod Reasons
+pub mod Late
+pub mod Nine

@@ -1,0 +1,9 @@
+pub mod View
+pub mod Grammar
+pub mod LineTests
+pub mod TextFaults
+pub mod Gives
+pub mod DraftView
+pub mod Cited
+pub mod Printed
+pub mod LineForms

@@ -1,0 +1,40 @@
+-- The text that a certificate prints.
+use Rattle.std.specs.Prelude.{ℕ, Bool, true, false, List, [], ◌∷◌, ◌++◌}
+use Rattle.std.specs.List.{flat_map, list_any}
+use Rattle.hq_text.specs.Lines.{lines_of}
+use Rattle.hq_model.specs.Certificate as model
+use Rattle.hq_model.specs.Certificate.Fences.{ForReadWrite, ForWriteWrite, ForWriteRead, ForWriteWriteChained, ForWriteReadChained}
+use Rattle.hq_cert.specs.Grammar.{certificate_words, CertificateFits, CertText}
+
+-- each word behind a space
+abbrev pub spaced : List (List ℕ) → List ℕ
+spaced words = flat_map (λ word. 32 ∷ word) words
+
+-- a line's words with a space between two, and a line feed
+abbrev pub line_text : List (List ℕ) → List ℕ
+line_text [] = 10 ∷ []
+line_text (word ∷ words) = word ++ (spaced words ++ 10 ∷ [])
+
+-- each line behind the other
+abbrev pub lines_text : List (List (List ℕ)) → List ℕ
+lines_text lines = flat_map line_text lines
+
+-- fences that are chained
+abbrev pub is_chain : model.Fences → Bool
+is_chain (ForReadWrite line) = false
+is_chain (ForWriteWrite x from on) = false
+is_chain (ForWriteRead x y from between to) = false
+is_chain (ForWriteWriteChained x x2 from link on) = true
+is_chain (ForWriteReadChained x x2 y2 y from link between link2 to) = true
+
+-- a chained pair line is there
+abbrev pub has_chain : model.Certificate → Bool
+has_chain c = list_any (λ pair. is_chain pair.fences) c.pairs
+
+-- The text, which begins `hsac 2` exactly where a chained pair line is there.
+abbrev pub text_of : model.Certificate → List ℕ
+text_of c = lines_text (certificate_words (has_chain c) c)
+
+-- What a certificate prints is its text.
+abbrev pub ReadBack : Type 0
+ReadBack = (c : model.Certificate) → CertificateFits (has_chain c) c → CertText (lines_of (text_of c)) c

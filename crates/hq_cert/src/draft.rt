@@ -1,0 +1,198 @@
+//! A certificate as far as it is read.
+
+ghost use Rattle.std.specs.Prelude.{◌≡◌, ◌&&◌, ◌^◌, ◌<◌, true, false, map, length, IfOk, Ok};
+ghost use Rattle.hq_cert.specs.LineTests.{head_said, order_said};
+ghost use Rattle.hq_cert.specs.TextFaults.{start, add_head, add_order, add_line, add_pair, add_end, add_behind, add_content, added, is_ended, read_of};
+ghost use Rattle.hq_cert.specs.DraftView.{state_of};
+ghost use Rattle.hq_cert.specs.Gives.{Gives};
+
+use crate::certificate::{Certificate, Line, Pair};
+use crate::fault::CertReason;
+use crate::operands::numbers_said;
+use crate::pairs::pair_said;
+use crate::rules::line_said;
+use std::alloc::Global;
+
+/// What may come next.
+#[derive(Clone, Copy, Debug, PartialEq, Eq)]
+pub enum Stage {
+    Head,
+    Order,
+    Lines,
+    Pairs,
+    Ended,
+}
+
+/// A certificate as far as it is read.
+#[derive(Drop)]
+pub struct Draft {
+    stage: Stage,
+    chained: bool,
+    order: Vec<u32>,
+    lines: Vec<Line>,
+    pairs: Vec<Pair>,
+}
+
+/// Whether chained pair lines may stand, by the first line.
+#[tactic(auto, unfolding(crate::specs::LineTests::head_said))]
+fn head_said(words: &[&[u8]]) -> Result<bool, CertReason>
+    ensures { result ≡ head_said (map (λ w. w.now) words.now) }
+{
+    match words {
+        [name, version] if *name == b"hsac".as_slice() && *version == b"1".as_slice() => Ok(false),
+        [name, version] if *name == b"hsac".as_slice() && *version == b"2".as_slice() => Ok(true),
+        _ => Err(CertReason::Word),
+    }
+}
+
+#[tactic(auto, unfolding(crate::specs::LineTests::order_said))]
+fn order_said(alloc: Global, words: &[&[u8]]) -> Result<Vec<u32>, CertReason>
+    ensures { Gives (λ v. v.items) result (order_said (map (λ w. w.now) words.now)) }
+{
+    let Some((name, numbers)) = words.split_first() else {
+        return Err(CertReason::Word);
+    };
+    if *name == b"order".as_slice() && numbers.len() <= 1024 {
+        numbers_said(alloc, numbers)
+    } else {
+        Err(CertReason::Word)
+    }
+}
+
+impl Draft {
+    /// The draft before the first line.
+    pub fn new(alloc: Global) -> Draft
+        ensures { state_of result ≡ start }
+    {
+        Draft {
+            stage: Stage::Head,
+            chained: false,
+            order: Vec::new(alloc),
+            lines: Vec::new(alloc),
+            pairs: Vec::new(alloc),
+        }
+    }
+
+    /// How many lines there are, as the number of the next one.
+    fn count(&self) -> Result<u32, CertReason>
+        ensures { Gives (λ n. n) result (Ok (length (state_of self.now).lines)) }
+    {
+        if self.lines.len() > 4_294_967_295 {
+            return Err(CertReason::Memory);
+        }
+        Ok(self.lines.len() as u32)
+    }
+
+    #[tactic(auto, unfolding(crate::specs::TextFaults::add_head))]
+    fn add_head(&mut self, words: &[&[u8]]) -> Result<(), CertReason>
+        ensures { Gives (λ u. state_of self.new) result (add_head (state_of self.old) (map (λ w. w.now) words.now)) }
+    {
+        self.chained = head_said(words)?;
+        self.stage = Stage::Order;
+        Ok(())
+    }
+
+    #[tactic(auto, unfolding(crate::specs::TextFaults::add_order))]
+    fn add_order(&mut self, alloc: Global, words: &[&[u8]]) -> Result<(), CertReason>
+        ensures { Gives (λ u. state_of self.new) result (add_order (state_of self.old) (map (λ w. w.now) words.now)) }
+    {
+        self.order = order_said(alloc, words)?;
+        self.stage = Stage::Lines;
+        Ok(())
+    }
+
+    #[tactic(auto, unfolding(crate::specs::TextFaults::add_line))]
+    fn add_line(&mut self, alloc: Global, words: &[&[u8]]) -> Result<(), CertReason>
+        ensures { Gives (λ u. state_of self.new) result (add_line (state_of self.old) (map (λ w. w.now) words.now)) }
+    {
+        let line = line_said(alloc, self.count()?, words)?;
+        self.lines.push(line)?;
+        self.stage = Stage::Lines;
+        Ok(())
+    }
+
+    #[tactic(auto, unfolding(crate::specs::TextFaults::add_pair))]
+    fn add_pair(&mut self, alloc: Global, words: &[&[u8]]) -> Result<(), CertReason>
+        ensures { Gives (λ u. state_of self.new) result (add_pair (state_of self.old) (map (λ w. w.now) words.now)) }
+    {
+        let pair = pair_said(alloc, self.chained, self.count()?, words)?;
+        self.pairs.push(pair)?;
+        self.stage = Stage::Pairs;
+        Ok(())
+    }
+
+    #[tactic(auto, unfolding(crate::specs::TextFaults::add_end))]
+    fn add_end(&mut self, words: &[&[u8]]) -> Result<(), CertReason>
+        ensures { Gives (λ u. state_of self.new) result (add_end (state_of self.old) (map (λ w. w.now) words.now)) }
+    {
+        match words {
+            [] => {
+                self.stage = Stage::Ended;
+                Ok(())
+            }
+            _ => Err(CertReason::Word),
+        }
+    }
+
+    /// A pair line or the end.
+    #[tactic(auto, unfolding(crate::specs::TextFaults::add_behind))]
+    fn add_behind(
+        &mut self,
+        alloc: Global,
+        first: &[u8],
+        others: &[&[u8]],
+    ) -> Result<(), CertReason>
+        ensures { Gives (λ u. state_of self.new) result (add_behind (state_of self.old) first.now (map (λ w. w.now) others.now)) }
+    {
+        if first == b"pair".as_slice() {
+            self.add_pair(alloc, others)
+        } else if first == b"end".as_slice() {
+            self.add_end(others)
+        } else {
+            Err(CertReason::Word)
+        }
+    }
+
+    /// What stands behind the order, in a place where lines may stand still, or no more.
+    #[tactic(auto, unfolding(crate::specs::TextFaults::add_content))]
+    fn add_content(&mut self, alloc: Global, lines: bool, words: &[&[u8]]) -> Result<(), CertReason>
+        ensures { Gives (λ u. state_of self.new) result (add_content lines (state_of self.old) (map (λ w. w.now) words.now)) }
+    {
+        let Some((first, others)) = words.split_first() else {
+            return Err(CertReason::Word);
+        };
+        if *first == b"line".as_slice() && lines {
+            self.add_line(alloc, others)
+        } else {
+            self.add_behind(alloc, first, others)
+        }
+    }
+
+    /// Takes in the next line, by its words.
+    #[tactic(auto, unfolding(crate::specs::TextFaults::added))]
+    pub fn add(&mut self, alloc: Global, words: &[&[u8]]) -> Result<(), CertReason>
+        ensures { Gives (λ u. state_of self.new) result (added (state_of self.old) (map (λ w. w.now) words.now)) }
+    {
+        match self.stage {
+            Stage::Head => self.add_head(words),
+            Stage::Order => self.add_order(alloc, words),
+            Stage::Lines => self.add_content(alloc, true, words),
+            Stage::Pairs => self.add_content(alloc, false, words),
+            Stage::Ended => Err(CertReason::Word),
+        }
+    }
+
+    /// Whether the end was read.
+    pub fn is_ended(&self) -> bool
+        ensures { result ≡ is_ended (state_of self.now) }
+    {
+        matches!(self.stage, Stage::Ended)
+    }
+
+    /// What was read.
+    pub fn certificate(self) -> Certificate
+        ensures { result ≡ read_of (state_of self) }
+    {
+        Certificate::new(self.order, self.lines, self.pairs)
+    }
+}

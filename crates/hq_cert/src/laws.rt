@@ -1,0 +1,38 @@
+//! What the texts of certificates have in common, each law the contract of a function.
+
+ghost use Rattle.hq_cert.specs.TextFaults.{OneCertificate, FaultlessWhereCertificate, OneFirstFault};
+ghost use Rattle.hq_cert.specs.LineForms.{WordMeans, CitationMeans};
+ghost use Rattle.hq_cert.specs.Printed.{ReadBack};
+
+/// A text is one certificate's.
+pub fn one_certificate()
+    ensures { OneCertificate }
+{}
+
+/// A certificate's text has no fault.
+pub fn faultless_where_certificate()
+    ensures { FaultlessWhereCertificate }
+{}
+
+/// A text has one first fault.
+pub fn one_first_fault()
+    ensures { OneFirstFault }
+{}
+
+/// What a certificate prints is its text, and so is read as the same certificate. What the certificate must keep is what a text
+/// can say: numbers of 32 bits, at most 1,024 of them in the order, 1 to 5 branches, lines that cite below themselves, and pair
+/// lines that cite lines that are there.
+pub fn read_back()
+    ensures { ReadBack }
+{}
+
+/// A line is refused for its words exactly where they have no form that may stand there, whatever their numbers are.
+pub fn word_means()
+    ensures { WordMeans }
+{}
+
+/// A line that is refused for what it cites is right but for that: it spells a line or a pair line, with numbers of 32 bits, that
+/// cites a line that isn't there. So a wrong number is told first.
+pub fn citation_means()
+    ensures { CitationMeans }
+{}

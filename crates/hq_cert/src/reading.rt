@@ -1,0 +1,112 @@
+//! Texts to certificates.
+
+ghost use Rattle.std.specs.Prelude.{◌≡◌, ◌+◌, ◌<◌, ◌≤◌, ◌⊎◌, ◌∷◌, map, length, position, IfOk, IfErr, OnOk};
+ghost use Rattle.hq_text.specs.Lines.{lines_of, words_of, is_line_feed};
+ghost use Rattle.hq_model.specs.Certificate as model;
+ghost use Rattle.hq_cert.specs.DraftView.{state_of};
+ghost use Rattle.hq_cert.specs.Gives.{Gives, GivesCertificate, TakesAll, no_memory};
+ghost use Rattle.hq_cert.specs.Grammar.{CertText};
+ghost use Rattle.hq_cert.specs.TextFaults.{FirstFault, added, at_line, start};
+
+use crate::certificate::Certificate;
+use crate::draft::Draft;
+use crate::fault::{CertFault, CertReason};
+use std::alloc::{AllocError, Global};
+
+/// A fault at a line, or out of memory at line 0.
+fn fault_at(line: usize, reason: CertReason) -> CertFault
+    ensures { ((reason ≡ CertReason.Memory) × (result ≡ no_memory)) ⊎ ((¬ (reason ≡ CertReason.Memory)) × (result ≡ at_line line reason)) }
+{
+    let line = match reason {
+        CertReason::Memory => 0,
+        _ => line,
+    };
+    CertFault { line, reason }
+}
+
+/// Where the first line feed stands.
+fn line_end(text: &[u8]) -> Option<usize>
+    ensures { result ≡ position is_line_feed text.now }
+{
+    text.iter().position(|b| *b == b'\n')
+}
+
+/// The first line of a text that isn't empty, and the text behind it.
+fn first_line(text: &[u8]) -> (&[u8], &[u8])
+    requires { 0 < length text.now }
+    ensures cut { lines_of text.now ≡ result.0.now ∷ lines_of result.1.now }
+    ensures shorter { length result.1.now < length text.now }
+{
+    match line_end(text) {
+        Some(at) => (&text[..at], &text[at + 1..]),
+        None => (text, &text[text.len()..]),
+    }
+}
+
+/// Puts a line's words in the place of those that are there.
+fn split_words<'a>(words: &mut Vec<&'a [u8]>, line: &'a [u8]) -> Result<(), AllocError>
+    ensures { OnOk result (map (λ w. w.now) words.new.items ≡ words_of line.now) }
+{
+    words.clear();
+    words.extend(line.split(|b| *b == b' '))
+}
+
+/// Takes in the next line.
+fn take_line<'a>(
+    draft: &mut Draft,
+    alloc: Global,
+    words: &mut Vec<&'a [u8]>,
+    line: &'a [u8],
+) -> Result<(), CertReason>
+    ensures { Gives (λ u. state_of draft.new) result (added (state_of draft.old) (words_of line.now)) }
+{
+    split_words(words, line)?;
+    draft.add(alloc, words)
+}
+
+/// Takes in all lines of a text.
+fn take_lines(draft: &mut Draft, alloc: Global, text: &[u8]) -> Result<usize, CertFault>
+    requires { state_of draft.old ≡ start }
+    ensures taken { TakesAll result (lines_of text.now) (state_of draft.new) }
+    ensures count { IfOk result (λ n. n ≤ length text.now) }
+{
+    let mut words = Vec::new(alloc);
+    let mut rest = text;
+    let mut count = 0;
+    while !rest.is_empty() {
+        let (line, behind) = first_line(rest);
+        count += 1;
+        if let Err(reason) = take_line(draft, alloc, &mut words, line) {
+            return Err(fault_at(count, reason));
+        }
+        rest = behind;
+    }
+    Ok(count)
+}
+
+fn read(alloc: Global, text: &[u8]) -> Result<Certificate, CertFault>
+    ensures found { IfOk result (λ c. CertText (lines_of text.now) c) }
+    ensures fault { IfErr result (λ f. (f ≡ no_memory) ⊎ FirstFault (lines_of text.now) f) }
+{
+    let mut draft = Draft::new(alloc);
+    let count = take_lines(&mut draft, alloc, text)?;
+    if draft.is_ended() {
+        Ok(draft.certificate())
+    } else {
+        Err(CertFault {
+            line: count + 1,
+            reason: CertReason::NoEnd,
+        })
+    }
+}
+
+/// The certificate that a text is, or the first faulty line. Where memory runs out, that is the fault, at line 0; so it is where
+/// a certificate has more lines than 32 bits number.
+pub fn parse(alloc: Global, text: &[u8]) -> Result<Certificate, CertFault>
+    ensures found { IfOk result (λ c. CertText (lines_of text.now) c) }
+    // The certificate of a text is read, unless memory runs out.
+    ensures only { (c : model.Certificate) → CertText (lines_of text.now) c → GivesCertificate (λ c. c) result c }
+    ensures fault { IfErr result (λ f. (f ≡ no_memory) ⊎ FirstFault (lines_of text.now) f) }
+{
+    read(alloc, text)
+}

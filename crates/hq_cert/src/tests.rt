@@ -1,0 +1,71 @@
+use super::*;
+use std::alloc::Global;
+use std::process::Abort;
+use std::test::*;
+
+/// Every form of line, in the form that is printed.
+const TEXT: &[u8] =
+    b"hsac 2\norder 0 1 2 3\nline 0 0 1 bit 0\nline 1 1 2 queue\nline 2 2 3 and 0\nline 3 0 2 or = 1\nline 4 0 2 through 0 1\npair 0 1 rw 0\npair 0 3 ww 0 = 2\npair 1 3 wr 1 2 = 1 2\npair 0 3 wwc 0 1 = 0 2\npair 0 3 wrc 0 1 2 3 = 0 1 2 =\nend\n";
+
+#[test]
+fn printed_again(rt: HostRuntime) -> Result<(), Fail> {
+    let certificate = parse(rt.alloc(), TEXT)?;
+    assert_eq!(rt; certificate.order().len(), 4);
+    assert_eq!(rt; certificate.lines().len(), 5);
+    assert_eq!(rt; certificate.pairs().len(), 5);
+    let mut text = Vec::new(rt.alloc());
+    print(rt.alloc(), &certificate, &mut text)?;
+    assert!(rt; text.as_slice() == TEXT);
+    Ok(())
+}
+
+#[test]
+fn plain_head(rt: HostRuntime) -> Result<(), Fail> {
+    let certificate = parse(rt.alloc(), b"hsac 2\norder\nend")?;
+    let mut text = Vec::new(rt.alloc());
+    print(rt.alloc(), &certificate, &mut text)?;
+    assert!(rt; text.as_slice() == b"hsac 1\norder\nend\n".as_slice());
+    Ok(())
+}
+
+fn is_fault(rt: &impl Abort, alloc: Global, text: &[u8], line: usize, reason: CertReason) {
+    match parse(alloc, text) {
+        Ok(_) => assert!(rt; false),
+        Err(fault) => assert!(rt; fault == CertFault { line, reason }),
+    }
+}
+
+#[test]
+fn faults(rt: HostRuntime) {
+    for (text, line, reason) in [
+        (b"".as_slice(), 1, CertReason::NoEnd),
+        (b"hsac 1\norder", 3, CertReason::NoEnd),
+        (b"hsac 3\n", 1, CertReason::Word),
+        (b"hsac 1\norder\nend\n\n", 4, CertReason::Word),
+        (b"hsac 1\norder \nend\n", 2, CertReason::Number),
+        (
+            b"hsac 1\norder\npair 0 1 wwc 0 0 = 0 0\n",
+            3,
+            CertReason::Word,
+        ),
+        (b"hsac 1\norder\nline 1 0 1 bit 0\n", 3, CertReason::Number),
+        (
+            b"hsac 1\norder\nline 0 0 1 through = 0\n",
+            3,
+            CertReason::Number,
+        ),
+        (
+            b"hsac 1\norder\nline 0 0 4294967296 or 0\n",
+            3,
+            CertReason::Number,
+        ),
+        (b"hsac 1\norder\nline 0 0 1 or 0\n", 3, CertReason::Citation),
+        (
+            b"hsac 1\norder\npair 0 1 rw 0\nend\n",
+            3,
+            CertReason::Citation,
+        ),
+    ] {
+        is_fault(&rt, rt.alloc(), text, line, reason);
+    }
+}

@@ -1,0 +1,9 @@
+pub mod Saying
+pub mod Zipped
+pub mod Firsts
+pub mod Tables
+pub mod Orders
+pub mod Flags
+pub mod Refusing
+pub mod Counting
+pub mod Leasts

@@ -1,0 +1,38 @@
+-- Lines and pair lines that follow from a list of lines, and the first that don't.
+use Rattle.std.specs.Prelude.{◌≡◌, ℕ, ◌<◌, List, length, Option, Some, slice_get}
+use Rattle.hq_packet.specs.declared.packet.Scope.TheVariants as scope
+use Rattle.hq_model.specs.Job.{Job, IsPacket, Decrements}
+use Rattle.hq_model.specs.Fence.{need}
+use Rattle.hq_model.specs.Certificate.{Line, Pair, Cites, Follows, FencesHold}
+
+-- p is, or comes before, a packet that completes on the signal, as the branch says.
+abbrev pub HoldsFor : Job → List Line → ℕ → ℕ → ℕ → Option ℕ → Type 0
+HoldsFor job lines limit p s branch = (d : ℕ) × Decrements job d s × Cites lines limit branch p d
+
+-- Line k follows by its rule from lines of lower number.
+abbrev pub LineFollows : Job → List Line → ℕ → Type 0
+LineFollows job lines k = (line : Line) → slice_get lines k ≡ Some line → Follows job lines k line.p line.r line.rule
+
+-- Line k is the least that doesn't.
+pub record FirstBadLine (job : Job) (lines : List Line) (k : ℕ) : Type 0 where
+  pub there : k < length lines
+  pub bad : ¬ LineFollows job lines k
+  pub first : (j : ℕ) → j < k → LineFollows job lines j
+
+-- A fence between p and r needs to reach the whole system.
+abbrev pub NeedsSystem : Job → ℕ → ℕ → Type 0
+NeedsSystem job p r = need job p r ≡ scope.System
+
+-- What the pair line cites concludes what its kind asks.
+abbrev pub PairFollows : Job → List Line → Pair → Type 0
+PairFollows job lines pair = IsPacket job pair.p × IsPacket job pair.r × FencesHold job lines pair.p pair.r pair.fences
+
+-- The first of the pair lines that don't hold, in their order, names p and r.
+pub record FirstBadPair (job : Job) (lines : List Line) (pairs : List Pair) (p r : ℕ) : Type 0 where
+  pub k : ℕ
+  pub pair : Pair
+  pub there : slice_get pairs k ≡ Some pair
+  pub first_is : pair.p ≡ p
+  pub second_is : pair.r ≡ r
+  pub bad : ¬ PairFollows job lines pair
+  pub first : (j : ℕ) (other : Pair) → j < k → slice_get pairs j ≡ Some other → PairFollows job lines other

@@ -1,0 +1,39 @@
+//! What the lines of a certificate say.
+
+ghost use Rattle.std.specs.Prelude.{◌≡◌, ℕ, ◌<◌, ◌↔◌, IsTrue, Some, map, length};
+ghost use Rattle.hq_cert.specs.View.{line_of, cited};
+ghost use Rattle.hq_model.specs.Certificate.{Says, Cites};
+
+use hq_cert::{Citation, Line};
+
+/// The packet that p comes before by line k, if the line stands below the limit and speaks of p.
+pub fn follower(lines: &[Line], limit: usize, k: usize, p: usize) -> Option<usize>
+    ensures { (r : ℕ) → (result ≡ Some r) ↔ Says (map line_of lines.now) limit k p r }
+{
+    let line = lines.get(k)?;
+    if k < limit && line.p as usize == p {
+        Some(line.r as usize)
+    } else {
+        None
+    }
+}
+
+/// Whether line k, below the limit, concludes that p comes before r.
+pub fn says(lines: &[Line], limit: usize, k: usize, p: usize, r: usize) -> bool
+    ensures { IsTrue result ↔ Says (map line_of lines.now) limit k p r }
+{
+    match follower(lines, limit, k, p) {
+        Some(number) => number == r,
+        None => false,
+    }
+}
+
+/// Whether the citation concludes that p is r, or comes before it.
+pub fn cites(lines: &[Line], limit: usize, citation: Citation, p: usize, r: usize) -> bool
+    ensures { IsTrue result ↔ Cites (map line_of lines.now) limit (cited citation) p r }
+{
+    match citation.number() {
+        Some(k) => says(lines, limit, k as usize, p, r),
+        None => p == r,
+    }
+}

@@ -1,0 +1,29 @@
+//! Checks certificates of order.
+//!
+//! `check` says whether a certificate holds of a job. Where it does, every run of the job leaves the same memory, whoever made the
+//! certificate.
+#![tactic(auto)]
+
+mod accepted;
+mod checking;
+mod citing;
+mod fault;
+pub mod laws;
+mod lines;
+mod missing;
+mod order;
+mod packets;
+mod pairs;
+mod placing;
+mod rings;
+mod steps;
+mod waits;
+mod wide;
+
+pub use accepted::Accepted;
+pub use checking::check;
+pub use fault::CheckNo;
+pub use wide::check_wide;
+
+#[cfg(test)]
+mod tests;

@@ -1,0 +1,144 @@
+//! Lines of a certificate, one by one.
+
+ghost use Rattle.std.specs.Prelude.{◌≡◌, ℕ, ◌<◌, ◌↔◌, IsTrue, [], map, length, MatchOption};
+ghost use Rattle.std.specs.List.{AllZip};
+ghost use Rattle.hq_cert.specs.View.{line_of, rule_of, cited};
+ghost use Rattle.hq_job.specs.Plan.{plan};
+ghost use Rattle.hq_model.specs.Job.{IsPacket};
+ghost use Rattle.hq_model.specs.Certificate as certificate;
+ghost use Rattle.hq_model.specs.Certificate.{Follows, signals};
+ghost use Rattle.hq_model.specs.Certificate.Rule.{Bit as ByBit, Queue as ByQueue, And as ByAnd, Or as ByOr, Through as ByThrough};
+ghost use Rattle.hq_certcheck.specs.Listed.{HoldsFor, LineFollows, FirstBadLine};
+
+use crate::citing::{follower, says};
+use crate::packets::{
+    completes_on, dependency, has_bit, is_and, is_barrier, is_earlier, is_or, is_packet, slots,
+};
+use hq_cert::{Citation, Line, Rule};
+use hq_job::Job;
+
+/// Whether p comes before r by the barrier bit of j.
+fn by_bit(job: &Job, p: usize, j: usize, r: usize) -> bool
+    ensures { IsTrue result ↔ Follows (plan job.now) [] 0 p r (ByBit j) }
+{
+    is_earlier(job, p, j) && has_bit(job, j) && (j == r || is_earlier(job, j, r))
+}
+
+/// Whether p comes before r since it is a barrier packet of the same queue.
+fn by_queue(job: &Job, p: usize, r: usize) -> bool
+    ensures { IsTrue result ↔ Follows (plan job.now) [] 0 p r ByQueue }
+{
+    is_earlier(job, p, r) && is_barrier(job, p)
+}
+
+/// Whether r is a barrier-AND, and p completes on the dependency in this slot of it.
+fn by_and(job: &Job, p: usize, slot: usize, r: usize) -> bool
+    ensures { IsTrue result ↔ Follows (plan job.now) [] 0 p r (ByAnd slot) }
+{
+    match dependency(job, r, slot) {
+        Some(signal) => is_and(job, r) && completes_on(job, p, signal),
+        None => false,
+    }
+}
+
+/// Whether p is what the branch says, or comes before it, and that completes on the signal.
+fn holds_for(
+    job: &Job,
+    lines: &[Line],
+    limit: usize,
+    p: usize,
+    signal: u16,
+    branch: Citation,
+) -> bool
+    ensures { IsTrue result ↔ HoldsFor (plan job.now) (map line_of lines.now) limit p signal (cited branch) }
+{
+    match branch.number() {
+        None => completes_on(job, p, signal),
+        Some(k) => match follower(lines, limit, k as usize, p) {
+            Some(number) => completes_on(job, number, signal),
+            None => false,
+        },
+    }
+}
+
+/// Whether there is a branch that holds for each signal of the slots, in their order, and no more.
+fn hold_for_each(
+    job: &Job,
+    lines: &[Line],
+    limit: usize,
+    p: usize,
+    slots: &[Option<u16>],
+    branches: &[Citation],
+) -> bool
+    ensures { IsTrue result ↔ AllZip (HoldsFor (plan job.now) (map line_of lines.now) limit p) (signals slots.now) (map cited branches.now) }
+{
+    let mut next = 0;
+    for slot in slots {
+        if let Some(signal) = slot {
+            if next >= branches.len() {
+                return false;
+            }
+            if !holds_for(job, lines, limit, p, *signal, branches[next]) {
+                return false;
+            }
+            next += 1;
+        }
+    }
+    next == branches.len()
+}
+
+/// Whether r is a barrier-OR whose dependencies have these branches.
+fn by_or(job: &Job, lines: &[Line], limit: usize, p: usize, r: usize, branches: &[Citation]) -> bool
+    ensures { IsTrue result ↔ Follows (plan job.now) (map line_of lines.now) limit p r (ByOr (map cited branches.now)) }
+{
+    is_packet(job, r)
+        && is_or(job, r)
+        && hold_for_each(job, lines, limit, p, slots(job, r), branches)
+}
+
+/// Whether the first line says that p comes before a packet, and the second that this comes before r.
+fn through(lines: &[Line], limit: usize, p: usize, r: usize, first: usize, second: usize) -> bool
+    ensures { IsTrue result ↔ ((m : ℕ) × certificate.Says (map line_of lines.now) limit first p m × certificate.Says (map line_of lines.now) limit second m r) }
+{
+    match follower(lines, limit, first, p) {
+        Some(middle) => says(lines, limit, second, middle, r),
+        None => false,
+    }
+}
+
+/// Whether the line follows by its rule from lines below the limit.
+fn follows(job: &Job, lines: &[Line], limit: usize, line: &Line) -> bool
+    ensures { IsTrue result ↔ Follows (plan job.now) (map line_of lines.now) limit line.now.p line.now.r (rule_of line.now.rule) }
+{
+    let p = line.p as usize;
+    let r = line.r as usize;
+    match &line.rule {
+        Rule::Bit(j) => by_bit(job, p, *j as usize, r),
+        Rule::Queue => by_queue(job, p, r),
+        Rule::And(slot) => by_and(job, p, *slot as usize, r),
+        Rule::Or(branches) => by_or(job, lines, limit, p, r, &branches.citations),
+        Rule::Through(first, second) => {
+            through(lines, limit, p, r, *first as usize, *second as usize)
+        }
+    }
+}
+
+/// Whether line k holds: it follows by its rule from lines of lower number.
+pub fn line_holds(job: &Job, lines: &[Line], k: usize) -> bool
+    requires { k < length lines.now }
+    ensures { IsTrue result ↔ LineFollows (plan job.now) (map line_of lines.now) k }
+{
+    follows(job, lines, k, &lines[k])
+}
+
+/// The least line that doesn't hold.
+pub fn first_bad_line(job: &Job, lines: &[Line]) -> Option<usize>
+    ensures { MatchOption result ((k : ℕ) → LineFollows (plan job.now) (map line_of lines.now) k) (FirstBadLine (plan job.now) (map line_of lines.now)) }
+{
+    for k in 0..lines.len() {
+        if !line_holds(job, lines, k) {
+            return Some(k);
+        }
+    }
+    None
+}

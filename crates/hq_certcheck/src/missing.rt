@@ -1,0 +1,176 @@
+//! Conflicts that have no pair lines.
+
+ghost use Rattle.std.specs.Prelude.{◌≡◌, ℕ, ◌+◌, ◌*◌, ◌<◌, ◌≤◌, ◌↔◌, ◌⊎◌, IsTrue, IfOk, MatchOption, false, map, length};
+ghost use Rattle.hq_cert.specs.View.{pair_of, fences_of};
+ghost use Rattle.hq_job.specs.Plan.{plan};
+ghost use Rattle.hq_model.specs.Job.{IsPacket};
+ghost use Rattle.hq_model.specs.Fence.{Conflict, Conflicts};
+ghost use Rattle.hq_model.specs.Certificate.{kind_of};
+ghost use Rattle.hq_certcheck.specs.Covering.{Covered, FirstMissing, has_kind, cell, AreListed, IsMarked, AreFlagged, IsFlagged, AllFlagged, FirstUnflaggedAfter, FirstUnflagged, NoneMissing};
+
+use hq_cert::{Certificate, Fences, Pair};
+use hq_footprint::Kinds;
+use hq_job::Job;
+use std::alloc::{AllocError, Global};
+
+/// No kind of conflict.
+const NONE: Kinds = Kinds {
+    wr: false,
+    ww: false,
+    rw: false,
+};
+
+/// The flags, and that of the fences' kind of conflict.
+fn with_kind(kinds: Kinds, fences: &Fences) -> Kinds
+    ensures { (kind : Conflict) → IsTrue (has_kind kind result) ↔ (IsTrue (has_kind kind kinds) ⊎ (kind_of (fences_of fences.now) ≡ kind)) }
+{
+    let mut kinds = kinds;
+    match fences {
+        Fences::ReadWrite(_) => kinds.rw = true,
+        Fences::WriteWrite { .. } => kinds.ww = true,
+        Fences::WriteRead { .. } => kinds.wr = true,
+        Fences::WriteWriteChained(_) => kinds.ww = true,
+        Fences::WriteReadChained(_) => kinds.wr = true,
+    }
+    kinds
+}
+
+/// Where the flags of p and r stand, in a table of so many rows.
+fn place(count: usize, p: usize, r: usize) -> usize
+    requires few { count ≤ 1024 }
+    requires p_is { p < count }
+    requires r_is { r < count }
+    ensures place { result ≡ p * count + r }
+    ensures below { result < count * count }
+{
+    p * count + r
+}
+
+/// Sets the flag of a pair line, unless it names packets that there aren't.
+fn mark(cells: &mut [Kinds], count: usize, pair: &Pair)
+    requires few { count ≤ 1024 }
+    requires len { length cells.old ≡ count * count }
+    ensures { IsMarked (pair_of pair.now) count cells.old cells.new }
+{
+    let p = pair.p as usize;
+    let r = pair.r as usize;
+    if p < count && r < count {
+        let place = place(count, p, r);
+        cells[place] = with_kind(cells[place], &pair.fences);
+    }
+}
+
+/// Sets the flags of the pair lines.
+fn mark_all(cells: &mut [Kinds], count: usize, pairs: &[Pair])
+    requires few { count ≤ 1024 }
+    requires empty { AreListed (map pair_of pairs.now) 0 count cells.old }
+    ensures { let found = map pair_of pairs.now in AreListed found (length found) count cells.new }
+{
+    for pair in pairs {
+        mark(cells, count, pair);
+    }
+}
+
+/// The kinds that have pair lines, for each two packets.
+fn listed(alloc: Global, count: usize, pairs: &[Pair]) -> Result<Vec<Kinds>, AllocError>
+    requires { count ≤ 1024 }
+    ensures { let found = map pair_of pairs.now in IfOk result (λ cells. AreListed found (length found) count cells.items) }
+{
+    let mut cells = vec![in alloc; NONE; count * count]?;
+    mark_all(&mut cells, count, pairs);
+    Ok(cells)
+}
+
+/// Whether a kind that is found is listed.
+fn keeps(found: bool, listed: bool) -> bool
+    ensures keeps { IsTrue result ↔ (IsTrue found → IsTrue listed) }
+    ensures some { result ≡ false → IsTrue found }
+{
+    !found || listed
+}
+
+/// Whether all kinds that are found are listed.
+fn covers(found: Kinds, listed: Kinds) -> bool
+    ensures all { IsTrue result ↔ ((kind : Conflict) → IsTrue (has_kind kind found) → IsTrue (has_kind kind listed)) }
+    ensures some { result ≡ false → ((kind : Conflict) × IsTrue (has_kind kind found)) }
+{
+    if !keeps(found.wr, listed.wr) {
+        return false;
+    }
+    if !keeps(found.ww, listed.ww) {
+        return false;
+    }
+    keeps(found.rw, listed.rw)
+}
+
+/// Whether each kind of conflict of p with r has its flag.
+fn are_flagged(job: &Job, cells: &[Kinds], p: usize, r: usize) -> bool
+    requires len { length cells.now ≡ length job.now.packets * length job.now.packets }
+    requires p_is { p < length job.now.packets }
+    requires r_is { r < length job.now.packets }
+    ensures all { IsTrue result ↔ AreFlagged (plan job.now) cells.now (length job.now.packets) p r }
+    ensures some { result ≡ false → ((kind : Conflict) × Conflicts (plan job.now) kind p r) }
+{
+    job.valid();
+    let listed = cells[place(job.packets().len(), p, r)];
+    covers(job.kinds(p, r), listed)
+}
+
+/// Whether each conflict of p with r has its flags, all in one direction.
+fn is_flagged(job: &Job, cells: &[Kinds], p: usize, r: usize) -> bool
+    requires len { length cells.now ≡ length job.now.packets * length job.now.packets }
+    requires p_is { p < length job.now.packets }
+    requires r_is { r < length job.now.packets }
+    ensures { IsTrue result ↔ IsFlagged (plan job.now) cells.now (length job.now.packets) p r }
+{
+    are_flagged(job, cells, p, r) || are_flagged(job, cells, r, p)
+}
+
+/// The least packet after p whose conflicts with p lack flags.
+fn first_unflagged_after(job: &Job, cells: &[Kinds], p: usize) -> Option<usize>
+    requires len { length cells.now ≡ length job.now.packets * length job.now.packets }
+    requires p_is { p < length job.now.packets }
+    ensures { MatchOption result (AllFlagged (plan job.now) cells.now (length job.now.packets) p (length job.now.packets)) (λ r. FirstUnflaggedAfter (plan job.now) cells.now (length job.now.packets) p r) }
+{
+    for r in p + 1..job.packets().len() {
+        if !is_flagged(job, cells, p, r) {
+            return Some(r);
+        }
+    }
+    None
+}
+
+/// The first packets in number order whose conflicts lack flags.
+fn first_unflagged(job: &Job, cells: &[Kinds]) -> Option<(u16, u16)>
+    requires { length cells.now ≡ length job.now.packets * length job.now.packets }
+    ensures { MatchOption result ((p : ℕ) → p < length job.now.packets → AllFlagged (plan job.now) cells.now (length job.now.packets) p (length job.now.packets)) (λ found. FirstUnflagged (plan job.now) cells.now (length job.now.packets) found.0 found.1) }
+{
+    job.valid();
+    for p in 0..job.packets().len() {
+        if let Some(r) = first_unflagged_after(job, cells, p) {
+            return Some((p as u16, r as u16));
+        }
+    }
+    None
+}
+
+/// The first packets in number order whose conflicts lack pair lines, by the table.
+fn missing_by(job: &Job, certificate: &Certificate, cells: &[Kinds]) -> Option<(u16, u16)>
+    requires { AreListed certificate.now.pairs (length certificate.now.pairs) (length job.now.packets) cells.now }
+    ensures { MatchOption result (NoneMissing (plan job.now) certificate.now) (λ pair. FirstMissing (plan job.now) certificate.now pair.0 pair.1) }
+{
+    first_unflagged(job, cells)
+}
+
+/// The first packets in number order whose conflicts lack pair lines, in both directions.
+pub fn first_missing(
+    alloc: Global,
+    job: &Job,
+    certificate: &Certificate,
+) -> Result<Option<(u16, u16)>, AllocError>
+    ensures { IfOk result (λ found. MatchOption found (NoneMissing (plan job.now) certificate.now) (λ pair. FirstMissing (plan job.now) certificate.now pair.0 pair.1)) }
+{
+    job.valid();
+    let cells = listed(alloc, job.packets().len(), certificate.pairs())?;
+    Ok(missing_by(job, certificate, &cells))
+}

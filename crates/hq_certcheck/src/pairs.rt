@@ -1,0 +1,265 @@
+//! Pair lines of a certificate, one by one.
+
+ghost use Rattle.std.specs.Prelude.{◌≡◌, ℕ, ◌<◌, ◌↔◌, IsTrue, List, Some, None, map, length, MatchOption, All};
+ghost use Rattle.hq_cert.specs.View.{line_of, pair_of, fences_of, cited};
+ghost use Rattle.hq_job.specs.Plan.{plan};
+ghost use Rattle.hq_model.specs.Job.{packet, IsPacket};
+ghost use Rattle.hq_model.specs.Fence.{Forwards};
+ghost use Rattle.hq_model.specs.Certificate.{Fits, ReleaseHolds, AcquireHolds, FencesHold};
+ghost use Rattle.hq_model.specs.Certificate.Fences.{ForWriteWrite, ForWriteRead, ForWriteWriteChained, ForWriteReadChained};
+ghost use Rattle.hq_certcheck.specs.Listed.{PairFollows, FirstBadPair, NeedsSystem};
+
+use crate::citing::{cites, says};
+use crate::packets::{acquire, is_packet, need, reaches, release, same_agent, same_queue};
+use hq_cert::{Citation, Fences, Line, Pair, ReadChain, WriteChain};
+use hq_job::Job;
+use hq_packet::Scope;
+
+/// Whether x stands in p's queue, and releases as far as is needed.
+fn releases(job: &Job, p: usize, x: usize, needed: Scope) -> bool
+    requires { IsPacket (plan job.now) p }
+    ensures { IsTrue result ↔ Fits (plan job.now) p x (packet (plan job.now) x).release needed }
+{
+    is_packet(job, x) && same_queue(job, x, p) && reaches(release(job, x), needed)
+}
+
+/// Whether y stands in r's queue, and acquires from as far as is needed.
+fn acquires(job: &Job, r: usize, y: usize, needed: Scope) -> bool
+    requires { IsPacket (plan job.now) r }
+    ensures { IsTrue result ↔ Fits (plan job.now) r y (packet (plan job.now) y).acquire needed }
+{
+    is_packet(job, y) && same_queue(job, y, r) && reaches(acquire(job, y), needed)
+}
+
+/// Whether m stands on p's agent, and releases to the system.
+fn forwards(job: &Job, p: usize, m: usize) -> bool
+    requires { IsPacket (plan job.now) p }
+    ensures { IsTrue result ↔ Forwards (plan job.now) p m (packet (plan job.now) m).release }
+{
+    is_packet(job, m) && same_agent(job, m, p) && reaches(release(job, m), Scope::System)
+}
+
+/// Whether m stands on r's agent, and acquires from the system.
+fn fetches(job: &Job, r: usize, m: usize) -> bool
+    requires { IsPacket (plan job.now) r }
+    ensures { IsTrue result ↔ Forwards (plan job.now) r m (packet (plan job.now) m).acquire }
+{
+    is_packet(job, m) && same_agent(job, m, r) && reaches(acquire(job, m), Scope::System)
+}
+
+/// Whether a fence between two packets needs to reach the whole system.
+fn needs_system(job: &Job, p: usize, r: usize) -> bool
+    requires p_is { IsPacket (plan job.now) p }
+    requires r_is { IsPacket (plan job.now) r }
+    ensures { IsTrue result ↔ NeedsSystem (plan job.now) p r }
+{
+    need(job, p, r) == Scope::System
+}
+
+/// Whether p's release begins with x, and goes on to x2 by this line.
+fn release_goes_on(
+    job: &Job,
+    lines: &[Line],
+    p: usize,
+    r: usize,
+    x: usize,
+    x2: usize,
+    link: usize,
+) -> bool
+    requires p_is { IsPacket (plan job.now) p }
+    requires r_is { IsPacket (plan job.now) r }
+    ensures { IsTrue result ↔ ReleaseHolds (plan job.now) (map line_of lines.now) p r x x2 (Some link) }
+{
+    needs_system(job, p, r)
+        && releases(job, p, x, Scope::Agent)
+        && says(lines, lines.len(), link, x, x2)
+        && forwards(job, p, x2)
+}
+
+/// Whether p's release begins with x and ends with x2.
+fn release_holds(
+    job: &Job,
+    lines: &[Line],
+    p: usize,
+    r: usize,
+    x: usize,
+    x2: usize,
+    link: Citation,
+) -> bool
+    requires p_is { IsPacket (plan job.now) p }
+    requires r_is { IsPacket (plan job.now) r }
+    ensures { IsTrue result ↔ ReleaseHolds (plan job.now) (map line_of lines.now) p r x x2 (cited link) }
+{
+    match link.number() {
+        Some(link) => release_goes_on(job, lines, p, r, x, x2, link as usize),
+        None => x == x2 && releases(job, p, x, need(job, p, r)),
+    }
+}
+
+/// Whether r's acquire begins with y2, and goes on to y by this line.
+fn acquire_goes_on(
+    job: &Job,
+    lines: &[Line],
+    p: usize,
+    r: usize,
+    y2: usize,
+    y: usize,
+    link: usize,
+) -> bool
+    requires p_is { IsPacket (plan job.now) p }
+    requires r_is { IsPacket (plan job.now) r }
+    ensures { IsTrue result ↔ AcquireHolds (plan job.now) (map line_of lines.now) p r y2 y (Some link) }
+{
+    needs_system(job, p, r)
+        && fetches(job, r, y2)
+        && says(lines, lines.len(), link, y2, y)
+        && acquires(job, r, y, Scope::Agent)
+}
+
+/// Whether r's acquire begins with y2 and ends with y.
+fn acquire_holds(
+    job: &Job,
+    lines: &[Line],
+    p: usize,
+    r: usize,
+    y2: usize,
+    y: usize,
+    link: Citation,
+) -> bool
+    requires p_is { IsPacket (plan job.now) p }
+    requires r_is { IsPacket (plan job.now) r }
+    ensures { IsTrue result ↔ AcquireHolds (plan job.now) (map line_of lines.now) p r y2 y (cited link) }
+{
+    match link.number() {
+        Some(link) => acquire_goes_on(job, lines, p, r, y2, y, link as usize),
+        None => y2 == y && acquires(job, r, y, need(job, p, r)),
+    }
+}
+
+/// Whether x releases p, and comes before r.
+fn write_write(
+    job: &Job,
+    lines: &[Line],
+    p: usize,
+    r: usize,
+    x: usize,
+    from: Citation,
+    on: usize,
+) -> bool
+    requires p_is { IsPacket (plan job.now) p }
+    requires r_is { IsPacket (plan job.now) r }
+    ensures { IsTrue result ↔ FencesHold (plan job.now) (map line_of lines.now) p r (ForWriteWrite x (cited from) on) }
+{
+    releases(job, p, x, need(job, p, r))
+        && cites(lines, lines.len(), from, p, x)
+        && says(lines, lines.len(), on, x, r)
+}
+
+/// Whether x releases p, y acquires for r, and x comes before y.
+fn write_read(
+    job: &Job,
+    lines: &[Line],
+    p: usize,
+    r: usize,
+    x: usize,
+    y: usize,
+    from: Citation,
+    between: usize,
+    to: Citation,
+) -> bool
+    requires p_is { IsPacket (plan job.now) p }
+    requires r_is { IsPacket (plan job.now) r }
+    ensures { IsTrue result ↔ FencesHold (plan job.now) (map line_of lines.now) p r (ForWriteRead x y (cited from) between (cited to)) }
+{
+    let needed = need(job, p, r);
+    releases(job, p, x, needed)
+        && acquires(job, r, y, needed)
+        && cites(lines, lines.len(), from, p, x)
+        && says(lines, lines.len(), between, x, y)
+        && cites(lines, lines.len(), to, y, r)
+}
+
+/// Whether x and then x2 release p, and x2 comes before r.
+fn write_write_chained(job: &Job, lines: &[Line], p: usize, r: usize, chain: &WriteChain) -> bool
+    requires p_is { IsPacket (plan job.now) p }
+    requires r_is { IsPacket (plan job.now) r }
+    ensures { let c = chain.now in IsTrue result ↔ FencesHold (plan job.now) (map line_of lines.now) p r (ForWriteWriteChained c.x c.x2 (cited c.from) c.link c.on) }
+{
+    let x = chain.x as usize;
+    let x2 = chain.x2 as usize;
+    release_goes_on(job, lines, p, r, x, x2, chain.link as usize)
+        && cites(lines, lines.len(), chain.from, p, x)
+        && says(lines, lines.len(), chain.on as usize, x2, r)
+}
+
+/// Whether x and then x2 release p, y2 and then y acquire for r, and x2 comes before y2.
+fn write_read_chained(job: &Job, lines: &[Line], p: usize, r: usize, chain: &ReadChain) -> bool
+    requires p_is { IsPacket (plan job.now) p }
+    requires r_is { IsPacket (plan job.now) r }
+    ensures { let c = chain.now in IsTrue result ↔ FencesHold (plan job.now) (map line_of lines.now) p r (ForWriteReadChained c.x c.x2 c.y2 c.y (cited c.from) (cited c.link) c.between (cited c.link2) (cited c.to)) }
+{
+    let x = chain.x as usize;
+    let x2 = chain.x2 as usize;
+    let y2 = chain.y2 as usize;
+    let y = chain.y as usize;
+    needs_system(job, p, r)
+        && release_holds(job, lines, p, r, x, x2, chain.link)
+        && acquire_holds(job, lines, p, r, y2, y, chain.link2)
+        && cites(lines, lines.len(), chain.from, p, x)
+        && says(lines, lines.len(), chain.between as usize, x2, y2)
+        && cites(lines, lines.len(), chain.to, y, r)
+}
+
+/// Whether the fences order a conflict of p with r.
+fn fences_hold(job: &Job, lines: &[Line], p: usize, r: usize, fences: &Fences) -> bool
+    requires p_is { IsPacket (plan job.now) p }
+    requires r_is { IsPacket (plan job.now) r }
+    ensures { IsTrue result ↔ FencesHold (plan job.now) (map line_of lines.now) p r (fences_of fences.now) }
+{
+    match fences {
+        Fences::ReadWrite(line) => says(lines, lines.len(), *line as usize, p, r),
+        Fences::WriteWrite { x, from, on } => {
+            write_write(job, lines, p, r, *x as usize, *from, *on as usize)
+        }
+        Fences::WriteRead {
+            x,
+            y,
+            from,
+            between,
+            to,
+        } => write_read(
+            job,
+            lines,
+            p,
+            r,
+            *x as usize,
+            *y as usize,
+            *from,
+            *between as usize,
+            *to,
+        ),
+        Fences::WriteWriteChained(chain) => write_write_chained(job, lines, p, r, chain),
+        Fences::WriteReadChained(chain) => write_read_chained(job, lines, p, r, chain),
+    }
+}
+
+/// Whether the pair line holds: what it cites concludes what its kind asks.
+fn pair_holds(job: &Job, lines: &[Line], pair: &Pair) -> bool
+    ensures { IsTrue result ↔ PairFollows (plan job.now) (map line_of lines.now) (pair_of pair.now) }
+{
+    let p = pair.p as usize;
+    let r = pair.r as usize;
+    is_packet(job, p) && is_packet(job, r) && fences_hold(job, lines, p, r, &pair.fences)
+}
+
+/// The packets of the first pair line that doesn't hold.
+pub fn first_bad_pair(job: &Job, lines: &[Line], pairs: &[Pair]) -> Option<(u32, u32)>
+    ensures { MatchOption result (All (PairFollows (plan job.now) (map line_of lines.now)) (map pair_of pairs.now)) (λ bad. FirstBadPair (plan job.now) (map line_of lines.now) (map pair_of pairs.now) bad.0 bad.1) }
+{
+    for pair in pairs {
+        if !pair_holds(job, lines, pair) {
+            return Some((pair.p, pair.r));
+        }
+    }
+    None
+}

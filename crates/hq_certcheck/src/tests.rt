@@ -1,0 +1,54 @@
+use super::*;
+use hq_cert::{Certificate, Fences, Line, Pair, Rule};
+use hq_job::read_text;
+use std::test::*;
+
+#[test]
+fn two_barrier_packets(rt: HostRuntime) -> Result<(), Fail> {
+    let packet = format!(in rt.alloc(); "packet 03{:0126}\n", 0)?;
+    let text = format!(in rt.alloc(); "hsaq 1\nagent a\nqueue q a 4\n{packet}{packet}end")?;
+    let job = read_text(rt.alloc(), text.as_bytes())?;
+    let lines = vec![in rt.alloc();
+        Line {
+            p: 0,
+            r: 1,
+            rule: Rule::Queue
+        },
+    ]?;
+    let pairs = vec![in rt.alloc();
+        Pair {
+            p: 0,
+            r: 1,
+            fences: Fences::ReadWrite(0)
+        },
+    ]?;
+    let certificate = Certificate::new(vec![in rt.alloc(); 0, 1]?, lines, pairs);
+    let Ok(accepted) = check(rt.alloc(), job, &certificate) else {
+        return Err("a certificate that holds".into());
+    };
+    assert_eq!(rt; accepted.order(), [0, 1].as_slice());
+    assert_eq!(rt; accepted.bound(), 6);
+    Ok(())
+}
+
+#[test]
+fn a_line_that_cites_itself(rt: HostRuntime) -> Result<(), Fail> {
+    let job = read_text(rt.alloc(), b"hsaq 1\nend")?;
+    let lines = vec![in rt.alloc();
+        Line {
+            p: 0,
+            r: 0,
+            rule: Rule::Through(0, 0)
+        },
+    ]?;
+    let certificate = Certificate::new(Vec::new(rt.alloc()), lines, Vec::new(rt.alloc()));
+    let Err((no, job)) = check(rt.alloc(), job, &certificate) else {
+        return Err("a line that holds".into());
+    };
+    assert!(rt; matches!(&no, CheckNo::BadLine(0)));
+    let Err((wide, _job)) = check_wide(&rt, rt.alloc(), job, &certificate) else {
+        return Err("a line that holds".into());
+    };
+    assert!(rt; matches!(&wide, CheckNo::BadLine(0)));
+    Ok(())
+}

@@ -1,0 +1,126 @@
+//! The program `hsaq`: orders the packets of HSA user-mode queues, and proves it.
+#![tactic(auto)]
+
+mod input;
+
+use hq_engines::{
+    Status, audit_engine, check_engine, pack_engine, say_file, say_memory, show_engine,
+};
+use hq_words::{Asked, WordsFault, command_of};
+use input::Input;
+use std::alloc::{AllocError, Global};
+use std::fs::File;
+use std::io::{BufWriter, Write};
+use std::process::ExitCode;
+use std::thread::Threads;
+use std::{env, io};
+
+/// Writes what is held back, and answers the status; where that fails it is `File`.
+fn flushed<W: Write>(writer: &mut W, status: Status) -> Status {
+    match writer.flush() {
+        Ok(()) => status,
+        Err(_) => Status::File,
+    }
+}
+
+fn show<W: Write>(rt: &HostRuntime, job: &str, writer: &mut W) -> Status {
+    match Input::open(rt, job) {
+        Ok(mut input) => show_engine(rt.alloc(), &mut input, writer),
+        Err(_) => say_file(writer),
+    }
+}
+
+fn audit<W: Write>(rt: &HostRuntime, job: &str, writer: &mut W) -> Status {
+    match Input::open(rt, job) {
+        Ok(mut input) => audit_engine(rt.alloc(), &mut input, writer),
+        Err(_) => say_file(writer),
+    }
+}
+
+/// Opens both files before it reads either.
+fn check<W: Write>(
+    rt: &HostRuntime,
+    threads: &(impl Threads + Sync),
+    job: &str,
+    certificate: &str,
+    writer: &mut W,
+) -> Status {
+    match (Input::open(rt, job), File::open(rt, certificate)) {
+        (Ok(mut input), Ok(mut file)) => {
+            check_engine(threads, rt.alloc(), &mut input, &mut file, writer)
+        }
+        _ => say_file(writer),
+    }
+}
+
+/// Does what is asked for, and writes the answer.
+fn answer<W: Write>(
+    rt: &HostRuntime,
+    threads: &(impl Threads + Sync),
+    asked: &Asked<'_>,
+    writer: &mut W,
+) -> Status {
+    match asked {
+        Asked::Show { job } => show(rt, job, writer),
+        Asked::Pack { words } => pack_engine(rt.alloc(), words, writer),
+        Asked::Audit { job } => audit(rt, job, writer),
+        Asked::Check { job, certificate } => check(rt, threads, job, certificate, writer),
+    }
+}
+
+/// Does what is asked for, on standard output.
+fn run(rt: &HostRuntime, threads: &(impl Threads + Sync), asked: &Asked<'_>) -> Status {
+    let mut stdout = rt.stdout();
+    match BufWriter::new(rt.alloc(), &mut stdout) {
+        Ok(mut writer) => {
+            let status = answer(rt, threads, asked, &mut writer);
+            flushed(&mut writer, status)
+        }
+        Err(_) => say_memory(&mut rt.stdout()),
+    }
+}
+
+/// What `clap` says of words: a fault on standard error; the help or the version, which is asked for, on standard output.
+fn say_words(rt: &HostRuntime, error: &clap::Error) -> Status {
+    match (error.print(rt), error.use_stderr()) {
+        (Err(_), _) => Status::File,
+        (Ok(()), true) => Status::Words,
+        (Ok(()), false) => Status::Done,
+    }
+}
+
+/// Reads the words behind the program's name, and does what they ask for.
+fn run_on_words(rt: &HostRuntime, threads: &(impl Threads + Sync), words: &[&str]) -> Status {
+    match command_of(rt.alloc(), words) {
+        Ok(asked) => run(rt, threads, &asked),
+        Err(WordsFault::Words(error)) => say_words(rt, &error),
+        Err(WordsFault::Memory) => say_memory(&mut rt.stdout()),
+    }
+}
+
+/// The texts of words.
+fn texts_of(alloc: Global, words: &[String]) -> Result<Vec<&str>, AllocError> {
+    let mut texts = Vec::with_capacity(alloc, words.len())?;
+    for word in words {
+        texts.push(word.as_str())?;
+    }
+    Ok(texts)
+}
+
+/// Runs the program on the words of the command line.
+fn run_on_arguments(rt: &HostRuntime, threads: &(impl Threads + Sync)) -> io::Result<Status> {
+    let words = env::args(rt)?.skip(1).collect::<Vec<String>>(rt.alloc())?;
+    let texts = texts_of(rt.alloc(), &words)?;
+    Ok(run_on_words(rt, threads, &texts))
+}
+
+fn main(rt: HostRuntime) -> ExitCode {
+    let status = match run_on_arguments(&rt, &rt) {
+        Ok(status) => status,
+        Err(error) => match error.kind() {
+            io::ErrorKind::OutOfMemory => say_memory(&mut rt.stdout()),
+            _ => Status::Words,
+        },
+    };
+    ExitCode::from(status.code())
+}

@@ -1,0 +1,30 @@
+-- What `audit` writes of a job.
+use Rattle.std.proofs.Common.{◌⊎◌, ℕ, inl, inr, List, Option, codes}
+use Rattle.hq_model.specs.Job.{Job}
+use Rattle.hq_model.specs.Certificate.{Certificate, CertHolds}
+use Rattle.hq_model.specs.Theorems.{Valid, StuckLaw}
+use Rattle.hq_order.specs.Placing.{AreStuck}
+use Rattle.hq_cert.specs.Printed.{text_of}
+use Rattle.hq_audit.specs.Refused.{IsRefused}
+use Rattle.hq_audit.specs.declared.fault.AuditNo.{AuditNo}
+use Rattle.hq_audit.specs.declared.fault.AuditNo.TheVariants as no
+use Rattle.hq_engines.specs.Audit.{JobReport, NeverComplete, NoSaid, stuck_text, conflict_text}
+use Rattle.hq_engines.specs.Audit.JobReport.{ordered, stuck, conflict, no_memory}
+use Rattle.hq_engines.specs.Reports.{Reported, Said, with_feed}
+use Rattle.hq_engines.specs.declared.status.Status.{Status}
+use Rattle.hq_engines.specs.declared.status.Status.TheVariants as status
+
+never_complete : StuckLaw → (job : Job) → Valid job → (packets : List ℕ) → AreStuck job packets → NeverComplete job packets
+never_complete law job valid packets are = record {
+  stuck = are;
+  never = λ p inside events state run. let set = (are.stuck p).0 inside in law job set.0 events state valid set.1 run p set.2;
+}
+
+pub no_reported : StuckLaw → (job : Job) → Valid job → (refusal : AuditNo) (old new : Option (List ℕ)) (answered : Status) → IsRefused job refusal → NoSaid refusal old new answered → Reported (JobReport job) old new answered
+no_reported law job valid (no.Stuck packets) old new answered refused said = (stuck_text packets.items, status.Stuck, stuck packets.items (never_complete law job valid packets.items refused), said)
+no_reported law job valid (no.Conflict p r kind why) old new answered refused said = (with_feed (conflict_text p r kind why), status.Conflict, conflict p r kind why refused, said)
+no_reported law job valid no.Memory old new answered refused said = (with_feed (codes "out of memory"), status.Memory, no_memory, said)
+
+pub certificate_reported : (job : Job) (c : Certificate) (old new : Option (List ℕ)) (answered : Status) → CertHolds job c → Said old new (text_of c) status.Done answered ⊎ Said old new (with_feed (codes "out of memory")) status.Memory answered → Reported (JobReport job) old new answered
+certificate_reported job c old new answered holds (inl said) = (text_of c, status.Done, ordered c holds, said)
+certificate_reported job c old new answered holds (inr said) = (with_feed (codes "out of memory"), status.Memory, no_memory, said)

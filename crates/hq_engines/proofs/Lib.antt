@@ -1,0 +1,6 @@
+pub mod NoJobs
+pub mod Shows
+pub mod Queues
+pub mod Packs
+pub mod Audits
+pub mod Checks

@@ -1,0 +1,24 @@
+//! The program's commands, each over any reader and any writer.
+//!
+//! An engine reads its input, writes the report of it, and answers the status that the program ends with.
+#![tactic(auto)]
+
+mod audit;
+mod check;
+mod fields;
+mod pack;
+mod saying;
+mod show;
+mod status;
+mod stuck;
+mod taking;
+
+pub use audit::audit_engine;
+pub use check::check_engine;
+pub use pack::pack_engine;
+pub use saying::{say_file, say_memory};
+pub use show::show_engine;
+pub use status::Status;
+
+#[cfg(test)]
+mod tests;

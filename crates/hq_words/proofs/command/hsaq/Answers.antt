@@ -1,0 +1,14 @@
+use Rattle.std.proofs.Common.{ap, ap₂, ◌∙◌}
+use Rattle.std.proofs.lemmas.Result.{IfOk-weaker}
+use Rattle.clap.specs.Words.{App, Shape, with_subcommand}
+use Rattle.hq_words.proofs.command.hsaq.Goals as goal
+
+pub returns : goal.returns
+returns c =
+    IfOk-weaker c.subcommand-4.result _ _ (λ r adds.
+    adds.shape c.in_ok-check.ensures.local ∙ ap₂ with_subcommand
+    (c.in_ok-subcommand-3.ensures.shape c.in_ok-audit.ensures.local ∙ ap₂ with_subcommand
+    (c.in_ok-subcommand-2.ensures.shape c.in_ok-pack.ensures.local ∙ ap₂ with_subcommand
+    (c.in_ok-subcommand.ensures.shape c.in_ok-show.ensures.local ∙ ap₂ with_subcommand c.program.ensures (ap (λ (a : App). a.top) c.in_ok-show.ensures.app))
+    (ap (λ (a : App). a.top) c.in_ok-pack.ensures.app)) (ap (λ (a : App). a.top) c.in_ok-audit.ensures.app)) (ap (λ (a : App). a.top) c.in_ok-check.ensures.app))
+    c.subcommand-4.ensures

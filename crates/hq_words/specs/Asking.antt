@@ -1,0 +1,39 @@
+-- What the words of a command line ask for.
+use Rattle.std.specs.Prelude.{◌≡◌, List, [], ◌∷◌, Option, Some, None, codes, map}
+use Rattle.clap.specs.Words.{Row, Text, first_of, all_of}
+use Rattle.hq_words.specs.declared.words.Asked.{Asked}
+use Rattle.hq_words.specs.declared.words.Asked.TheVariants.{Show, Pack, Audit, Check}
+use Rattle.hq_words.specs.declared.words.WordsFault.{WordsFault}
+use Rattle.hq_words.specs.declared.words.WordsFault.TheVariants.{Words, Memory}
+
+-- no words at all stand for `audit @`
+abbrev pub words_or_audit : List Text → List Text
+words_or_audit [] = codes "audit" ∷ codes "@" ∷ []
+words_or_audit (word ∷ words) = word ∷ words
+
+-- a command that takes files, with the words for these
+abbrev pub AsksWith : Text → Option Text → Option Text → Asked → Type 0
+AsksWith name job certificate (Show a) = (name ≡ codes "show") × (job ≡ Some a.now)
+AsksWith name job certificate (Pack words) = ⊥
+AsksWith name job certificate (Audit a) = (name ≡ codes "audit") × (job ≡ Some a.now)
+AsksWith name job certificate (Check a b) = (name ≡ codes "check") × (job ≡ Some a.now) × (certificate ≡ Some b.now)
+
+-- the command of this name, with these arguments, is what is asked for
+abbrev pub AsksFor : Text → List Row → Asked → Type 0
+AsksFor name rows (Pack words) = (name ≡ codes "pack") × (all_of (codes "WORDS") rows ≡ Some (map (λ w. w.now) words.items))
+AsksFor name rows (Show a) = AsksWith name (first_of (codes "JOB") rows) (first_of (codes "CERT") rows) (Show a)
+AsksFor name rows (Audit a) = AsksWith name (first_of (codes "JOB") rows) (first_of (codes "CERT") rows) (Audit a)
+AsksFor name rows (Check a b) = AsksWith name (first_of (codes "JOB") rows) (first_of (codes "CERT") rows) (Check a b)
+
+-- of what `clap` finds: the command's name, and its arguments
+abbrev pub Asks : Option (Text × List Row) → Asked → Type 0
+Asks None asked = ⊥
+Asks (Some (name, rows)) asked = AsksFor name rows asked
+
+abbrev pub IsWords : WordsFault → Type 0
+IsWords (Words e) = Unit {0}
+IsWords Memory = ⊥
+
+abbrev pub IsMemory : WordsFault → Type 0
+IsMemory (Words e) = ⊥
+IsMemory Memory = Unit {0}

@@ -1,0 +1,34 @@
+-- The program's commands, as `clap`'s own definitions speak of them.
+use Rattle.std.specs.Prelude.{true, Some, codes}
+use Rattle.clap.specs.Words.{App, Rule, new_app, new_rule, with_rule, with_subcommand}
+use Rattle.clap.specs.declared.builder.action.ArgAction.TheVariants.{Set, Append}
+
+abbrev pub job_rule : Rule
+job_rule = record (new_rule (codes "JOB")) { required = true; action = Some Set }
+
+abbrev pub file_rule : Rule
+file_rule = record (new_rule (codes "CERT")) { required = true; action = Some Set }
+
+abbrev pub show_app : App
+show_app = with_rule (new_app (codes "show")) job_rule
+
+abbrev pub audit_app : App
+audit_app = with_rule (new_app (codes "audit")) job_rule
+
+abbrev pub check_app : App
+check_app = with_rule (with_rule (new_app (codes "check")) job_rule) file_rule
+
+abbrev pub words_rule : Rule
+words_rule = record (new_rule (codes "WORDS")) { required = true; action = Some Append }
+
+abbrev pub pack_app : App
+pack_app = with_rule (new_app (codes "pack")) words_rule
+
+-- the program, of which the words leave out the program's name
+abbrev pub program_app : App
+program_app =
+    let new = new_app (codes "hsaq") in
+    record new { top = record new.top { has_version = true; no_binary_name = true; subcommand_required = true } }
+
+abbrev pub hsaq_app : App
+hsaq_app = with_subcommand (with_subcommand (with_subcommand (with_subcommand program_app show_app.top) pack_app.top) audit_app.top) check_app.top

@@ -1,0 +1,10 @@
+//! The words of the command line.
+#![tactic(auto)]
+
+mod command;
+mod words;
+
+pub use words::{Asked, WordsFault, command_of};
+
+#[cfg(test)]
+mod tests;

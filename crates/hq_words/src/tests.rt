@@ -1,0 +1,36 @@
+use super::*;
+use std::test::*;
+
+#[test]
+fn no_words_ask_for_an_audit(rt: HostRuntime) -> Result<(), Fail> {
+    let asked = command_of(rt.alloc(), &[])?;
+    assert!(rt; matches!(asked, Asked::Audit { job: "@" }));
+    Ok(())
+}
+
+#[test]
+fn each_command_is_taken(rt: HostRuntime) -> Result<(), Fail> {
+    let asked = command_of(rt.alloc(), &["show", "a"])?;
+    assert!(rt; matches!(asked, Asked::Show { job: "a" }));
+    let asked = command_of(rt.alloc(), &["audit", "a"])?;
+    assert!(rt; matches!(asked, Asked::Audit { job: "a" }));
+    let asked = command_of(rt.alloc(), &["check", "a", "b"])?;
+    assert!(rt;
+        matches!(
+            asked,
+            Asked::Check {
+                job: "a",
+                certificate: "b"
+            }
+        )
+    );
+    let asked = command_of(rt.alloc(), &["pack", "and", "0"])?;
+    assert!(rt; matches!(asked, Asked::Pack { .. }));
+    Ok(())
+}
+
+#[test]
+fn other_words_are_refused(rt: HostRuntime) {
+    let asked = command_of(rt.alloc(), &["prove", "a"]);
+    assert!(rt; matches!(asked, Err(WordsFault::Words(_))));
+}

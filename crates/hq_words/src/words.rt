@@ -1,0 +1,133 @@
+//! What the words of a command line ask for.
+
+ghost use Rattle.std.specs.Prelude.{◌≡◌, ◌≢◌, [], Some, true, codes, map, option_map, IfOk, IfErr, IfSome};
+ghost use Rattle.clap.specs.Words.{all_of, first_of, found_of, rows_of, subcommand_of, subcommand_rows_of, takes};
+ghost use Rattle.hq_words.specs.Commands.{hsaq_app};
+ghost use Rattle.hq_words.specs.Asking.{Asks, AsksFor, AsksWith, words_or_audit, IsWords};
+
+use crate::command::hsaq;
+use clap::error::ErrorKind;
+use clap::{ArgMatches, Error};
+use std::alloc::{AllocError, AllocFailed, Global};
+
+/// What is asked for: one variant for each command, with its words.
+#[derive(Debug, Drop)]
+pub enum Asked<'a> {
+    /// A job's packets.
+    Show { job: &'a str },
+    /// The bytes of the packet that these words are.
+    Pack { words: Vec<&'a str> },
+    /// A job's certificate.
+    Audit { job: &'a str },
+    /// Whether a certificate holds for a job.
+    Check { job: &'a str, certificate: &'a str },
+}
+
+/// Why nothing is asked for. `Words` has what `clap` says of the words: a fault, or the help or version that they ask for.
+#[derive(Debug, Drop)]
+pub enum WordsFault {
+    Words(Error),
+    Memory,
+}
+
+impl From<AllocError> for WordsFault {
+    ghost use Rattle.hq_words.specs.Asking.{IsMemory};
+
+    ghost from_gives = { λ _ e. IsMemory e };
+
+    fn from(_e: AllocError) -> WordsFault {
+        WordsFault::Memory
+    }
+}
+
+/// What stands in place of no words at all.
+static AUDIT: [&str; 2] = ["audit", "@"];
+
+/// What `clap` makes of the words.
+fn matches_of<'a>(alloc: Global, words: &'a [&'a str]) -> Result<ArgMatches<'a>, WordsFault>
+    ensures found { IfOk result (λ m. subcommand_rows_of m ≡ subcommand_of hsaq_app (map (λ w. w.now) words.entry.now)) }
+    ensures refused { IfErr result (λ f. IsWords f → takes hsaq_app (map (λ w. w.now) words.entry.now) ≢ true) }
+{
+    let command = hsaq(alloc)?;
+    match command.try_get_matches_from(words) {
+        Ok(matches) => Ok(matches),
+        Err(error) => match error.kind() {
+            ErrorKind::OutOfMemory => Err(WordsFault::Memory),
+            _ => Err(WordsFault::Words(error)),
+        },
+    }
+}
+
+/// The values of WORDS.
+fn pack_words<'a>(alloc: Global, own: &ArgMatches<'a>) -> Result<Vec<&'a str>, AllocError>
+    ensures { IfOk result (λ words. all_of (codes "WORDS") (rows_of (found_of own.now)) ≡ Some (map (λ w. w.now) words.items)) }
+{
+    match own.get_strs("WORDS") {
+        Some(words) => Vec::from_slice(alloc, words),
+        None => Err(AllocError),
+    }
+}
+
+/// What the command of a name asks for with its arguments.
+fn asked_for<'a>(alloc: Global, name: &str, own: &ArgMatches<'a>) -> Result<Asked<'a>, AllocError>
+    ensures { IfOk result (AsksFor name.now (rows_of (found_of own.now))) }
+{
+    if name == "pack" {
+        let words = pack_words(alloc, own)?;
+        return Ok(Asked::Pack { words });
+    }
+    match asked_of_files(name, own.get_str("JOB"), own.get_str("CERT")) {
+        Some(asked) => Ok(asked),
+        None => Err(AllocError),
+    }
+}
+
+/// What the command of a name asks for with these files.
+fn asked_of_files<'a>(
+    name: &str,
+    job: Option<&'a str>,
+    certificate: Option<&'a str>,
+) -> Option<Asked<'a>>
+    ensures { IfSome result (AsksWith name.now (option_map (λ j. j.now) job.entry) (option_map (λ c. c.now) certificate.entry)) }
+{
+    let job = job?;
+    if name == "show" {
+        return Some(Asked::Show { job });
+    }
+    if name == "audit" {
+        return Some(Asked::Audit { job });
+    }
+    if name == "check" {
+        let certificate = certificate?;
+        return Some(Asked::Check { job, certificate });
+    }
+    None
+}
+
+/// What is asked for where `clap` accepts words.
+fn asked_of<'a>(alloc: Global, words: &'a [&'a str]) -> Result<Asked<'a>, WordsFault>
+    ensures asked { IfOk result (Asks (subcommand_of hsaq_app (map (λ w. w.now) words.entry.now))) }
+    ensures refused { IfErr result (λ f. IsWords f → takes hsaq_app (map (λ w. w.now) words.entry.now) ≢ true) }
+{
+    let matches = match matches_of(alloc, words) {
+        Ok(matches) => matches,
+        Err(fault) => return Err(fault),
+    };
+    match matches.subcommand() {
+        Some((name, own)) => Ok(asked_for(alloc, name, own)?),
+        None => Err(WordsFault::Memory),
+    }
+}
+
+/// What the words behind the program's name ask for; no words at all ask for `audit @`. `Words` comes only where there are
+/// words and `clap`'s definition takes none of this form.
+pub fn command_of<'a>(alloc: Global, words: &'a [&'a str]) -> Result<Asked<'a>, WordsFault>
+    ensures asked { IfOk result (Asks (subcommand_of hsaq_app (words_or_audit (map (λ w. w.now) words.entry.now)))) }
+    ensures some { IfErr result (λ f. IsWords f → words.entry.now ≢ []) }
+    ensures refused { IfErr result (λ f. IsWords f → takes hsaq_app (map (λ w. w.now) words.entry.now) ≢ true) }
+{
+    if words.is_empty() {
+        return asked_of(alloc, AUDIT.as_slice());
+    }
+    asked_of(alloc, words)
+}
