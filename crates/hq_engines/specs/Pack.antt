@@ -85,7 +85,7 @@ abbrev pub agent_fields : List Field
 agent_fields =
     Number Two ∷ Reserved Four ∷ Number Eight ∷ Number Eight ∷ Number Eight ∷ Number Eight ∷ Number Eight ∷ Reserved Eight ∷ Number Eight ∷ []
 
--- D0 to D4, DONE
+-- the five dependencies, DONE
 abbrev pub barrier_fields : List Field
 barrier_fields =
     Reserved Two ∷ Reserved Four ∷ Number Eight ∷ Number Eight ∷ Number Eight ∷ Number Eight ∷ Number Eight ∷ Reserved Eight ∷ Number Eight ∷ []
