@@ -1,10 +1,12 @@
 -- The first line of a text, and the text behind it.
-use Rattle.std.proofs.Common.{◌≡◌, ℕ, zero, suc, ◌+◌, ◌-◌, ◌<◌, ◌≤◌, Bool, true, false, cond, ltb, List, [], ◌∷◌, length, take, drop, Some, None, refl, sym, ap, subst, ◌∙◌, arith, length-drop}
+use Rattle.std.proofs.Common.{◌≡◌, ℕ, zero, suc, ◌+◌, ◌-◌, ◌<◌, ◌≤◌, Bool, true, false, cond, ltb, List, [], ◌∷◌, length, take, drop, Option, Some, None, inl, inr, refl, sym, ap, subst, ◌∙◌, arith, length-drop}
 use Rattle.std.specs.Prelude.{position}
 use Rattle.std.specs.List.{slice_split, position_or_len, All}
 use Rattle.std.proofs.lemmas.List.Splits.{slice_split_first, slice_split_none}
 use Rattle.std.proofs.lemmas.List.Sums.{fails_before_first}
-use Rattle.std.proofs.lemmas.Bool.{ltb-true, ltb-false}
+use Rattle.std.proofs.lemmas.List.Quantifiers.{position-Some}
+use Rattle.std.proofs.lemmas.Bool.{ltb-true, ltb-false, cases_lt}
+use Rattle.memchr.specs.Find.{IsFirstByte, is_byte}
 use Rattle.hq_text.specs.Lines.{is_line_feed, lines_of, without_empty_last}
 
 all_of : (xs : List ℕ) (n : ℕ) → length xs ≤ n → take n xs ≡ xs
@@ -68,3 +70,21 @@ last_line text n e lt =
     let le = no_place is_line_feed text e in
     let split : slice_split is_line_feed text ≡ text ∷ [] = slice_split_none is_line_feed text (λ k x h. fails_before_first is_line_feed text k x (omega arith)) in
     ap without_empty_last split ∙ kept text lt ∙ ap (λ t. text ∷ lines_of t) (sym (gone text n))
+
+-- The first place that a search of bytes finds is the position.
+pub position_is : (xs : List ℕ) (r : Option ℕ) → IsFirstByte (is_byte 10) xs r → r ≡ position is_line_feed xs
+position_is xs r found = by (position is_line_feed xs) refl r found
+  where
+    by : (at : Option ℕ) → position is_line_feed xs ≡ at → (r : Option ℕ) → IsFirstByte (is_byte 10) xs r → r ≡ position is_line_feed xs
+    by None e None none = sym e
+    by None e (Some k) (first, passes) = let fails = fails_before_first is_line_feed xs k 0 (let le = no_place is_line_feed xs e in let l = first.high in omega arith) in absurd cc
+    by (Some i) e None none = let place = position-Some is_line_feed xs i 0 e in absurd (none i (omega arith) place.0 place.1)
+    by (Some i) e (Some k) (first, passes) =
+        let place = position-Some is_line_feed xs i 0 e in
+        elim (cases_lt k i) [
+          | inl l ↦ let fails = place.2 k l in absurd cc
+          | inr ge ↦ elim (cases_lt i k) [
+            | inl l ↦ absurd (first.before i (omega arith) l place.1)
+            | inr le ↦ (let same : k ≡ i = omega (arith, ge, le) in ap (λ n. Some n) same ∙ sym e)
+          ]
+        ]

@@ -11,3 +11,4 @@ pub mod Split
 pub mod Reasons
 pub mod Late
 pub mod Nine
+pub mod OnePass

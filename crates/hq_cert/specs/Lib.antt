@@ -7,3 +7,4 @@ pub mod DraftView
 pub mod Cited
 pub mod Printed
 pub mod LineForms
+pub mod OnePass

@@ -1,13 +1,15 @@
 //! A certificate as far as it is read.
 
-ghost use Rattle.std.specs.Prelude.{◌≡◌, ◌&&◌, ◌^◌, ◌<◌, true, false, map, length, IfOk, Ok};
+ghost use Rattle.std.specs.Prelude.{◌≡◌, ◌&&◌, ◌^◌, ◌<◌, true, false, map, length, IfOk, IfErr, Ok};
 ghost use Rattle.hq_cert.specs.LineTests.{head_said, order_said};
 ghost use Rattle.hq_cert.specs.TextFaults.{start, add_head, add_order, add_line, add_pair, add_end, add_behind, add_content, added, is_ended, read_of};
 ghost use Rattle.hq_cert.specs.DraftView.{state_of};
 ghost use Rattle.hq_cert.specs.Gives.{Gives};
+ghost use Rattle.hq_cert.specs.OnePass.{TakenLine, TakenPair, TakenOrLeft};
 
 use crate::certificate::{Certificate, Line, Pair};
 use crate::fault::CertReason;
+use crate::one_pass;
 use crate::operands::numbers_said;
 use crate::pairs::pair_said;
 use crate::rules::line_said;
@@ -179,6 +181,54 @@ impl Draft {
             Stage::Lines => self.add_content(alloc, true, words),
             Stage::Pairs => self.add_content(alloc, false, words),
             Stage::Ended => Err(CertReason::Word),
+        }
+    }
+
+    /// Takes in a line, by the text behind `line`, where that is in one of the common forms; answers whether it did.
+    fn take_line(&mut self, text: &[u8]) -> Result<bool, CertReason>
+        ensures taken { IfOk result (λ taken. TakenLine taken (state_of self.old) text.now (state_of self.new)) }
+        ensures memory { IfErr result (λ e. e ≡ CertReason.Memory) }
+    {
+        let count = self.count()?;
+        let Some(line) = one_pass::line(count, text) else {
+            return Ok(false);
+        };
+        self.lines.push(line)?;
+        self.stage = Stage::Lines;
+        Ok(true)
+    }
+
+    /// Takes in a pair line, by the text behind `pair`, where that is in one of the common forms; answers whether it did.
+    fn take_pair(&mut self, text: &[u8]) -> Result<bool, CertReason>
+        ensures taken { IfOk result (λ taken. TakenPair taken (state_of self.old) text.now (state_of self.new)) }
+        ensures memory { IfErr result (λ e. e ≡ CertReason.Memory) }
+    {
+        let count = self.count()?;
+        let Some(pair) = one_pass::pair(count, text) else {
+            return Ok(false);
+        };
+        self.pairs.push(pair)?;
+        self.stage = Stage::Pairs;
+        Ok(true)
+    }
+
+    /// Takes in the next line in one pass over its bytes, where it is in one of the common forms; answers whether it did. Where
+    /// it didn't, nothing changed.
+    #[tactic(auto, using(crate::proofs::OnePass::line_taken, crate::proofs::OnePass::pair_taken))]
+    pub fn take(&mut self, line: &[u8]) -> Result<bool, CertReason>
+        ensures taken { IfOk result (λ taken. TakenOrLeft taken (state_of self.old) line.now (state_of self.new)) }
+        ensures memory { IfErr result (λ e. e ≡ CertReason.Memory) }
+    {
+        match self.stage {
+            Stage::Lines => match one_pass::behind(line, b"line ".as_slice()) {
+                Some(text) => self.take_line(text),
+                None => Ok(false),
+            },
+            Stage::Pairs => match one_pass::behind(line, b"pair ".as_slice()) {
+                Some(text) => self.take_pair(text),
+                None => Ok(false),
+            },
+            _ => Ok(false),
         }
     }
 

@@ -10,6 +10,7 @@ mod draft;
 mod fault;
 mod forms;
 pub mod laws;
+mod one_pass;
 mod operands;
 mod pairs;
 mod pen;

@@ -11,6 +11,7 @@ ghost use Rattle.hq_cert.specs.TextFaults.{FirstFault, added, at_line, start};
 use crate::certificate::Certificate;
 use crate::draft::Draft;
 use crate::fault::{CertFault, CertReason};
+use memchr::memchr;
 use std::alloc::{AllocError, Global};
 
 /// A fault at a line, or out of memory at line 0.
@@ -25,10 +26,11 @@ fn fault_at(line: usize, reason: CertReason) -> CertFault
 }
 
 /// Where the first line feed stands.
+#[tactic(auto, using(crate::proofs::Cuts::position_is))]
 fn line_end(text: &[u8]) -> Option<usize>
     ensures { result ≡ position is_line_feed text.now }
 {
-    text.iter().position(|b| *b == b'\n')
+    memchr(b'\n', text)
 }
 
 /// The first line of a text that isn't empty, and the text behind it.
@@ -51,8 +53,8 @@ fn split_words<'a>(words: &mut Vec<&'a [u8]>, line: &'a [u8]) -> Result<(), Allo
     words.extend(line.split(|b| *b == b' '))
 }
 
-/// Takes in the next line.
-fn take_line<'a>(
+/// Takes in the next line by its words.
+fn take_words<'a>(
     draft: &mut Draft,
     alloc: Global,
     words: &mut Vec<&'a [u8]>,
@@ -62,6 +64,22 @@ fn take_line<'a>(
 {
     split_words(words, line)?;
     draft.add(alloc, words)
+}
+
+/// Takes in the next line.
+fn take_line<'a>(
+    draft: &mut Draft,
+    alloc: Global,
+    words: &mut Vec<&'a [u8]>,
+    line: &'a [u8],
+) -> Result<(), CertReason>
+    ensures { Gives (λ u. state_of draft.new) result (added (state_of draft.old) (words_of line.now)) }
+{
+    if draft.take(line)? {
+        Ok(())
+    } else {
+        take_words(draft, alloc, words, line)
+    }
 }
 
 /// Takes in all lines of a text.
