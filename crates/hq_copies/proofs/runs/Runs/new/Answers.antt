@@ -1,0 +1,5 @@
+use Rattle.hq_copies.proofs.Marks.{runs_none}
+use Rattle.hq_copies.proofs.runs.Runs.new.Goals as goal
+
+pub returns-clause-runs : goal.returns-clause-runs
+returns-clause-runs c = rw (c.new.ensures.items, c.new-2.ensures.items) runs_none

@@ -1,0 +1,175 @@
+-- Memory, the copies that agents hold of it, those that lanes hold, and the one change that each call makes. A lane is a
+-- packet's; it stands on its queue's agent. This project's own.
+use Rattle.std.specs.Prelude.{◌≡◌, ℕ, zero, suc, not, ◌+◌, ◌<◌, ◌≤◌, Bool, true, false, List, length, take, drop, map, ◌++◌, replicate, slice_index, slice_index_or, All, Option, Some, None, set, if◌then◌else◌, refl}
+use Rattle.std.specs.Bool.{beq}
+use Rattle.std.specs.Coded.{Coded, code_by, coded×, coded_ℕ, coded_bool, coded_list}
+use Rattle.std.specs.FinMap as finite
+use Rattle.hq_packet.specs.declared.packet.Scope.{Scope}
+use Rattle.hq_packet.specs.declared.packet.Scope.TheVariants as scope
+use Rattle.hq_model.specs.Job.{reaches}
+use Rattle.hq_model.specs.Machine.{Copy, value_or, is_dirty, listed}
+use Rattle.hq_model.specs.View.{Held, copies_of}
+
+-- What contracts see: the bytes of memory, the map of each agent and of each lane from bytes to copies, and each lane's agent.
+pub record CopiesValue : Type 0 where
+  pub memory : List ℕ
+  pub agents : List Held
+  pub lanes : List Held
+  pub lane_agents : List ℕ
+
+-- Each byte's number is small, and each lane has an agent that is there.
+pub record IsCopies (memory : List ℕ) (agents lanes : List Held) (lane_agents : List ℕ) : Type 0 where
+  pub bytes : length memory ≤ 65536
+  pub lanes_agree : length lanes ≡ length lane_agents
+  pub agents_there : All (λ a. a < length agents) lane_agents
+
+abbrev pub a_copy : ℕ → Bool → Copy
+a_copy value dirty = record { value = value; dirty = dirty }
+
+-- one of the maps, and the maps with one byte of one of them changed
+abbrev pub held : List Held → ℕ → Held
+held maps k = slice_index_or maps k finite.empty
+
+abbrev pub with_copy : List Held → ℕ → ℕ → Copy → List Held
+with_copy maps k b copy = set maps k (finite.insert (held maps k) b copy)
+
+abbrev pub without_copy : List Held → ℕ → ℕ → List Held
+without_copy maps k b = set maps k (finite.remove (held maps k) b)
+
+-- ---- what is seen
+
+abbrev pub agent_byte : CopiesValue → ℕ → ℕ → ℕ
+agent_byte c a b = value_or (copies_of c.agents a b) (slice_index c.memory b)
+
+abbrev pub lane_byte : CopiesValue → ℕ → ℕ → ℕ
+lane_byte c p b = value_or (copies_of c.lanes p b) (agent_byte c (slice_index c.lane_agents p) b)
+
+-- ---- numbers in range
+
+abbrev pub IsLaneByte : CopiesValue → ℕ → ℕ → Type 0
+IsLaneByte c p b = (p < length c.lanes) × (b < length c.memory)
+
+abbrev pub IsAgentByte : CopiesValue → ℕ → ℕ → Type 0
+IsAgentByte c a b = (a < length c.agents) × (b < length c.memory)
+
+-- ---- the changes
+
+abbrev pub opened : List ℕ → ℕ → List ℕ → CopiesValue
+opened memory agents lane_agents =
+    record { memory = memory; agents = replicate agents finite.empty; lanes = replicate (length lane_agents) finite.empty; lane_agents = lane_agents }
+
+abbrev pub stored : CopiesValue → ℕ → ℕ → ℕ → CopiesValue
+stored c p b value = record c { lanes = with_copy c.lanes p b (a_copy value true) }
+
+-- The lane's dirty byte is written into its agent's map, dirty there, and stays in the lane, clean.
+abbrev pub lane_pushed : CopiesValue → ℕ → ℕ → ℕ → CopiesValue
+lane_pushed c p b value =
+    record c { lanes = with_copy c.lanes p b (a_copy value false); agents = with_copy c.agents (slice_index c.lane_agents p) b (a_copy value true) }
+
+-- The agent's dirty byte is written into memory, and stays with the agent, clean.
+abbrev pub agent_pushed : CopiesValue → ℕ → ℕ → ℕ → CopiesValue
+agent_pushed c a b value = record c { agents = with_copy c.agents a b (a_copy value false); memory = set c.memory b value }
+
+-- a clean copy of what is seen below
+abbrev pub lane_filled : CopiesValue → ℕ → ℕ → CopiesValue
+lane_filled c p b = record c { lanes = with_copy c.lanes p b (a_copy (agent_byte c (slice_index c.lane_agents p) b) false) }
+
+abbrev pub agent_filled : CopiesValue → ℕ → ℕ → CopiesValue
+agent_filled c a b = record c { agents = with_copy c.agents a b (a_copy (slice_index c.memory b) false) }
+
+abbrev pub lane_dropped : CopiesValue → ℕ → ℕ → CopiesValue
+lane_dropped c p b = record c { lanes = without_copy c.lanes p b }
+
+abbrev pub agent_dropped : CopiesValue → ℕ → ℕ → CopiesValue
+agent_dropped c a b = record c { agents = without_copy c.agents a b }
+
+-- A map without its clean copies.
+abbrev pub dirty_only : Held → Held
+dirty_only m = finite.retain_keys m (λ b. is_dirty (finite.get m b))
+
+-- the maps from start on and before end, each without its clean copies
+abbrev pub dirty_within : ℕ → ℕ → List Held → List Held
+dirty_within start end maps = take start maps ++ map dirty_only (drop start (take end maps)) ++ drop end maps
+
+-- An acquire fence: of scope agent or system it drops the clean copies of the lanes from start on and before end, of scope
+-- system also those of the agent. Dirty copies stay.
+abbrev pub fenced : CopiesValue → ℕ → ℕ → ℕ → Scope → CopiesValue
+fenced c start end a fence =
+    record c {
+      lanes = if reaches fence scope.Agent then dirty_within start end c.lanes else c.lanes;
+      agents = if reaches fence scope.System then set c.agents a (dirty_only (held c.agents a)) else c.agents;
+    }
+
+-- ---- what is asked
+
+abbrev pub IsClean : Option Copy → Type 0
+IsClean copy = (value : ℕ) × (copy ≡ Some (a_copy value false))
+
+abbrev pub IsDirty : Option Copy → Type 0
+IsDirty copy = (value : ℕ) × (copy ≡ Some (a_copy value true))
+
+-- What a release fence waits for: by scope agent or system no lane from start on and before end is dirty, by system nor is the
+-- agent.
+pub record IsReleased (c : CopiesValue) (start end a : ℕ) (fence : Scope) : Type 0 where
+  pub lanes : reaches fence scope.Agent ≡ true → (l b : ℕ) → start ≤ l → l < end → is_dirty (copies_of c.lanes l b) ≡ false
+  pub agent : reaches fence scope.System ≡ true → (b : ℕ) → is_dirty (copies_of c.agents a b) ≡ false
+
+-- b is the least dirty byte.
+pub record IsFirstDirty (m : Held) (b : ℕ) : Type 0 where
+  pub dirty : is_dirty (finite.get m b) ≡ true
+  pub least : (c : ℕ) → c < b → is_dirty (finite.get m c) ≡ false
+
+abbrev pub NoneDirty : Held → Type 0
+NoneDirty m = (b : ℕ) → is_dirty (finite.get m b) ≡ false
+
+abbrev pub IsAbsent : Option Copy → Type 0
+IsAbsent copy = copy ≡ None
+
+-- ---- what a push does: of a dirty byte
+
+abbrev pub PushedLane : CopiesValue → ℕ → ℕ → CopiesValue → Type 0
+PushedLane old p b new = (value : ℕ) × (copies_of old.lanes p b ≡ Some (a_copy value true)) × (new ≡ lane_pushed old p b value)
+
+abbrev pub PushedAgent : CopiesValue → ℕ → ℕ → CopiesValue → Type 0
+PushedAgent old a b new = (value : ℕ) × (copies_of old.agents a b ≡ Some (a_copy value true)) × (new ≡ agent_pushed old a b value)
+
+-- the bytes that are seen through a lane from b on, so many of them
+abbrev pub lane_bytes : CopiesValue → ℕ → ℕ → ℕ → List ℕ
+lane_bytes c p b count = listed count (λ i. lane_byte c p (b + i))
+
+-- ---- how the values are told apart
+
+abbrev pub copy_code : Coded Copy
+copy_code = code_by (ℕ × Bool) (coded× coded_ℕ coded_bool) (λ c. (c.value, c.dirty)) (λ t. record { value = t.0; dirty = t.1 }) (λ _. refl)
+
+abbrev pub held_code : Coded Held
+held_code = finite.code coded_ℕ copy_code
+
+abbrev pub copies_code : Coded CopiesValue
+copies_code =
+    code_by (List ℕ × (List Held × (List Held × List ℕ)))
+    (coded× (coded_list coded_ℕ) (coded× (coded_list held_code) (coded× (coded_list held_code) (coded_list coded_ℕ))))
+    (λ c. (c.memory, (c.agents, (c.lanes, c.lane_agents))))
+    (λ t. record { memory = t.0; agents = t.1.0; lanes = t.1.1.0; lane_agents = t.1.1.1 })
+    (λ _. refl)
+
+-- ---- runs
+
+-- how many numbers below n pass the test
+abbrev pub count_below : (ℕ → Bool) → ℕ → ℕ
+count_below test zero = 0
+count_below test (suc n) = count_below test n + (if test n then 1 else 0)
+
+-- A byte begins a run: the one before isn't held, or with the other mark.
+abbrev pub begins : Option Copy → Option Copy → Bool
+begins None before = false
+begins (Some copy) None = true
+begins (Some copy) (Some before) = not (beq copy.dirty before.dirty)
+
+abbrev pub begins_run : Held → ℕ → Bool
+begins_run m zero = begins (finite.get m zero) None
+begins_run m (suc b) = begins (finite.get m (suc b)) (finite.get m b)
+
+-- So many runs do the bytes of the map stand in: so many of them begin one, below any number from which on nothing is held.
+abbrev pub IsRunCount : Held → ℕ → Type 0
+IsRunCount m count = (end : ℕ) → ((b : ℕ) → end ≤ b → finite.get m b ≡ None) → count ≡ count_below (begins_run m) end

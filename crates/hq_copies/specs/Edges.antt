@@ -1,0 +1,70 @@
+-- Sets of numbers as rising lists of edges, and bytes by their numbers. An edge is a number at which the set begins or ends.
+-- This project's own.
+use Rattle.std.specs.Prelude.{◌≡◌, ℕ, zero, suc, ◌+◌, ◌-◌, ◌≤◌, Bool, true, false, not, List, [], ◌∷◌, length, nat_lt, ◌==◌, slice_index, if◌then◌else◌, Option, Some, None, max}
+use Rattle.std.specs.FinMap as finite
+use Rattle.hq_model.specs.View.{Held}
+use Rattle.hq_model.specs.Machine.{Copy}
+use Rattle.hq_copies.specs.Copies.{a_copy, count_below}
+
+-- A number is in the set where an odd number of edges is at most the number.
+abbrev pub has : List ℕ → ℕ → Bool
+has [] n = false
+has (e ∷ edges) n = if nat_lt n e then has edges n else not (has edges n)
+
+-- Each edge is at least from and below those after it.
+abbrev pub IsRising : ℕ → List ℕ → Type 0
+IsRising from [] = Unit {0}
+IsRising from (e ∷ edges) = (from ≤ e) × IsRising (suc e) edges
+
+abbrev pub is_odd : List ℕ → Bool
+is_odd [] = false
+is_odd (e ∷ edges) = not (is_odd edges)
+
+-- The edges with one more or, if it is there, without it: the numbers from it on are turned.
+abbrev pub toggled : ℕ → List ℕ → List ℕ
+toggled p [] = p ∷ []
+toggled p (e ∷ edges) = if e == p then edges else if nat_lt p e then p ∷ e ∷ edges else e ∷ toggled p edges
+
+-- how many numbers below n are in the set, by its edges from one of them on; inside says whether the numbers before are in it
+abbrev pub spans : Bool → ℕ → List ℕ → ℕ → ℕ
+spans inside from [] n = if inside then n - from else 0
+spans inside from (e ∷ edges) n = if nat_lt n e then (if inside then n - from else 0) else (if inside then e - from else 0) + spans (not inside) e edges n
+
+-- The byte of a number in the set: the bytes stand in the order of their numbers.
+abbrev pub byte_at : (ℕ → Bool) → List ℕ → ℕ → Option ℕ
+byte_at test bytes n = if test n then Some (slice_index bytes (count_below test n)) else None
+
+-- a number from which on the set has none
+abbrev pub ceiling : List ℕ → ℕ
+ceiling [] = 0
+ceiling (e ∷ edges) = max e (ceiling edges)
+
+-- The edges rise, the set ends, and there is a byte for each of its numbers.
+pub record IsRuns (edges bytes : List ℕ) : Type 0 where
+  pub rising : IsRising 0 edges
+  pub ends : is_odd edges ≡ false
+  pub enough : (n : ℕ) → count_below (has edges) n ≤ length bytes
+
+-- ---- clean bytes and dirty ones together
+
+-- the copy of a number, of its byte among the clean ones and its byte among the dirty ones
+abbrev pub marked : Option ℕ → Option ℕ → Option Copy
+marked None None = None
+marked (Some value) None = Some (a_copy value false)
+marked clean (Some value) = Some (a_copy value true)
+
+abbrev pub with_one : ℕ → Option Copy → Held → Held
+with_one n None held = held
+with_one n (Some copy) held = finite.insert held n copy
+
+-- the finite map of f's copies at the numbers below n
+unfoldable pub gathered : (ℕ → Option Copy) → ℕ → Held
+gathered f zero = finite.empty
+gathered f (suc n) = with_one n (f n) (gathered f n)
+
+-- the copies that two sets of bytes are, the clean ones and the dirty ones
+abbrev pub copy_at : List ℕ → List ℕ → List ℕ → List ℕ → ℕ → Option Copy
+copy_at clean clean_bytes dirty dirty_bytes n = marked (byte_at (has clean) clean_bytes n) (byte_at (has dirty) dirty_bytes n)
+
+abbrev pub level : List ℕ → List ℕ → List ℕ → List ℕ → Held
+level clean clean_bytes dirty dirty_bytes = gathered (copy_at clean clean_bytes dirty dirty_bytes) (max (ceiling clean) (ceiling dirty))

@@ -1,0 +1,4 @@
+pub mod Copies
+pub mod Edges
+pub mod Marks
+pub mod Levels

@@ -1,0 +1,379 @@
+//! Memory and the maps of copies.
+
+ghost use Rattle.std.specs.Prelude.{◌≡◌, ◌↔◌, ◌<◌, ◌≤◌, ◌+◌, ◌^◌, ℕ, Some, length, All, IsTrue, IfOk, IfErr, OnOk, OnErr, MatchOption, IsOk, slice_index, ◌⊎◌, replicate, false};
+ghost use Rattle.std.specs.FinMap as finite;
+ghost use Rattle.hq_model.specs.Job.{reaches};
+ghost use Rattle.hq_model.specs.Machine.{is_dirty};
+ghost use Rattle.hq_model.specs.View.{copies_of};
+ghost use Rattle.hq_copies.specs.Copies.{opened, stored, lane_pushed, agent_pushed, lane_filled, agent_filled, lane_dropped, agent_dropped, fenced, lane_byte, lane_bytes, IsLaneByte, IsAgentByte, IsDirty, IsClean, IsReleased, IsFirstDirty, NoneDirty, held, a_copy, PushedLane, PushedAgent, IsAbsent, agent_byte, dirty_within, IsRunCount};
+
+use crate::fault::CopiesFault;
+use crate::level::Level;
+use hq_packet::Scope;
+use std::alloc::{AllocError, Global};
+use std::marker::Model;
+use std::ops::Range;
+
+/// Memory, and what agents and lanes hold of it.
+#[derive(Drop)]
+pub struct Copies {
+    memory: Vec<u8>,
+    agents: Vec<Level>,
+    lanes: Vec<Level>,
+    // The number of each lane's agent.
+    lane_agents: Vec<u8>,
+}
+
+impl Model for Copies {
+    ghost use Rattle.hq_copies.specs.Copies.{CopiesValue, copies_code, IsCopies};
+
+    ghost Value = { CopiesValue };
+
+    ghost coded = { copies_code };
+
+    ghost view = { λ c. record { memory = c.memory.items; agents = c.agents.items; lanes = c.lanes.items; lane_agents = c.lane_agents.items } };
+
+    ghost invariant = { λ c. IsCopies c.memory.items c.agents.items c.lanes.items c.lane_agents.items };
+}
+
+impl Copies {
+    /// Memory with these bytes, agents that hold nothing, and for each number of an agent a lane that holds nothing.
+    pub fn new(
+        alloc: Global,
+        memory: Vec<u8>,
+        agents: usize,
+        lane_agents: Vec<u8>,
+    ) -> Result<Copies, CopiesFault>
+        requires agents { All (λ a. a < agents) lane_agents.items }
+        requires bytes { length memory.items ≤ 65536 }
+        ensures ok { IfOk result (λ c. c ≡ opened memory.items agents lane_agents.items) }
+        ensures memory { IfErr result (λ e. e ≡ CopiesFault.Memory) }
+    {
+        let agents = empty_levels(alloc, agents)?;
+        let lanes = empty_levels(alloc, lane_agents.len())?;
+        Ok(Copies {
+            memory,
+            agents,
+            lanes,
+            lane_agents,
+        })
+    }
+
+    /// How many lanes there are.
+    pub fn lanes(&self) -> usize
+        ensures { result ≡ length self.now.lanes }
+    {
+        self.lanes.len()
+    }
+
+    /// How many agents there are.
+    pub fn agents(&self) -> usize
+        ensures { result ≡ length self.now.agents }
+    {
+        self.agents.len()
+    }
+
+    /// The bytes of memory.
+    pub fn memory(&self) -> &[u8]
+        ensures { result.now ≡ self.now.memory }
+    {
+        &self.memory
+    }
+
+    /// The byte that is seen through a lane.
+    pub fn read(&self, lane: usize, byte: usize) -> u8
+        requires { IsLaneByte self.now lane byte }
+        ensures { result ≡ lane_byte self.now lane byte }
+    {
+        let agent = self.agent_of(lane);
+        let below = self.agent_byte(agent, byte);
+        self.lanes[lane].value_or(self.number(byte), below)
+    }
+
+    // A byte's number, as levels take it.
+    fn number(&self, byte: usize) -> u32
+        requires { byte < length self.now.memory }
+        ensures number { result ≡ byte }
+        ensures small { result < 65536 }
+    {
+        let _ = self.memory.len();
+        byte as u32
+    }
+
+    // The number of a lane's agent.
+    fn agent_of(&self, lane: usize) -> usize
+        requires { lane < length self.now.lanes }
+        ensures agent { result ≡ slice_index self.now.lane_agents lane }
+        ensures there { result < length self.now.agents }
+    {
+        usize::from(self.lane_agents[lane])
+    }
+
+    // The byte that an agent sees.
+    fn agent_byte(&self, agent: usize, byte: usize) -> u8
+        requires { IsAgentByte self.now agent byte }
+        ensures { result ≡ agent_byte self.now agent byte }
+    {
+        self.agents[agent].value_or(self.number(byte), self.memory[byte])
+    }
+
+    /// Writes into the slice the bytes that are seen through a lane from a byte on.
+    pub fn read_into(&self, lane: usize, byte: usize, bytes: &mut [u8])
+        requires lane { lane < length self.now.lanes }
+        requires bytes { byte + length bytes.old ≤ length self.now.memory }
+        ensures { bytes.new ≡ lane_bytes self.now lane byte (length bytes.old) }
+    {
+        let _ = self.memory.len();
+        for (i, slot) in bytes.iter_mut().enumerate() {
+            *slot = self.read(lane, byte + i);
+        }
+    }
+
+    /// The write of a byte through a lane: the lane's copy is then dirty.
+    pub fn store(&mut self, lane: usize, byte: usize, value: u8) -> Result<(), CopiesFault>
+        requires { IsLaneByte self.old lane byte }
+        ensures ok { OnOk result (self.new ≡ stored self.old lane byte value) }
+        ensures err { OnErr result (self.new ≡ self.old) }
+        ensures memory { IfErr result (λ e. e ≡ CopiesFault.Memory) }
+    {
+        let number = self.number(byte);
+        self.lanes[lane].set_dirty(number, value)?;
+        Ok(())
+    }
+
+    /// Writes a lane's dirty byte back to its agent.
+    pub fn push_lane(&mut self, lane: usize, byte: usize) -> Result<(), CopiesFault>
+        requires { IsLaneByte self.old lane byte }
+        ensures ok { OnOk result (PushedLane self.old lane byte self.new) }
+        ensures err { OnErr result (self.new ≡ self.old) }
+        ensures not_dirty { IfErr result (λ e. e ≡ CopiesFault.NotDirty → IsDirty (copies_of self.old.lanes lane byte) → ⊥) }
+        ensures faults { IfErr result (λ e. (e ≡ CopiesFault.NotDirty) ⊎ ((e ≡ CopiesFault.Memory) × IsDirty (copies_of self.old.lanes lane byte))) }
+    {
+        let number = self.number(byte);
+        let Some(value) = self.lanes[lane].dirty_byte(number) else {
+            return Err(CopiesFault::NotDirty);
+        };
+        let agent = self.agent_of(lane);
+        let below = &mut self.agents[agent];
+        let level = &mut self.lanes[lane];
+        level.push(below, number, value)?;
+        Ok(())
+    }
+
+    /// Writes an agent's dirty byte back to memory.
+    pub fn push_agent(&mut self, agent: usize, byte: usize) -> Result<(), CopiesFault>
+        requires { IsAgentByte self.old agent byte }
+        ensures ok { OnOk result (PushedAgent self.old agent byte self.new) }
+        ensures err { OnErr result (self.new ≡ self.old) }
+        ensures not_dirty { IfErr result (λ e. e ≡ CopiesFault.NotDirty → IsDirty (copies_of self.old.agents agent byte) → ⊥) }
+        ensures faults { IfErr result (λ e. (e ≡ CopiesFault.NotDirty) ⊎ ((e ≡ CopiesFault.Memory) × IsDirty (copies_of self.old.agents agent byte))) }
+    {
+        let number = self.number(byte);
+        let Some(value) = self.agents[agent].dirty_byte(number) else {
+            return Err(CopiesFault::NotDirty);
+        };
+        self.agents[agent].set_clean(number, value)?;
+        self.memory[byte] = value;
+        Ok(())
+    }
+
+    /// Gives a lane a clean copy of a byte that it doesn't hold, as its agent sees it.
+    pub fn fill_lane(&mut self, lane: usize, byte: usize) -> Result<(), CopiesFault>
+        requires { IsLaneByte self.old lane byte }
+        ensures ok { OnOk result (IsAbsent (copies_of self.old.lanes lane byte) × (self.new ≡ lane_filled self.old lane byte)) }
+        ensures err { OnErr result (self.new ≡ self.old) }
+        ensures present { IfErr result (λ e. e ≡ CopiesFault.Present → IsAbsent (copies_of self.old.lanes lane byte) → ⊥) }
+        ensures faults { IfErr result (λ e. (e ≡ CopiesFault.Present) ⊎ ((e ≡ CopiesFault.Memory) × IsAbsent (copies_of self.old.lanes lane byte))) }
+    {
+        let number = self.number(byte);
+        if !self.lanes[lane].is_absent(number) {
+            return Err(CopiesFault::Present);
+        }
+        let agent = self.agent_of(lane);
+        let value = self.agent_byte(agent, byte);
+        self.lanes[lane].set_clean(number, value)?;
+        Ok(())
+    }
+
+    /// Gives an agent a clean copy of a byte of memory that it doesn't hold.
+    pub fn fill_agent(&mut self, agent: usize, byte: usize) -> Result<(), CopiesFault>
+        requires { IsAgentByte self.old agent byte }
+        ensures ok { OnOk result (IsAbsent (copies_of self.old.agents agent byte) × (self.new ≡ agent_filled self.old agent byte)) }
+        ensures err { OnErr result (self.new ≡ self.old) }
+        ensures present { IfErr result (λ e. e ≡ CopiesFault.Present → IsAbsent (copies_of self.old.agents agent byte) → ⊥) }
+        ensures faults { IfErr result (λ e. (e ≡ CopiesFault.Present) ⊎ ((e ≡ CopiesFault.Memory) × IsAbsent (copies_of self.old.agents agent byte))) }
+    {
+        let number = self.number(byte);
+        if !self.agents[agent].is_absent(number) {
+            return Err(CopiesFault::Present);
+        }
+        let value = self.memory[byte];
+        self.agents[agent].set_clean(number, value)?;
+        Ok(())
+    }
+
+    /// Lets a lane's clean copy of a byte go.
+    pub fn drop_lane(&mut self, lane: usize, byte: usize) -> Result<(), CopiesFault>
+        requires { IsLaneByte self.old lane byte }
+        ensures ok { OnOk result (IsClean (copies_of self.old.lanes lane byte) × (self.new ≡ lane_dropped self.old lane byte)) }
+        ensures err { OnErr result (self.new ≡ self.old) }
+        ensures not_clean { IfErr result (λ e. e ≡ CopiesFault.NotClean → IsClean (copies_of self.old.lanes lane byte) → ⊥) }
+        ensures faults { IfErr result (λ e. (e ≡ CopiesFault.NotClean) ⊎ ((e ≡ CopiesFault.Memory) × IsClean (copies_of self.old.lanes lane byte))) }
+    {
+        let number = self.number(byte);
+        let level = &mut self.lanes[lane];
+        if !level.is_clean(number) {
+            return Err(CopiesFault::NotClean);
+        }
+        level.drop_clean(number)?;
+        Ok(())
+    }
+
+    /// Lets an agent's clean copy of a byte go.
+    pub fn drop_agent(&mut self, agent: usize, byte: usize) -> Result<(), CopiesFault>
+        requires { IsAgentByte self.old agent byte }
+        ensures ok { OnOk result (IsClean (copies_of self.old.agents agent byte) × (self.new ≡ agent_dropped self.old agent byte)) }
+        ensures err { OnErr result (self.new ≡ self.old) }
+        ensures not_clean { IfErr result (λ e. e ≡ CopiesFault.NotClean → IsClean (copies_of self.old.agents agent byte) → ⊥) }
+        ensures faults { IfErr result (λ e. (e ≡ CopiesFault.NotClean) ⊎ ((e ≡ CopiesFault.Memory) × IsClean (copies_of self.old.agents agent byte))) }
+    {
+        let number = self.number(byte);
+        let level = &mut self.agents[agent];
+        if !level.is_clean(number) {
+            return Err(CopiesFault::NotClean);
+        }
+        level.drop_clean(number)?;
+        Ok(())
+    }
+
+    /// An acquire fence over these lanes and this agent.
+    pub fn acquire(&mut self, lanes: Range<usize>, agent: usize, scope: Scope)
+        requires agent { agent < length self.old.agents }
+        requires rising { lanes.start ≤ lanes.end }
+        requires lanes { lanes.end ≤ length self.old.lanes }
+        ensures { self.new ≡ fenced self.old lanes.start lanes.end agent scope }
+    {
+        if reaches(scope, Scope::Agent) {
+            keep_dirty(&mut self.lanes, lanes.start, lanes.end);
+        }
+        if reaches(scope, Scope::System) {
+            self.agents[agent].keep_dirty();
+        }
+    }
+
+    /// Whether nothing is left to write back for a release fence over these lanes and this agent.
+    pub fn is_released(&self, lanes: Range<usize>, agent: usize, scope: Scope) -> bool
+        requires agent { agent < length self.now.agents }
+        requires rising { lanes.start ≤ lanes.end }
+        requires lanes { lanes.end ≤ length self.now.lanes }
+        ensures { IsTrue result ↔ IsReleased self.now lanes.start lanes.end agent scope }
+    {
+        if reaches(scope, Scope::Agent) && !have_no_dirty(&self.lanes, lanes.start, lanes.end) {
+            return false;
+        }
+        !reaches(scope, Scope::System) || self.agents[agent].has_no_dirty()
+    }
+
+    /// The first dirty byte of a lane.
+    pub fn first_dirty_lane(&self, lane: usize) -> Option<u32>
+        requires { lane < length self.now.lanes }
+        ensures { MatchOption result (NoneDirty (held self.now.lanes lane)) (λ b. IsFirstDirty (held self.now.lanes lane) b) }
+    {
+        self.lanes[lane].first_dirty()
+    }
+
+    /// The first dirty byte of an agent.
+    pub fn first_dirty_agent(&self, agent: usize) -> Option<u32>
+        requires { agent < length self.now.agents }
+        ensures { MatchOption result (NoneDirty (held self.now.agents agent)) (λ b. IsFirstDirty (held self.now.agents agent) b) }
+    {
+        self.agents[agent].first_dirty()
+    }
+
+    /// How many runs of bytes of one mark a lane holds.
+    pub fn lane_runs(&self, lane: usize) -> usize
+        requires { lane < length self.now.lanes }
+        ensures { IsRunCount (held self.now.lanes lane) result }
+    {
+        self.lanes[lane].runs()
+    }
+
+    /// How many runs of bytes of one mark an agent holds.
+    pub fn agent_runs(&self, agent: usize) -> usize
+        requires { agent < length self.now.agents }
+        ensures { IsRunCount (held self.now.agents agent) result }
+    {
+        self.agents[agent].runs()
+    }
+
+    /// An equal value.
+    pub fn copy(&self, alloc: Global) -> Result<Copies, CopiesFault>
+        ensures ok { IfOk result (λ c. c ≡ self.now) }
+        ensures memory { IfErr result (λ e. e ≡ CopiesFault.Memory) }
+    {
+        Ok(Copies {
+            memory: self.memory.clone()?,
+            agents: copied(alloc, &self.agents)?,
+            lanes: copied(alloc, &self.lanes)?,
+            lane_agents: self.lane_agents.clone()?,
+        })
+    }
+}
+
+// So many that hold nothing.
+fn empty_levels(alloc: Global, count: usize) -> Result<Vec<Level>, AllocError>
+    ensures { IfOk result (λ levels. levels.items ≡ replicate count finite.empty) }
+{
+    let mut levels = Vec::with_capacity(alloc, count)?;
+    for _ in 0..count {
+        levels.push(Level::new(alloc))?;
+    }
+    Ok(levels)
+}
+
+// Equal ones.
+fn copied(alloc: Global, levels: &[Level]) -> Result<Vec<Level>, AllocError>
+    ensures { IfOk result (λ copies. copies.items ≡ levels.now) }
+{
+    let mut copies = Vec::with_capacity(alloc, levels.len())?;
+    for level in levels {
+        copies.push(level.copy()?)?;
+    }
+    Ok(copies)
+}
+
+// Whether a fence of one scope reaches as far as another scope.
+fn reaches(fence: Scope, needed: Scope) -> bool
+    ensures { result ≡ reaches fence needed }
+{
+    match needed {
+        Scope::None => true,
+        Scope::Agent => fence != Scope::None,
+        Scope::System => fence == Scope::System,
+    }
+}
+
+// Lets the clean bytes go of those from start on and before end.
+fn keep_dirty(levels: &mut [Level], start: usize, end: usize)
+    requires rising { start ≤ end }
+    requires within { end ≤ length levels.old }
+    ensures { levels.new ≡ dirty_within start end levels.old }
+{
+    for i in start..end {
+        levels[i].keep_dirty();
+    }
+}
+
+// Whether those from start on and before end have no dirty byte.
+fn have_no_dirty(levels: &[Level], start: usize, end: usize) -> bool
+    requires rising { start ≤ end }
+    requires within { end ≤ length levels.now }
+    ensures { IsTrue result ↔ ((k b : ℕ) → start ≤ k → k < end → is_dirty (copies_of levels.now k b) ≡ false) }
+{
+    for i in start..end {
+        if !levels[i].has_no_dirty() {
+            return false;
+        }
+    }
+    true
+}

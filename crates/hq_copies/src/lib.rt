@@ -1,0 +1,13 @@
+//! Memory, and the copies of its bytes that agents and lanes hold.
+#![tactic(auto)]
+
+mod copies;
+mod fault;
+mod level;
+mod runs;
+
+pub use copies::Copies;
+pub use fault::CopiesFault;
+
+#[cfg(test)]
+mod tests;
