@@ -1,18 +1,19 @@
 -- A line is added.
-use Rattle.std.proofs.Common.{◌≡◌, ℕ, ◌+◌, ◌*◌, ◌^◌, ◌<◌, ◌≤◌, inl, inr, List, [], ◌∷◌, ◌++◌, length, refl, sym, ◌∙◌, ap, subst, arith, Some, slice_get, slice_index, slice_set, length-append}
-use Rattle.std.proofs.Math.ListN.{length-set}
-use Rattle.std.proofs.lemmas.Bool.{cases_eq, cases_lt}
-use Rattle.std.proofs.lemmas.List.{get_or-set_same, get_or-set_other}
-use Rattle.std.proofs.lemmas.Option.{slice_get_within, same_Some}
+use Rattle.std.proofs.Common.{◌≡◌, ℕ, ◌+◌, ◌^◌, ◌<◌, inl, inr, List, [], ◌∷◌, ◌++◌, length, refl, sym, ◌∙◌, ap, subst, arith, Some, map, slice_get, slice_index_or, length-append}
+use Rattle.std.proofs.lemmas.Bool.{cases_lt}
+use Rattle.std.proofs.lemmas.List.{length-map}
+use Rattle.std.proofs.lemmas.Option.{slice_get_within, same_Some, slice_get-map, slice_get-get_or}
+use Rattle.std.specs.Option.{option_map}
+use Rattle.hq_cert.specs.declared.certificate.Line.{Line}
 use Rattle.hq_job.proofs.Grouped.{get_before, get_after}
 use Rattle.hq_cert.specs.declared.certificate.Rule.{Rule}
-use Rattle.hq_cert.specs.View.{rule_of}
+use Rattle.hq_cert.specs.View.{rule_of, line_of}
 use Rattle.hq_model.specs.Job.{Job, IsPacket}
 use Rattle.hq_model.specs.Certificate as model
 use Rattle.hq_model.specs.Certificate.{Says, Follows}
 use Rattle.hq_audit.specs.declared.lines.Lines.{Lines}
-use Rattle.hq_audit.specs.Kept.{lines_of, spot, AllFollow, Kept, Grown, Goes, Numbered}
-use Rattle.hq_audit.proofs.Growing.{grown_same, grown_more, grown_by, says_more, follows_more}
+use Rattle.hq_audit.specs.Kept.{lines_of, AllFollow, Kept, Grown, Goes, Numbered}
+use Rattle.hq_audit.proofs.Growing.{grown_same, grown_more, grown_by, follows_more}
 
 pub goes_same : (job : Job) (l : Lines) → Kept job l → Goes job l l
 goes_same job l k = record { kept = k; grown = grown_same (lines_of l) }
@@ -40,23 +41,10 @@ follow_more job lines x all f k line e =
 abbrev pub line_by : ℕ → ℕ → Rule → model.Line
 line_by p r rule = record { p = p; r = r; rule = rule_of rule }
 
--- the lines and the table, with this line added as number k
+-- the lines, with this line added as number k
 pub record Added (old new : Lines) (p r : ℕ) (rule : Rule) (k : ℕ) : Type 0 where
   pub lines : lines_of new ≡ lines_of old ++ line_by p r rule ∷ []
-  pub numbers : new.numbers.items ≡ slice_set old.numbers.items (spot p r) (k + 1)
   pub number : k ≡ length (lines_of old)
-
-spot_low : (n p r : ℕ) → n ≤ 1024 → p < n → r < n → spot p r < n * 1024
-spot_low n p r f l m = omega arith
-
-pub spot_in : (job : Job) (l : Lines) (p r : ℕ) → Kept job l → IsPacket job p → IsPacket job r → spot p r < length l.numbers.items
-spot_in job l p r k a b = let low : spot p r < length job.packets * 1024 = spot_low (length job.packets) p r k.few a b in let h = k.height in omega arith
-
-spot_first : (p r q s : ℕ) → r < 1024 → s < 1024 → spot p r ≡ spot q s → p ≡ q
-spot_first p r q s l m e = omega arith
-
-spot_second : (p r q s : ℕ) → r < 1024 → s < 1024 → spot p r ≡ spot q s → r ≡ s
-spot_second p r q s l m e = omega arith
 
 grown_added : (old new : Lines) (p r : ℕ) (rule : Rule) (k : ℕ) → Added old new p r rule k → Grown (lines_of old) (lines_of new)
 grown_added old new p r rule k a = subst (Grown (lines_of old)) (sym a.lines) (grown_by (lines_of old) (line_by p r rule ∷ []))
@@ -70,34 +58,12 @@ says_added old new p r rule k a = record {
   second = refl;
 }
 
-sound_added : (job : Job) (old new : Lines) (p r : ℕ) (rule : Rule) (k : ℕ) → Kept job old → IsPacket job p → IsPacket job r → Added old new p r rule k
-    → (q s j : ℕ) → IsPacket job q → IsPacket job s → slice_index new.numbers.items (spot q s) ≡ j + 1 → Says (lines_of new) (length (lines_of new)) j q s
-sound_added job old new p r rule k kept a b added q s j c d e =
-    let few : length job.packets ≤ 1024 = kept.few in
-    let low : r < 1024 = omega (arith, b) in
-    let low' : s < 1024 = omega (arith, d) in
-    let e' : slice_index (slice_set old.numbers.items (spot p r) (k + 1)) (spot q s) ≡ j + 1 = sym (ap (λ xs. slice_index xs (spot q s)) added.numbers) ∙ e in
-    elim (cases_eq (spot p r) (spot q s)) [
-      | inl same ↦
-          let here : slice_index (slice_set old.numbers.items (spot p r) (k + 1)) (spot q s) ≡ k + 1 = sym (ap (slice_index (slice_set old.numbers.items (spot p r) (k + 1))) same) ∙ get_or-set_same old.numbers.items (spot p r) (k + 1) 0 (spot_in job old p r kept a b) in
-          let is : k ≡ j = omega arith in
-          subst (λ x. Says (lines_of new) (length (lines_of new)) j x s) (spot_first p r q s low low' same)
-          (subst (λ x. Says (lines_of new) (length (lines_of new)) j p x) (spot_second p r q s low low' same)
-          (subst (λ x. Says (lines_of new) (length (lines_of new)) x p r) is (says_added old new p r rule k added)))
-      | inr apart ↦
-          let g = grown_added old new p r rule k added in
-          let before : slice_index old.numbers.items (spot q s) ≡ j + 1 = sym (get_or-set_other old.numbers.items (spot p r) (spot q s) (k + 1) 0 (λ x. apart (sym x))) ∙ e' in
-          says_more (lines_of old) (lines_of new) (length (lines_of old)) (length (lines_of new)) j q s g g.len (kept.sound q s j c d before)
-    ]
-
 pub numbered_added : (job : Job) (old new : Lines) (p r : ℕ) (rule : Rule) (k : ℕ) → Kept job old → IsPacket job p → IsPacket job r
     → Follows job (lines_of old) (length (lines_of old)) p r (rule_of rule) → Added old new p r rule k → k + 1 < 2 ^ 32 → Numbered job old new p r k
 numbered_added job old new p r rule k kept a b f added small = record {
   goes = record {
     kept = record {
       few = kept.few;
-      height = ap length added.numbers ∙ length-set old.numbers.items (spot p r) (k + 1) ∙ kept.height;
-      sound = sound_added job old new p r rule k kept a b added;
       follow = subst (AllFollow job) (sym added.lines) (follow_more job (lines_of old) (line_by p r rule) kept.follow f);
     };
     grown = grown_added old new p r rule k added;
@@ -108,3 +74,13 @@ numbered_added job old new p r rule k kept a b f added small = record {
 
 pub numbered_from : (job : Job) (a b c : Lines) (p r k : ℕ) → Goes job a b → Numbered job b c p r k → Numbered job a c p r k
 numbered_from job a b c p r k g n = record { goes = goes_more job a b c g n.goes; says = n.says; small = n.small }
+
+-- a line that is found to say so
+pub says_confirmed : (items : List Line) (k p r : ℕ) (x : Line) → k < length items → x ≡ slice_index_or items k x → x.p ≡ p → x.r ≡ r → Says (map line_of items) (length (map line_of items)) k p r
+says_confirmed items k p r x low is first second = record {
+  lower = omega (arith, low, length-map items line_of);
+  line = line_of x;
+  there = slice_get-map line_of items k ∙ ap (option_map line_of) (slice_get-get_or items k x low ∙ ap Some (sym is));
+  first = first;
+  second = second;
+}

@@ -1,5 +1,5 @@
 -- What is cited for the dependencies of a barrier-OR.
-use Rattle.std.proofs.Common.{◌≡◌, ℕ, ◌+◌, ◌^◌, ◌<◌, inl, inr, List, [], ◌∷◌, ◌++◌, length, sym, ◌∙◌, ap, subst, Option, Some, None, Result, Ok, Err, IfOk, map, take, slice_index_or, slice_set, append-nil}
+use Rattle.std.proofs.Common.{◌≡◌, ℕ, ◌+◌, ◌^◌, ◌<◌, inl, inr, List, [], ◌∷◌, ◌++◌, length, sym, ◌∙◌, ap, subst, Option, Some, None, Result, Ok, Err, IfOk, map, take, slice_index_or, append-nil}
 use Rattle.std.specs.List.{AllZip}
 use Rattle.std.proofs.lemmas.List.{take_more}
 use Rattle.std.proofs.lemmas.List.Elements.{filter_map-append}
@@ -13,7 +13,7 @@ use Rattle.hq_model.specs.Certificate.Rule.{Or as ByOr, Through as ByThrough}
 use Rattle.hq_order.specs.Rounds.{ByEither}
 use Rattle.hq_audit.specs.declared.lines.Lines.{Lines}
 use Rattle.hq_audit.specs.Rests.{Below, ByBranch}
-use Rattle.hq_audit.specs.Kept.{lines_of, spot, Grown, Goes, Numbered, CitesBranch, Branched, AllBranched}
+use Rattle.hq_audit.specs.Kept.{lines_of, Grown, Goes, Numbered, CitesBranch, Branched, AllBranched}
 use Rattle.hq_audit.proofs.Growing.{zip_more, cites_more, says_more}
 use Rattle.hq_audit.proofs.Adding.{goes_more, numbered_added, numbered_from, line_by}
 
@@ -76,10 +76,9 @@ branch_before job round p s d b ban = elim b.upto [ inl e ↦ absurd (ban (sym e
 pub add_answers : {E : Type 0} (job : Job) (a b d : Lines) (p r : ℕ) (rule : Rule) (result : Result ℕ E) → Goes job a b → IsPacket job p → IsPacket job r
     → Follows job (lines_of b) (length (lines_of b)) p r (rule_of rule)
     → IfOk result (λ _. lines_of d ≡ lines_of b ++ line_by p r rule ∷ [])
-    → IfOk result (λ k. d.numbers.items ≡ slice_set b.numbers.items (spot p r) (k + 1))
     → IfOk result (λ k. k ≡ length (lines_of b))
     → IfOk result (λ k. k + 1 < 2 ^ 32)
     → IfOk result (λ k. Numbered job a d p r k)
-add_answers job a b d p r rule (Ok k) g p_is r_is f l n i s =
-    numbered_from job a b d p r k g (numbered_added job b d p r rule k g.kept p_is r_is f (record { lines = l; numbers = n; number = i }) s)
-add_answers job a b d p r rule (Err e) g p_is r_is f l n i s = tt
+add_answers job a b d p r rule (Ok k) g p_is r_is f l i s =
+    numbered_from job a b d p r k g (numbered_added job b d p r rule k g.kept p_is r_is f (record { lines = l; number = i }) s)
+add_answers job a b d p r rule (Err e) g p_is r_is f l i s = tt

@@ -6,12 +6,13 @@ use Rattle.hq_model.specs.Job.{Job, IsPacket, Earlier}
 use Rattle.hq_model.specs.Order.{Before, Branch}
 use Rattle.hq_model.specs.Order.Before.{by_bit_of as bit_of, by_bit_ahead as bit_ahead, by_queue as queued, by_and as waits_one, by_or as waits_each, through}
 use Rattle.hq_model.specs.Order.Branch.{itself, after}
-use Rattle.hq_order.specs.Rounds.{Direct, Next, Within, Reaches, ByEither, IsFirstWithin}
+use Rattle.hq_order.specs.Rounds.{Direct, Next, Within, Reaches, ByEither, IsFirstWithin, Between}
 use Rattle.hq_order.specs.Rounds.Precedes.{by_bit_of, by_bit_ahead, by_queue}
 use Rattle.hq_order.specs.Rounds.Awaits.{by_and, by_or}
 use Rattle.hq_order.specs.Rounds.Next.{by_known, by_either, through as joining}
 use Rattle.hq_order.proofs.Single.{direct_packet, direct_packet_r}
 use Rattle.hq_order.proofs.Closure.{within_before}
+use Rattle.hq_order.proofs.Middles.{within_le}
 use Rattle.hq_audit.specs.Rests.{Below, ByBit, ByQueue, BySlot, ByBranch, ByMiddle}
 
 -- ---- what is within a round is of packets
@@ -133,3 +134,14 @@ never_refuted job (suc k) p r f n = not_next job k p r n (f.first k (omega arith
 pub some_there : (o : Option ℕ) (A : Type 0) (Q : ℕ → Type 0) → MatchOption o A Q → (A → ⊥) → IsSome o
 some_there None A Q h ban = absurd (ban h)
 some_there (Some x) A Q h ban = refl
+
+-- ---- between two packets
+
+pub middle_between : (job : Job) (round p r m : ℕ) → ByMiddle job round p r m → Between job round p r m
+middle_between job round p r m b = elim (cases_lt b.first.k b.second.k) [
+  | inl low ↦ record { k = b.second.k; lower = b.second.lower; first = within_le job b.second.k b.first.k p m (omega arith) b.first.within; second = b.second.within }
+  | inr high ↦ record { k = b.first.k; lower = b.first.lower; first = b.first.within; second = within_le job b.first.k b.second.k m r (omega arith) b.second.within }
+]
+
+pub between_middle : (job : Job) (round p r m : ℕ) → Between job round p r m → ByMiddle job round p r m
+between_middle job round p r m b = record { first = record { k = b.k; lower = b.lower; within = b.first }; second = record { k = b.k; lower = b.lower; within = b.second } }

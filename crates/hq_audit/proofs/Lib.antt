@@ -1,3 +1,4 @@
+pub mod Bounds
 pub mod Founded
 pub mod Growing
 pub mod Adding

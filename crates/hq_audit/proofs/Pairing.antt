@@ -1,6 +1,6 @@
 -- Pair lines are added.
 use Rattle.std.proofs.Common.{◌≡◌, ℕ, ◌+◌, ◌<◌, ◌⊎◌, inl, inr, List, [], ◌∷◌, ◌++◌, length, refl, sym, ◌∙◌, ap, subst, arith, Some, Result, Ok, Err, slice_get, slice_index_or, map}
-use Rattle.std.specs.Prelude.{IsTrue, IsSome, IsOk, MatchResult}
+use Rattle.std.specs.Prelude.{IsTrue, IsSome, IsOk, OnOk, MatchResult}
 use Rattle.std.specs.Global.{Vec}
 use Rattle.std.proofs.lemmas.Bool.{cases_eq}
 use Rattle.std.proofs.lemmas.List.{map-append}
@@ -99,19 +99,23 @@ direct_ok job a b (Err u) h o = absurd (h.neither o)
 pub direct_is : (job : Job) (a b : ℕ) (result : Result Directed Unshown) (d : Directed) → MatchResult result (λ d. IsDirected job a b d) (λ u. IsUnshown job a b u) → result ≡ Ok d → IsDirected job a b d
 direct_is job a b result d h e = let P : Result Directed Unshown → Type 0 = λ x. MatchResult x (λ d. IsDirected job a b d) (λ u. IsUnshown job a b u) in subst P e h
 
-one_of : (job : Job) (a b : ℕ) (d : Directed) (ps : List model.Pair) → IsDirected job a b d → HasAll job ps d.first d.second → HasAll job ps a b ⊎ HasAll job ps b a
+pub one_of : (job : Job) (a b : ℕ) (d : Directed) (ps : List model.Pair) → IsDirected job a b d → HasAll job ps d.first d.second → HasAll job ps a b ⊎ HasAll job ps b a
 one_of job a b d ps i h = elim i.which [
   | inl w ↦ inl (subst (λ x. HasAll job ps x b) w.0 (subst (λ x. HasAll job ps d.first x) w.1 h))
   | inr w ↦ inr (subst (λ x. HasAll job ps x a) w.0 (subst (λ x. HasAll job ps d.first x) w.1 h))
 ]
 
+pub result_has : {A E : Type 0} (job : Job) (a b : ℕ) (d : Directed) (ps : List model.Pair) (result : Result A E) → IsDirected job a b d → OnOk result (HasAll job ps d.first d.second) → OnOk result (HasAll job ps a b ⊎ HasAll job ps b a)
+result_has job a b d ps (Ok x) i h = one_of job a b d ps i h
+result_has job a b d ps (Err e) i h = tt
+
 pub one_later : (job : Job) (ps qs : List model.Pair) (p r : ℕ) → Longer ps qs → HasAll job ps p r ⊎ HasAll job ps r p → HasAll job qs p r ⊎ HasAll job qs r p
 one_later job ps qs p r l (inl h) = inl (all_later job ps qs p r l h)
 one_later job ps qs p r l (inr h) = inr (all_later job ps qs r p l h)
 
-pub row_paired_next : (job : Job) (a b : ℕ) (d : Directed) (ps qs : List model.Pair) → RowPaired job ps a b → Longer ps qs → IsDirected job a b d → HasAll job qs d.first d.second → RowPaired job qs a (b + 1)
-row_paired_next job a b d ps qs h l i o = λ s above low is. elim (cases_eq s b) [
-  | inl e ↦ subst (λ x. HasAll job qs a x ⊎ HasAll job qs x a) (sym e) (one_of job a b d qs i o)
+pub row_paired_next : (job : Job) (a b : ℕ) (ps qs : List model.Pair) → RowPaired job ps a b → Longer ps qs → HasAll job qs a b ⊎ HasAll job qs b a → RowPaired job qs a (b + 1)
+row_paired_next job a b ps qs h l o = λ s above low is. elim (cases_eq s b) [
+  | inl e ↦ subst (λ x. HasAll job qs a x ⊎ HasAll job qs x a) (sym e) o
   | inr apart ↦ one_later job ps qs a s l (h s above (omega arith) is)
 ]
 

@@ -1,5 +1,5 @@
 -- What is known of lines as they are gathered.
-use Rattle.std.specs.Prelude.{◌≡◌, ℕ, ◌+◌, ◌*◌, ◌^◌, ◌<◌, ◌≤◌, List, length, map, Some, slice_get, slice_index}
+use Rattle.std.specs.Prelude.{◌≡◌, ℕ, ◌+◌, ◌^◌, ◌<◌, ◌≤◌, List, length, map, Some, slice_get}
 use Rattle.std.specs.List.{AllZip}
 use Rattle.hq_cert.specs.declared.certificate.Rule.{Rule}
 use Rattle.hq_cert.specs.declared.citation.Citation.{Citation}
@@ -13,20 +13,13 @@ use Rattle.hq_audit.specs.declared.lines.Lines.{Lines}
 abbrev pub lines_of : Lines → List model.Line
 lines_of l = map line_of l.lines.items
 
--- the place of p before r in the table of numbers
-abbrev pub spot : ℕ → ℕ → ℕ
-spot p r = p * 1024 + r
-
 -- Each line follows by its rule from lines of lower number.
 abbrev pub AllFollow : Job → List model.Line → Type 0
 AllFollow job lines = (k : ℕ) (line : model.Line) → slice_get lines k ≡ Some line → Follows job lines k line.p line.r line.rule
 
--- The table has a place for each two packets. What it has there, less one, is the number of a line that concludes that the one
--- is before the other; and each line follows from lines of lower number.
+-- Each line follows from lines of lower number; and there are as few packets as a job may have.
 pub record Kept (job : Job) (l : Lines) : Type 0 where
   pub few : length job.packets ≤ 1024
-  pub height : length l.numbers.items ≡ length job.packets * 1024
-  pub sound : (p r k : ℕ) → p < length job.packets → r < length job.packets → slice_index l.numbers.items (spot p r) ≡ k + 1 → Says (lines_of l) (length (lines_of l)) k p r
   pub follow : AllFollow job (lines_of l)
 
 -- No line was lost.

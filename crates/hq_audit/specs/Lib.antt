@@ -1,4 +1,5 @@
 pub mod Rests
+pub mod Extents
 pub mod Kept
 pub mod Marked
 pub mod Paired

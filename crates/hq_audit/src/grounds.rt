@@ -35,13 +35,16 @@ fn is_bit(job: &Job, p: usize, r: usize, j: usize) -> bool
     job.packet(p).queue == queue && placed.queue == queue && placed.packet.head().barrier
 }
 
-/// The least packet behind p by whose barrier bit p is before r.
+/// The least packet behind p by whose barrier bit p is before r. Where the two stand in one queue, so do all between them.
 fn bit_between(job: &Job, p: usize, r: usize) -> Option<usize>
     requires p_is { IsPacket (plan job.now) p }
     requires r_is { IsPacket (plan job.now) r }
     ensures { MatchOption result ((j : ℕ) → ByBit (plan job.now) p r j → ⊥) (λ j. ByBit (plan job.now) p r j) }
 {
     job.valid();
+    if job.packet(p).queue != job.packet(r).queue {
+        return None;
+    }
     for j in p + 1..r + 1 {
         if is_bit(job, p, r, j) {
             return Some(j);
@@ -51,7 +54,6 @@ fn bit_between(job: &Job, p: usize, r: usize) -> Option<usize>
 }
 
 /// Whether the packet is a barrier packet.
-
 fn is_barrier(packet: &Packet) -> bool
     ensures { IsTrue result ↔ kind_of packet.now ≢ Work }
 {
@@ -170,18 +172,6 @@ fn is_either(before: &Before, round: usize, p: usize, r: usize) -> bool
     }
 }
 
-/// The least packet between p and r by lower rounds.
-fn middle(before: &Before, round: usize, p: usize, r: usize) -> Option<usize>
-    ensures { MatchOption result ((m : ℕ) → ByMiddle before.now round p r m → ⊥) (λ m. ByMiddle before.now round p r m) }
-{
-    for m in 0..before.len() {
-        if is_below(before, round, p, m) && is_below(before, round, m, r) {
-            return Some(m);
-        }
-    }
-    None
-}
-
 /// Why p is before r, by the round in which that comes first.
 pub fn ground_of(before: &Before, round: usize, p: usize, r: usize) -> Ground
     requires { IsFirstWithin before.now round p r }
@@ -200,5 +190,5 @@ pub fn ground_of(before: &Before, round: usize, p: usize, r: usize) -> Ground
     if is_either(before, round, p, r) {
         return Ground::Or;
     }
-    Ground::Through(middle(before, round, p, r).unwrap())
+    Ground::Through(before.middle(round, p, r).unwrap())
 }

@@ -7,6 +7,7 @@
 
 mod auditing;
 mod directed;
+mod extents;
 mod fault;
 mod grounds;
 pub mod laws;
@@ -14,6 +15,7 @@ mod lines;
 mod marking;
 mod needs;
 mod pairs;
+mod slots;
 
 pub use auditing::audit;
 pub use fault::AuditNo;

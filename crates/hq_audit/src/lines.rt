@@ -1,25 +1,23 @@
 //! The lines of a certificate, gathered.
 
-ghost use Rattle.std.specs.Prelude.{◌≡◌, ℕ, ◌+◌, ◌*◌, ◌^◌, ◌<◌, ◌≤◌, ◌++◌, ◌∷◌, [], All, IfOk, OnOk, MatchOption, Some, length, slice_get, slice_index, slice_set};
+ghost use Rattle.std.specs.Prelude.{◌≡◌, ℕ, ◌+◌, ◌*◌, ◌^◌, ◌<◌, ◌≤◌, ◌++◌, ◌∷◌, [], All, IfOk, OnOk, MatchOption, Some, length, slice_get};
 ghost use Rattle.hq_cert.specs.View.{rule_of};
 ghost use Rattle.hq_model.specs.Job.{packet};
 ghost use Rattle.hq_model.specs.Job.{IsPacket};
 ghost use Rattle.hq_model.specs.Job.Kind.{BarrierOr};
-ghost use Rattle.hq_model.specs.Certificate.{signals};
+ghost use Rattle.hq_model.specs.Certificate.{Says, signals};
 ghost use Rattle.hq_model.specs.Order as order;
 ghost use Rattle.hq_order.specs.Rounds.{IsFirstWithin, Reaches, ByEither};
 ghost use Rattle.hq_audit.specs.Rests.{Below, ByMiddle};
 ghost use Rattle.hq_audit.specs.Marked.{IsFact};
-ghost use Rattle.hq_audit.specs.Kept.{lines_of, spot, Kept, Numbered, Ruled, Branched, AllBranched};
+ghost use Rattle.hq_audit.specs.Kept.{lines_of, Kept, Numbered, Ruled, Branched, AllBranched};
 
 use crate::grounds::{Ground, branch_of, ground_of};
-use crate::needs::Fact;
+use crate::needs::{Fact, Needs};
+use crate::slots::Slots;
 use hq_cert::{Branches, Citation, Line, Rule};
 use hq_order::Before;
 use std::alloc::{AllocError, Global};
-
-/// How many places a row of the table has: the most packets that a job has.
-pub const WIDTH: usize = 1024;
 
 /// More lines than there can be.
 const LIMIT: usize = 1_048_577;
@@ -27,7 +25,8 @@ const LIMIT: usize = 1_048_577;
 /// The lines so far.
 #[derive(Drop)]
 pub struct Lines {
-    /// At p times the width plus r, one more than the number of the line that p is before r, or 0 where there is none.
+    slots: Slots,
+    /// At a line's slot, one more than its number, or 0 where it isn't there yet.
     numbers: Vec<u32>,
     lines: Vec<Line>,
 }
@@ -41,14 +40,24 @@ pub fn round_of(before: &Before, p: usize, r: usize) -> usize
 }
 
 impl Lines {
-    /// No lines, with room for so many.
-    pub fn new(alloc: Global, before: &Before, room: usize) -> Result<Lines, AllocError>
+    /// No lines, with room for those that are needed, so many.
+    pub fn new(
+        alloc: Global,
+        before: &Before,
+        needs: Needs,
+        room: usize,
+    ) -> Result<Lines, AllocError>
         ensures { IfOk result (λ l. Kept before.now l) }
     {
         before.job().valid();
-        let numbers = vec![in alloc; 0; before.len() * WIDTH]?;
+        let slots = Slots::new(alloc, needs)?;
+        let numbers = vec![in alloc; 0; room]?;
         let lines = Vec::with_capacity(alloc, room)?;
-        Ok(Lines { numbers, lines })
+        Ok(Lines {
+            slots,
+            numbers,
+            lines,
+        })
     }
 
     /// Adds a line for each fact, and before it those that it cites.
@@ -76,24 +85,47 @@ impl Lines {
         self.lines
     }
 
+    /// The number, if its line is that p is before r.
+    fn confirmed(&self, number: u32, p: usize, r: usize) -> Option<u32>
+        requires { number + 1 < 2 ^ 32 }
+        ensures { MatchOption result (Unit {0}) (λ k. Says (lines_of self.now) (length (lines_of self.now)) k p r × (k + 1 < 2 ^ 32)) }
+    {
+        let line = self.lines.get(number as usize)?;
+        if line.p as usize == p && line.r as usize == r {
+            Some(number)
+        } else {
+            None
+        }
+    }
+
     /// The number of the line that p is before r, if there is one.
     fn known(&self, p: usize, r: usize) -> Option<u32>
-        requires { spot p r < length self.now.numbers.items }
-        ensures { MatchOption result (Unit {0}) (λ k. (slice_index self.now.numbers.items (spot p r) ≡ k + 1) × (k + 1 < 2 ^ 32)) }
+        ensures { MatchOption result (Unit {0}) (λ k. Says (lines_of self.now) (length (lines_of self.now)) k p r × (k + 1 < 2 ^ 32)) }
     {
-        match self.numbers[p * WIDTH + r] {
+        let slot = self.slots.slot(p, r)?;
+        match *self.numbers.get(slot)? {
             0 => None,
-            next => Some(next - 1),
+            next => self.confirmed(next - 1, p, r),
+        }
+    }
+
+    /// Notes the number of the line that p is before r.
+    fn remember(&mut self, p: usize, r: usize, number: u32)
+        requires { number + 1 < 2 ^ 32 }
+        ensures { self.new.lines ≡ self.old.lines }
+    {
+        if let Some(slot) = self.slots.slot(p, r) {
+            if let Some(next) = self.numbers.get_mut(slot) {
+                *next = number + 1;
+            }
         }
     }
 
     /// Adds a line, and answers its number.
     fn add(&mut self, p: usize, r: usize, rule: Rule) -> Result<u32, AllocError>
-        requires spot { spot p r < length self.old.numbers.items }
         requires p_is { p < 1024 }
         requires r_is { r < 1024 }
         ensures lines { IfOk result (λ _. lines_of self.new ≡ lines_of self.old ++ record { p = p; r = r; rule = rule_of rule } ∷ []) }
-        ensures numbers { IfOk result (λ k. self.new.numbers.items ≡ slice_set self.old.numbers.items (spot p r) (k + 1)) }
         ensures number { IfOk result (λ k. k ≡ length (lines_of self.old)) }
         ensures small { IfOk result (λ k. k + 1 < 2 ^ 32) }
     {
@@ -107,8 +139,9 @@ impl Lines {
             rule,
         };
         self.lines.push(line)?;
-        self.numbers[p * WIDTH + r] = number as u32 + 1;
-        Ok(number as u32)
+        let number = number as u32;
+        self.remember(p, r, number);
+        Ok(number)
     }
 
     /// The number of the line that p is before r, which comes first in this round. Where there is none yet, it goes in, behind

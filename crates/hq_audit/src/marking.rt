@@ -5,20 +5,18 @@ ghost use Rattle.hq_model.specs.Job.{IsPacket};
 ghost use Rattle.hq_model.specs.Order as order;
 ghost use Rattle.hq_model.specs.Fence as model;
 ghost use Rattle.hq_fence.specs.Judgement.{IsRelease, IsAcquire, ReleasesBefore, ReleasesToAcquire, Shows, end_of, first_of};
-ghost use Rattle.hq_audit.specs.Marked.{Marked};
+ghost use Rattle.hq_audit.specs.Extents.{AreExtents};
 ghost use Rattle.hq_audit.specs.Refused.{ShownOneWay, RowShown, AllShown, IsUnshown, IsFirstOfRow, IsFirstUnshown};
 
 use crate::directed::{Unshown, direct};
+use crate::extents::{Extent, are_apart};
 use crate::needs::Needs;
 use hq_fence::{Acquire, Release, Shown};
 use hq_order::Before;
 
 /// A line that p is before x is needed, unless p is x.
-#[tactic(auto, using(crate::proofs::Founded::before_first, crate::proofs::Founded::before_second))]
 fn need_upto(needs: &mut Needs, before: &Before, p: usize, x: usize)
-    requires marked { Marked before.now needs.old }
     requires upto { model.SameOrBefore before.now p x }
-    ensures { Marked before.now needs.new }
 {
     if p != x {
         needs.need(before, p, x);
@@ -27,9 +25,7 @@ fn need_upto(needs: &mut Needs, before: &Before, p: usize, x: usize)
 
 /// What a release needs; answers its last packet.
 fn need_release(needs: &mut Needs, before: &Before, p: usize, r: usize, release: Release) -> usize
-    requires marked { Marked before.now needs.old }
     requires release { IsRelease before.now p r release }
-    ensures marked { Marked before.now needs.new }
     ensures last { result ≡ end_of release }
 {
     match release {
@@ -47,9 +43,7 @@ fn need_release(needs: &mut Needs, before: &Before, p: usize, r: usize, release:
 
 /// What an acquire needs; answers its first packet.
 fn need_acquire(needs: &mut Needs, before: &Before, p: usize, r: usize, acquire: Acquire) -> usize
-    requires marked { Marked before.now needs.old }
     requires acquire { IsAcquire before.now p r acquire }
-    ensures marked { Marked before.now needs.new }
     ensures first { result ≡ first_of acquire }
 {
     match acquire {
@@ -73,9 +67,7 @@ fn need_write_read(
     r: usize,
     fences: (Release, Acquire),
 )
-    requires marked { Marked before.now needs.old }
     requires fences { ReleasesToAcquire before.now p r fences }
-    ensures { Marked before.now needs.new }
 {
     let last = need_release(needs, before, p, r, fences.0);
     let first = need_acquire(needs, before, p, r, fences.1);
@@ -84,9 +76,7 @@ fn need_write_read(
 
 /// What fences need between two writes.
 fn need_write_write(needs: &mut Needs, before: &Before, p: usize, r: usize, release: Release)
-    requires marked { Marked before.now needs.old }
     requires fences { ReleasesBefore before.now p r release }
-    ensures { Marked before.now needs.new }
 {
     let last = need_release(needs, before, p, r, release);
     needs.need(before, last, r);
@@ -94,9 +84,7 @@ fn need_write_write(needs: &mut Needs, before: &Before, p: usize, r: usize, rele
 
 /// What the pair lines of p with r need.
 fn need_shown(needs: &mut Needs, before: &Before, p: usize, r: usize, shown: Shown)
-    requires marked { Marked before.now needs.old }
     requires shows { Shows before.now p r shown }
-    ensures { Marked before.now needs.new }
 {
     if let Some(fences) = shown.wr {
         need_write_read(needs, before, p, r, fences);
@@ -121,40 +109,63 @@ fn kinds_of(shown: &Shown) -> usize {
     count
 }
 
-/// What the pair lines of a with the packets above it need. Answers how many there are, for the room that they take.
-fn need_row(needs: &mut Needs, before: &Before, a: usize) -> Result<usize, Unshown>
-    requires marked { Marked before.now needs.old }
+/// What the pair lines of a and b need. Answers how many there are.
+fn need_pair(
+    needs: &mut Needs,
+    before: &Before,
+    extents: &[Extent],
+    a: usize,
+    b: usize,
+) -> Result<usize, Unshown>
+    requires extents { AreExtents before.now extents.now }
     requires a_is { IsPacket before.now a }
-    ensures marked { OnOk result (Marked before.now needs.new) }
+    requires b_is { IsPacket before.now b }
+    ensures shown { OnOk result (ShownOneWay before.now a b) }
+    ensures unshown { IfErr result (λ u. IsUnshown before.now a b u) }
+{
+    if are_apart(extents, a, b) {
+        return Ok(0);
+    }
+    let direction = direct(before, a, b)?;
+    need_shown(
+        needs,
+        before,
+        direction.first,
+        direction.second,
+        direction.shown,
+    );
+    Ok(kinds_of(&direction.shown))
+}
+
+/// What the pair lines of a with the packets above it need. Answers how many there are, for the room that they take.
+fn need_row(
+    needs: &mut Needs,
+    before: &Before,
+    extents: &[Extent],
+    a: usize,
+) -> Result<usize, Unshown>
+    requires extents { AreExtents before.now extents.now }
+    requires a_is { IsPacket before.now a }
     ensures shown { OnOk result (RowShown before.now a (length before.now.packets)) }
     ensures unshown { IfErr result (λ u. IsFirstOfRow before.now a u) }
 {
     before.job().valid();
     let mut count = 0usize;
     for b in a + 1..before.len() {
-        let direction = direct(before, a, b)?;
-        need_shown(
-            needs,
-            before,
-            direction.first,
-            direction.second,
-            direction.shown,
-        );
-        count = count.saturating_add(kinds_of(&direction.shown));
+        count = count.saturating_add(need_pair(needs, before, extents, a, b)?);
     }
     Ok(count)
 }
 
 /// What all pair lines need, or the first two packets that aren't ordered. Answers how many pair lines there are.
-pub fn need_all(needs: &mut Needs, before: &Before) -> Result<usize, Unshown>
-    requires { Marked before.now needs.old }
-    ensures marked { OnOk result (Marked before.now needs.new) }
+pub fn need_all(needs: &mut Needs, before: &Before, extents: &[Extent]) -> Result<usize, Unshown>
+    requires extents { AreExtents before.now extents.now }
     ensures shown { OnOk result (AllShown before.now) }
     ensures unshown { IfErr result (λ u. IsFirstUnshown before.now u) }
 {
     let mut count = 0usize;
     for a in 0..before.len() {
-        count = count.saturating_add(need_row(needs, before, a)?);
+        count = count.saturating_add(need_row(needs, before, extents, a)?);
     }
     Ok(count)
 }

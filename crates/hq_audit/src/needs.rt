@@ -5,11 +5,10 @@ ghost use Rattle.hq_model.specs.Job.{IsPacket};
 ghost use Rattle.hq_model.specs.Order as order;
 ghost use Rattle.hq_order.specs.Rounds.{IsFirstWithin, Reaches};
 ghost use Rattle.hq_audit.specs.Rests.{Below};
-ghost use Rattle.hq_audit.specs.Kept.{spot};
-ghost use Rattle.hq_audit.specs.Marked.{Marked, IsFact};
+ghost use Rattle.hq_audit.specs.Marked.{IsFact};
 
 use crate::grounds::{Ground, branch_of, ground_of};
-use crate::lines::{WIDTH, round_of};
+use crate::lines::round_of;
 use hq_order::Before;
 use std::alloc::{AllocError, Global};
 
@@ -24,56 +23,105 @@ pub struct Fact {
     pub r: u16,
 }
 
+/// How many words of bits a packet has.
+const WORDS: usize = 16;
+
+/// The place of r's word in the row of p.
+pub fn place_of(p: usize, r: usize) -> usize {
+    p.saturating_mul(WORDS).saturating_add(r / 64)
+}
+
 /// Which lines are needed.
 #[derive(Drop)]
 pub struct Needs {
-    /// At p times the width plus r, one more than the first round in which p is before r, or 0 where no line is needed.
-    rounds: Vec<u32>,
+    /// Bit `r % 64` at the place of p and r tells whether a line that p is before r is needed.
+    bits: Vec<u64>,
+}
+
+/// Adds the fact that p is before r, if it is one.
+fn push_fact(facts: &mut Vec<Fact>, before: &Before, p: usize, r: usize) -> Result<(), AllocError>
+    requires p { p < 1024 }
+    requires r { r < 1024 }
+    requires facts { All (IsFact before.now) facts.old.items }
+    ensures { OnOk result (All (IsFact before.now) facts.new.items) }
+{
+    if let Some(round) = before.round(p, r) {
+        let round = if round < LAST { round } else { LAST } as u32;
+        facts.push(Fact {
+            round,
+            p: p as u16,
+            r: r as u16,
+        })?;
+    }
+    Ok(())
+}
+
+/// Adds the facts of p that a word of its row has; the word's first bit is that of packet `first`.
+fn push_word(
+    facts: &mut Vec<Fact>,
+    before: &Before,
+    p: usize,
+    word: u64,
+    first: usize,
+) -> Result<(), AllocError>
+    requires p { p < 1024 }
+    requires first { first + 64 ≤ 1024 }
+    requires facts { All (IsFact before.now) facts.old.items }
+    ensures { OnOk result (All (IsFact before.now) facts.new.items) }
+{
+    for bit in 0..64 {
+        if word >> bit & 1 == 1 {
+            push_fact(facts, before, p, first + bit)?;
+        }
+    }
+    Ok(())
 }
 
 impl Needs {
     /// None are needed yet.
-    pub fn new(alloc: Global, before: &Before) -> Result<Needs, AllocError>
-        ensures { IfOk result (λ n. Marked before.now n) }
-    {
+    pub fn new(alloc: Global, before: &Before) -> Result<Needs, AllocError> {
         before.job().valid();
-        let rounds = vec![in alloc; 0; before.len() * WIDTH]?;
-        Ok(Needs { rounds })
+        let bits = vec![in alloc; 0; before.len() * WORDS]?;
+        Ok(Needs { bits })
+    }
+
+    /// The bits, row by row.
+    pub fn into_bits(self) -> Vec<u64> {
+        self.bits
+    }
+
+    /// The word at a place, or 0 where there is none.
+    fn word(&self, place: usize) -> u64 {
+        match self.bits.get(place) {
+            Some(word) => *word,
+            None => 0,
+        }
     }
 
     /// Whether a line that p is before r is needed.
-    fn has(&self, p: usize, r: usize) -> bool
-        requires { spot p r < length self.now.rounds.items }
-        ensures { IsTrue result ↔ slice_index self.now.rounds.items (spot p r) ≢ 0 }
-    {
-        self.rounds[p * WIDTH + r] != 0
+    fn has(&self, p: usize, r: usize) -> bool {
+        self.word(place_of(p, r)) >> (r % 64) & 1 == 1
+    }
+
+    /// A line that p is before r is needed.
+    fn set(&mut self, p: usize, r: usize) {
+        if let Some(word) = self.bits.get_mut(place_of(p, r)) {
+            *word |= 1 << (r % 64);
+        }
     }
 
     /// Notes that a line that p is before r is needed, and answers the first round in which that comes.
     fn note(&mut self, before: &Before, p: usize, r: usize) -> usize
-        requires marked { Marked before.now self.old }
-        requires p_is { IsPacket before.now p }
-        requires r_is { IsPacket before.now r }
-        requires before { order.Before before.now p r }
-        ensures marked { Marked before.now self.new }
-        ensures first { IsFirstWithin before.now result p r }
+        requires { order.Before before.now p r }
+        ensures { IsFirstWithin before.now result p r }
     {
-        let round = round_of(before, p, r);
-        self.rounds[p * WIDTH + r] = if round < LAST {
-            round as u32
-        } else {
-            LAST as u32
-        } + 1;
-        round
+        self.set(p, r);
+        round_of(before, p, r)
     }
 
     /// A line that p is before r is needed, and those that it cites.
     pub fn need(&mut self, before: &Before, p: usize, r: usize)
-        requires marked { Marked before.now self.old }
-        requires p_is { IsPacket before.now p }
-        requires r_is { IsPacket before.now r }
-        requires before { order.Before before.now p r }
-        ensures { Marked before.now self.new }
+        requires { order.Before before.now p r }
     {
         if !self.has(p, r) {
             let round = self.note(before, p, r);
@@ -85,9 +133,7 @@ impl Needs {
     #[cycle(mark)]
     #[tactic(auto, using(crate::proofs::Founded::within_first))]
     fn mark_cited(&mut self, before: &Before, round: usize, p: usize, r: usize)
-        requires marked { Marked before.now self.old }
         requires first { IsFirstWithin before.now round p r }
-        ensures { Marked before.now self.new }
     {
         match ground_of(before, round, p, r) {
             Ground::Or => self.mark_each(before, round, p, &before.job().packet(r).slots),
@@ -102,9 +148,7 @@ impl Needs {
     /// A line that p is before r by lower rounds is needed, and those that it cites.
     #[cycle(mark)]
     fn mark_below(&mut self, before: &Before, round: usize, p: usize, r: usize)
-        requires marked { Marked before.now self.old }
         requires below { Below before.now round p r }
-        ensures { Marked before.now self.new }
     {
         if !self.has(p, r) {
             let round = self.note(before, p, r);
@@ -115,10 +159,8 @@ impl Needs {
     /// The lines are needed that are cited for each of the signals.
     #[cycle(mark)]
     fn mark_each(&mut self, before: &Before, round: usize, p: usize, slots: &[Option<u16>])
-        requires marked { Marked before.now self.old }
         requires p_is { IsPacket before.now p }
         requires each { (slot s : ℕ) → slice_get slots.now slot ≡ Some (Some s) → Reaches before.now (Below before.now round) p s }
-        ensures { Marked before.now self.new }
     {
         for slot in slots {
             if let Some(signal) = slot {
@@ -130,10 +172,8 @@ impl Needs {
     /// The line is needed that is cited for a signal, if one is.
     #[cycle(mark)]
     fn mark_branch(&mut self, before: &Before, round: usize, p: usize, signal: u16)
-        requires marked { Marked before.now self.old }
         requires p_is { IsPacket before.now p }
         requires reaches { Reaches before.now (Below before.now round) p signal }
-        ensures { Marked before.now self.new }
     {
         let d = branch_of(before, round, p, signal).unwrap();
         if d != p {
@@ -143,31 +183,25 @@ impl Needs {
 
     /// Appends the needed lines that p is before others.
     fn push_row(&self, facts: &mut Vec<Fact>, before: &Before, p: usize) -> Result<(), AllocError>
-        requires marked { Marked before.now self.now }
-        requires p_is { IsPacket before.now p }
+        requires p { p < 1024 }
         requires facts { All (IsFact before.now) facts.old.items }
         ensures { OnOk result (All (IsFact before.now) facts.new.items) }
     {
-        for r in 0..before.len() {
-            let next = self.rounds[p * WIDTH + r];
-            if next != 0 {
-                facts.push(Fact {
-                    round: next - 1,
-                    p: p as u16,
-                    r: r as u16,
-                })?;
+        for place in 0..WORDS {
+            let word = self.word(p * WORDS + place);
+            if word != 0 {
+                push_word(facts, before, p, word, place * 64)?;
             }
         }
         Ok(())
     }
 
     /// The needed lines, by round, then by the first packet, then by the second.
-    pub fn facts(self, alloc: Global, before: &Before) -> Result<Vec<Fact>, AllocError>
-        requires { Marked before.now self }
+    pub fn facts(&self, alloc: Global, before: &Before) -> Result<Vec<Fact>, AllocError>
         ensures { IfOk result (λ facts. All (IsFact before.now) facts.items) }
     {
-        let count = self.rounds.iter().filter(|next| **next != 0).count();
-        let mut facts = Vec::with_capacity(alloc, count)?;
+        before.job().valid();
+        let mut facts = Vec::new(alloc);
         for p in 0..before.len() {
             self.push_row(&mut facts, before, p)?;
         }

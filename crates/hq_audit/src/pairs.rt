@@ -1,16 +1,18 @@
 //! The pair lines of two packets.
 
-ghost use Rattle.std.specs.Prelude.{◌≡◌, ℕ, ◌<◌, [], IfOk, OnOk, IfSome, IsSome, IsTrue, length};
+ghost use Rattle.std.specs.Prelude.{◌≡◌, ℕ, ◌<◌, ◌⊎◌, [], IfOk, OnOk, IfSome, IsSome, IsTrue, length};
 ghost use Rattle.hq_model.specs.Job.{IsPacket};
 ghost use Rattle.hq_model.specs.Order as order;
 ghost use Rattle.hq_model.specs.Fence as model;
 ghost use Rattle.hq_fence.specs.Judgement.{IsRelease, IsAcquire, ReleasesBefore, ReleasesToAcquire, Shows};
-ghost use Rattle.hq_audit.specs.Refused.{RowShown, AllShown};
+ghost use Rattle.hq_audit.specs.Extents.{AreExtents};
+ghost use Rattle.hq_audit.specs.Refused.{ShownOneWay, RowShown, AllShown};
 ghost use Rattle.hq_packet.specs.declared.packet.Scope.TheVariants as scope;
 ghost use Rattle.hq_audit.specs.Kept.{lines_of, Kept, Numbered};
 ghost use Rattle.hq_audit.specs.Paired.{Cited, ReleaseCited, AcquireCited, Fenced, pairs_of, AllHold, PairsGo, HasPairIn, HasAll, RowPaired, AllPaired};
 
 use crate::directed::direct;
+use crate::extents::{Extent, are_apart};
 use crate::lines::{Lines, round_of};
 use hq_cert::{Citation, Fences, Pair, ReadChain, WriteChain};
 use hq_fence::{Acquire, Release, Shown};
@@ -379,32 +381,59 @@ fn add_shown(
     Ok(())
 }
 
+/// Adds the pair lines of a and b.
+fn add_pair(
+    pairs: &mut Vec<Pair>,
+    lines: &mut Lines,
+    alloc: Global,
+    before: &Before,
+    extents: &[Extent],
+    a: usize,
+    b: usize,
+) -> Result<(), AllocError>
+    requires kept { Kept before.now lines.old }
+    requires hold { AllHold before.now (lines_of lines.old) (pairs_of pairs.old) }
+    requires extents { AreExtents before.now extents.now }
+    requires a_is { IsPacket before.now a }
+    requires b_is { IsPacket before.now b }
+    requires shown { ShownOneWay before.now a b }
+    ensures goes { OnOk result (PairsGo before.now lines.old lines.new (pairs_of pairs.old) (pairs_of pairs.new)) }
+    ensures has { OnOk result (HasAll before.now (pairs_of pairs.new) a b ⊎ HasAll before.now (pairs_of pairs.new) b a) }
+{
+    if are_apart(extents, a, b) {
+        return Ok(());
+    }
+    let direction = direct(before, a, b).unwrap();
+    add_shown(
+        pairs,
+        lines,
+        alloc,
+        before,
+        direction.first,
+        direction.second,
+        direction.shown,
+    )
+}
+
 /// Adds the pair lines of a with the packets above it.
 fn add_row(
     pairs: &mut Vec<Pair>,
     lines: &mut Lines,
     alloc: Global,
     before: &Before,
+    extents: &[Extent],
     a: usize,
 ) -> Result<(), AllocError>
     requires kept { Kept before.now lines.old }
     requires hold { AllHold before.now (lines_of lines.old) (pairs_of pairs.old) }
+    requires extents { AreExtents before.now extents.now }
     requires a_is { IsPacket before.now a }
     requires shown { RowShown before.now a (length before.now.packets) }
     ensures goes { OnOk result (PairsGo before.now lines.old lines.new (pairs_of pairs.old) (pairs_of pairs.new)) }
     ensures paired { OnOk result (RowPaired before.now (pairs_of pairs.new) a (length before.now.packets)) }
 {
     for b in a + 1..before.len() {
-        let direction = direct(before, a, b).unwrap();
-        add_shown(
-            pairs,
-            lines,
-            alloc,
-            before,
-            direction.first,
-            direction.second,
-            direction.shown,
-        )?;
+        add_pair(pairs, lines, alloc, before, extents, a, b)?;
     }
     Ok(())
 }
@@ -414,16 +443,18 @@ pub fn all_pairs(
     lines: &mut Lines,
     alloc: Global,
     before: &Before,
+    extents: &[Extent],
     room: usize,
 ) -> Result<Vec<Pair>, AllocError>
     requires kept { Kept before.now lines.old }
+    requires extents { AreExtents before.now extents.now }
     requires shown { AllShown before.now }
     ensures goes { IfOk result (λ pairs. PairsGo before.now lines.old lines.new [] (pairs_of pairs)) }
     ensures paired { IfOk result (λ pairs. AllPaired before.now (pairs_of pairs)) }
 {
     let mut pairs = Vec::with_capacity(alloc, room)?;
     for a in 0..before.len() {
-        add_row(&mut pairs, lines, alloc, before, a)?;
+        add_row(&mut pairs, lines, alloc, before, extents, a)?;
     }
     Ok(pairs)
 }

@@ -1,9 +1,11 @@
 pub mod Sets
 pub mod Single
 pub mod Rows
+pub mod Crossing
 pub mod Turns
 pub mod Growth
 pub mod Closure
+pub mod Middles
 pub mod Cover
 pub mod Filling
 pub mod Lists

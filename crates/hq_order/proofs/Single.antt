@@ -1,12 +1,13 @@
 -- What the rules give that rest on no other pair.
-use Rattle.std.proofs.Common.{◌≡◌, ◌↔◌, ℕ, ltb, ◌+◌, ◌<◌, ◌⊎◌, inl, inr, length, refl, sym, ◌∙◌, ap, subst, arith, IsTrue, Some, slice_get}
+use Rattle.std.proofs.Common.{◌≡◌, ◌↔◌, ℕ, ltb, ◌+◌, ◌<◌, ◌≤◌, ◌⊎◌, inl, inr, length, refl, sym, ◌∙◌, ap, subst, arith, IsTrue, Some, slice_get}
 use Rattle.std.proofs.lemmas.Bool.{cases_eq, lt-ltb}
 use Rattle.std.proofs.lemmas.List.{length-map}
 use Rattle.hq_job.specs.declared.rows.Placed.{Placed}
 use Rattle.hq_job.specs.Value.{JobValue}
 use Rattle.hq_job.specs.Plan.{plan, planned, kind_of}
 use Rattle.hq_model.specs.Job.{Job, packet, IsPacket, Earlier, Dependency, Decrements, IsBarrier}
-use Rattle.hq_model.specs.Job.Kind.{BarrierAnd, BarrierOr}
+use Rattle.hq_model.specs.Job.Kind.{Work, BarrierAnd, BarrierOr}
+use Rattle.hq_job.specs.Access.{AreOfQueue}
 use Rattle.hq_order.specs.Matrix.{BitAbove, Names, NamesOnly}
 use Rattle.hq_order.specs.Rounds.{Precedes, Awaits, Direct}
 use Rattle.hq_order.specs.Rounds.Precedes.{by_bit_of, by_bit_ahead, by_queue}
@@ -133,3 +134,39 @@ direct_packet_r job p r (inl (by_bit_ahead e b f)) = f.is_packet
 direct_packet_r job p r (inl (by_queue e b)) = e.is_packet
 direct_packet_r job p r (inr (by_and k d c)) = d.is_packet
 direct_packet_r job p r (inr (by_or k d c)) = d.is_packet
+
+-- ---- the packets of a queue
+
+pub start_low : (job : Job) (queue start stop r : ℕ) → AreOfQueue job queue start stop → (packet job r).queue ≡ queue → IsPacket job r → start ≤ r
+start_low job queue start stop r q e l = (q.within r l e).0
+
+pub none_below : (job : Job) (queue start stop r p : ℕ) → AreOfQueue job queue start stop → (packet job r).queue ≡ queue → IsPacket job r → p < 0 ↔ BitAbove job r start p
+none_below job queue start stop r p q e l = (
+  λ h. absurd (omega arith),
+  λ b.
+      let low : start ≤ r = start_low job queue start stop r q e l in
+      let below : b.j < start = b.below in
+      let packets : r < length job.packets = l in
+      let there : b.j < length job.packets = omega arith in
+      let never : start ≤ b.j = (q.within b.j there (b.same_queue ∙ e)).0 in
+      absurd (omega arith),
+)
+
+precedes_earlier : (job : Job) (p r : ℕ) → Precedes job p r → Earlier job p r
+precedes_earlier job p r (by_bit_of e b) = e
+precedes_earlier job p r (by_bit_ahead {j} e b f) = record { ahead = omega (arith, e.ahead, f.ahead); is_packet = f.is_packet; same_queue = e.same_queue ∙ f.same_queue }
+precedes_earlier job p r (by_queue e b) = e
+
+awaits_barrier : (job : Job) (p r : ℕ) → Awaits job p r → (packet job r).kind ≡ Work → ⊥
+awaits_barrier job p r (by_and k d c) w = let x : BarrierAnd ≡ Work = sym k ∙ w in absurd (cc)
+awaits_barrier job p r (by_or k d c) w = let x : BarrierOr ≡ Work = sym k ∙ w in absurd (cc)
+
+-- what is directly before work stands ahead of it in its queue
+pub work_candidates : (job : Job) (queue start stop p r : ℕ) → AreOfQueue job queue start stop → (packet job r).queue ≡ queue → (packet job r).kind ≡ Work → IsPacket job r → Direct job p r → (start ≤ p) × (p < r)
+work_candidates job queue start stop p r q e w l (inl b) =
+    let f = precedes_earlier job p r b in
+    let ahead : p < r = f.ahead in
+    let packets : r < length job.packets = l in
+    let there : p < length job.packets = omega arith in
+    ((q.within p there (f.same_queue ∙ e)).0, ahead)
+work_candidates job queue start stop p r q e w l (inr a) = absurd (awaits_barrier job p r a w)

@@ -1,5 +1,5 @@
 -- Sets of numbers as rows of bits.
-use Rattle.std.specs.Prelude.{IsTrue, ℕ, ◌/◌, ◌%◌, Bool, List, slice_index, ◌==◌}
+use Rattle.std.specs.Prelude.{IsTrue, ℕ, ◌<◌, ◌/◌, ◌%◌, Bool, List, slice_index, ◌==◌}
 use Rattle.std.specs.Int.{bit_at}
 
 -- whether p is in the set: bit p mod 64 of word p / 64
@@ -9,3 +9,9 @@ has row p = bit_at (slice_index row (p / 64)) (p % 64) == 1
 -- the first set has all that the second has
 abbrev pub Covers : List ℕ → List ℕ → Type 0
 Covers row other = (p : ℕ) → IsTrue (has other p) → IsTrue (has row p)
+
+-- n is the least number that both sets have
+pub record IsFirstCommon (left right : List ℕ) (n : ℕ) : Type 0 where
+  pub in_left : IsTrue (has left n)
+  pub in_right : IsTrue (has right n)
+  pub first : (i : ℕ) → i < n → IsTrue (has left i) → IsTrue (has right i) → ⊥

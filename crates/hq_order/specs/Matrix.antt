@@ -93,3 +93,21 @@ pub record IsMarkedFirst (rounds : List (Vec (Vec ℕ))) (p r k : ℕ) : Type 0 
   pub low : k < length rounds
   pub there : Marks (matrix rounds k) p r
   pub first : (j : ℕ) → j < k → Marks (matrix rounds j) p r → ⊥
+
+-- ---- the rows turned round: what a packet is before
+
+-- the table has r at p times 1024, for each two packets of which p is in the row of r
+pub record Turned (rows : List (Vec ℕ)) (table : List ℕ) : Type 0 where
+  pub len : length table ≡ 16384
+  pub exact : (p r : ℕ) → p < 1024 → r < 1024 → IsTrue (has table (p * 1024 + r)) ↔ Marks rows p r
+
+-- so it is for each round
+pub record AreTurned (rounds : List (Vec (Vec ℕ))) (tables : List (Vec ℕ)) : Type 0 where
+  pub len : length tables ≡ length rounds
+  pub each : (k : ℕ) → k < length rounds → Turned (matrix rounds k) (row tables k)
+
+-- m is the least packet that p is before by these rows, and that is before r
+pub record IsMarkedBetween (rows : List (Vec ℕ)) (p r m : ℕ) : Type 0 where
+  pub first : Marks rows p m
+  pub second : Marks rows m r
+  pub least : (i : ℕ) → i < m → Marks rows p i → Marks rows i r → ⊥

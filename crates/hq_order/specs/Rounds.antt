@@ -45,3 +45,15 @@ Within job (suc k) p r = Next job (Within job k) p r
 pub record IsFirstWithin (job : Job) (k p r : ℕ) : Type 0 where
   pub within : Within job k p r
   pub first : (j : ℕ) → j < k → Within job j p r → ⊥
+
+-- p is before m, and m before r, by a round below this one
+pub record Between (job : Job) (round p r m : ℕ) : Type 0 where
+  pub k : ℕ
+  pub lower : k < round
+  pub first : Within job k p m
+  pub second : Within job k m r
+
+-- and m is the least such
+pub record IsMiddle (job : Job) (round p r m : ℕ) : Type 0 where
+  pub between : Between job round p r m
+  pub least : (i : ℕ) → i < m → Between job round p r i → ⊥

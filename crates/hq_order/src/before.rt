@@ -3,10 +3,11 @@
 ghost use Rattle.std.specs.Prelude.{◌≡◌, ℕ, suc, ◌+◌, ◌-◌, ◌<◌, ◌≤◌, ◌↔◌, ◌++◌, [], ◌∷◌, true, false, IsTrue, IfOk, IfErr, OnOk, MatchOption, length, ◌*◌, ◌^◌, slice_index};
 ghost use Rattle.hq_job.specs.Plan.{plan};
 ghost use Rattle.hq_model.specs.Order as order;
-ghost use Rattle.hq_order.specs.Rounds.{Direct, Next, IsFirstWithin};
+ghost use Rattle.hq_order.specs.Rounds.{Direct, Next, IsFirstWithin, Between, IsMiddle};
 ghost use Rattle.hq_order.specs.Matrix.{row, Marks, IsSquare, Grown, AreRounds, IsClosed, matrix, lag, Differ, IsMarkedNowhere, IsMarkedFirst};
 
 use crate::bits;
+use crate::columns::{all_turned, between};
 use crate::direct::direct_row;
 use crate::fault::OrderFault;
 use crate::rounds::next_row;
@@ -119,6 +120,8 @@ fn first_round(rounds: &[Vec<Vec<u64>>], p: usize, r: usize) -> Option<usize>
 pub struct Before<'a> {
     job: &'a Job,
     rounds: Vec<Vec<Vec<u64>>>,
+    /// For each round the rows turned round: what a packet is before.
+    columns: Vec<Vec<u64>>,
 }
 
 impl<'a> Model for Before<'a> {
@@ -138,8 +141,14 @@ impl<'a> Before<'a> {
         ensures plan { IfOk result (λ b. b ≡ plan job.now) }
         ensures memory { IfErr result (λ e. e ≡ OrderFault.Memory) }
     {
+        job.valid();
         let rounds = all_rounds(alloc, job)?;
-        Ok(Before { job, rounds })
+        let columns = all_turned(alloc, &rounds)?;
+        Ok(Before {
+            job,
+            rounds,
+            columns,
+        })
     }
 
     /// Whether p is complete before r becomes active, in every run; false where there is no such packet.
@@ -156,6 +165,19 @@ impl<'a> Before<'a> {
         ensures { MatchOption result (order.Before self.now p r → ⊥) (λ k. IsFirstWithin self.now k p r) }
     {
         first_round(&self.rounds, p, r)
+    }
+
+    /// The least packet that p is before, and that is before r, by rounds below that in which p is first before r.
+    pub fn middle(&self, round: usize, p: usize, r: usize) -> Option<usize>
+        requires p_is { p < length self.now.packets }
+        requires first { IsFirstWithin self.now round p r }
+        ensures { MatchOption result ((m : ℕ) → Between self.now round p r m → ⊥) (IsMiddle self.now round p r) }
+    {
+        self.job.valid();
+        if round == 0 {
+            return None;
+        }
+        between(&self.rounds[round - 1], &self.columns[round - 1], p, r)
     }
 
     /// The job.

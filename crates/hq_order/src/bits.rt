@@ -1,8 +1,9 @@
 //! Sets of numbers as rows of bits: number `p` is bit `p % 64` of word `p / 64`.
 
 ghost use Rattle.std.specs.Prelude.{◌≡◌, ◌+◌, ◌*◌, ◌/◌, ◌<◌, ◌≤◌, ◌||◌, ◌&&◌, ◌==◌, ℕ, length, true, false, IfSome, IfNone, All};
-ghost use Rattle.std.specs.Prelude.{replicate, IfOk, IsTrue, ◌↔◌};
-ghost use Rattle.hq_order.specs.Bits.{has, Covers};
+ghost use Rattle.std.specs.Prelude.{◌≢◌, replicate, IfOk, IsTrue, ◌↔◌, MatchOption, slice_index};
+ghost use Rattle.std.specs.Int.{bit_at};
+ghost use Rattle.hq_order.specs.Bits.{has, Covers, IsFirstCommon};
 ghost use Rattle.hq_order.specs.Matrix.{Grown};
 
 use std::alloc::{AllocError, Global};
@@ -76,4 +77,58 @@ pub fn covers(row: &[u64], other: &[u64]) -> bool
         }
     }
     true
+}
+
+/// The word at a place, or 0 where there is none.
+pub fn word_at(row: &[u64], place: usize) -> u64
+    ensures { result ≡ slice_index row.now place }
+{
+    match row.get(place) {
+        Some(word) => *word,
+        None => 0,
+    }
+}
+
+/// The lowest bit of a word that has some.
+pub fn lowest(word: u64) -> usize
+    requires { 0 < word }
+    ensures low { result < 64 }
+    ensures has { bit_at word result ≡ 1 }
+    ensures lowest { (i : ℕ) → i < result → bit_at word i ≡ 0 }
+{
+    word.trailing_zeros() as usize
+}
+
+/// The word without one of its bits.
+pub fn without(word: u64, bit: usize) -> u64
+    requires low { bit < 64 }
+    requires has { bit_at word bit ≡ 1 }
+    ensures clear { bit_at result bit ≡ 0 }
+    ensures same { (i : ℕ) → i < 64 → i ≢ bit → bit_at result i ≡ bit_at word i }
+    ensures less { result < word }
+{
+    word & !(1 << bit)
+}
+
+/// The lowest bit of a word.
+fn lowest_bit(word: u64) -> Option<usize>
+    ensures { MatchOption result ((bit : ℕ) → bit_at word bit ≡ 0) (λ bit. (bit < 64) × (bit_at word bit ≡ 1) × ((i : ℕ) → i < bit → bit_at word i ≡ 0)) }
+{
+    if word == 0 {
+        return None;
+    }
+    Some(lowest(word))
+}
+
+/// The least number that both sets have.
+pub fn first_common(left: &[u64], right: &[u64]) -> Option<usize>
+    requires { length left.now ≤ 16 }
+    ensures { MatchOption result ((n : ℕ) → IsTrue (has left.now n) → IsTrue (has right.now n) → ⊥) (IsFirstCommon left.now right.now) }
+{
+    for (i, word) in left.iter().enumerate() {
+        if let Some(bit) = lowest_bit(*word & word_at(right, i)) {
+            return Some(i * 64 + bit);
+        }
+    }
+    None
 }

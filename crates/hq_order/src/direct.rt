@@ -13,6 +13,7 @@ use crate::bits;
 use hq_job::{Job, Placed};
 use hq_packet::Packet;
 use std::alloc::{AllocError, Global};
+use std::ops::Range;
 
 /// Whether the packet is a barrier packet.
 fn is_barrier(packet: &Packet) -> bool
@@ -45,7 +46,7 @@ fn last_bit(job: &Job, r: usize) -> usize
     job.valid();
     let queue = job.packet(r).queue;
     let mut last = 0;
-    for j in 0..r + 1 {
+    for j in job.of_queue(queue as usize).start..r + 1 {
         if has_bit_in(job.packet(j), queue) {
             last = j;
         }
@@ -109,6 +110,22 @@ fn is_direct(job: &Job, last_bit: usize, p: usize, r: usize) -> bool
     awaits || precedes(job, last_bit, p, r)
 }
 
+/// Numbers from one on and below another, among which are all packets that are before r by these rules: those ahead of r in its
+/// queue, and all packets where r waits for signals.
+fn candidates(job: &Job, r: usize) -> Range<usize>
+    requires { IsPacket (plan job.now) r }
+    ensures all { (p : ℕ) → Direct (plan job.now) p r → (result.start ≤ p) × (p < result.end) }
+    ensures are { result.end ≤ length job.now.packets }
+{
+    job.valid();
+    let placed = job.packet(r);
+    if is_barrier(&placed.packet) {
+        0..job.packets().len()
+    } else {
+        job.of_queue(placed.queue as usize).start..r
+    }
+}
+
 /// Takes in the packets that are before r by these rules.
 fn mark_direct(row: &mut [u64], job: &Job, last_bit: usize, r: usize)
     requires room { length job.now.packets ≤ length row.old * 64 }
@@ -116,7 +133,8 @@ fn mark_direct(row: &mut [u64], job: &Job, last_bit: usize, r: usize)
     requires last { (p : ℕ) → p < last_bit ↔ BitAbove (plan job.now) r (r + 1) p }
     ensures { (p : ℕ) → IsTrue (has row.new p) ↔ (IsTrue (has row.old p) ⊎ Direct (plan job.now) p r) }
 {
-    for p in 0..job.packets().len() {
+    let candidates = candidates(job, r);
+    for p in candidates.start..candidates.end {
         if is_direct(job, last_bit, p, r) {
             bits::insert(row, p);
         }

@@ -6,6 +6,7 @@
 
 mod before;
 mod bits;
+mod columns;
 mod completing;
 mod direct;
 mod fault;

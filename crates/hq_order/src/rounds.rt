@@ -1,6 +1,7 @@
 //! One round: what follows by one rule from what is known.
 
-ghost use Rattle.std.specs.Prelude.{OnOk, Some, slice_get, ◌≡◌, ℕ, ◌<◌, ◌↔◌, ◌⊎◌, ◌*◌, ◌/◌, ◌≤◌, IsTrue, IfOk, length, map};
+ghost use Rattle.std.specs.Prelude.{OnOk, Some, slice_get, ◌≡◌, ◌==◌, ◌+◌, ℕ, ◌<◌, ◌↔◌, ◌⊎◌, ◌*◌, ◌/◌, ◌≤◌, IsTrue, IfOk, length, map};
+ghost use Rattle.std.specs.Int.{bit_at};
 ghost use Rattle.hq_job.specs.Plan.{plan};
 ghost use Rattle.hq_model.specs.Job.{IsPacket, Decrements};
 ghost use Rattle.hq_order.specs.Bits.{has};
@@ -8,19 +9,48 @@ ghost use Rattle.hq_order.specs.Rounds.{Next, Reaches, ByEither};
 ghost use Rattle.hq_order.specs.Matrix.{row, Marks, Square, Grown};
 
 use crate::bits;
+use crate::columns::WORDS;
 use hq_job::Job;
 use hq_packet::Packet;
 use std::alloc::{AllocError, Global};
 
+/// Takes in what is before a packet, if there is such a packet.
+fn unite_row(new: &mut [u64], rows: &[Vec<u64>], m: usize)
+    requires width { (m : ℕ) → m < length rows.now → length (row rows.now m) ≡ length new.old }
+    ensures grown { Grown new.old new.new }
+    ensures exact { (p : ℕ) → IsTrue (has new.new p) ↔ (IsTrue (has new.old p) ⊎ Marks rows.now p m) }
+{
+    if m < rows.len() {
+        bits::unite(new, &rows[m]);
+    }
+}
+
+/// Takes in what is before the packets that the word has; the packet of its first bit is `first`.
+fn unite_word(new: &mut [u64], rows: &[Vec<u64>], word: u64, first: usize)
+    requires width { (m : ℕ) → m < length rows.now → length (row rows.now m) ≡ length new.old }
+    requires first { first ≤ 1024 }
+    ensures grown { Grown new.old new.new }
+    ensures exact { (p : ℕ) → IsTrue (has new.new p) ↔ (IsTrue (has new.old p) ⊎ ((bit : ℕ) × (bit < 64) × (IsTrue (bit_at word bit == 1) × Marks rows.now p (first + bit)))) }
+{
+    let mut rest = word;
+    'each: while rest != 0 {
+        let bit = bits::lowest(rest);
+        unite_row(new, rows, first + bit);
+        rest = bits::without(rest, bit);
+    }
+}
+
 /// Takes in what is before the known ones.
 fn unite_known(new: &mut [u64], rows: &[Vec<u64>], known: &[u64])
     requires width { (m : ℕ) → m < length rows.now → length (row rows.now m) ≡ length new.old }
+    requires few { length rows.now ≤ 1024 }
     ensures grown { Grown new.old new.new }
     ensures exact { (p : ℕ) → IsTrue (has new.new p) ↔ (IsTrue (has new.old p) ⊎ ((m : ℕ) × Marks rows.now p m × IsTrue (has known.now m))) }
 {
-    for (m, before) in rows.iter().enumerate() {
-        if bits::has(known, m) {
-            bits::unite(new, before);
+    for place in 0..WORDS {
+        let word = bits::word_at(known, place);
+        if word != 0 {
+            unite_word(new, rows, word, place * 64);
         }
     }
 }
@@ -119,6 +149,7 @@ fn extend_row(
     ensures grown { OnOk result (Grown new.old new.new) }
     ensures exact { OnOk result ((p : ℕ) → IsTrue (has new.new p) ↔ Next (plan job.now) (Marks rows.now) p r) }
 {
+    job.valid();
     unite_known(new, rows, &rows[r]);
     unite_shared(alloc, new, job, rows, r)?;
     Ok(())

@@ -1,9 +1,5 @@
-use Rattle.hq_audit.specs.Marked.{Marked}
 use Rattle.hq_audit.specs.Refused.{RowShown}
 use Rattle.hq_audit.proofs.marking.need_row.Given as goal
 
 abbrev pub invariant-loop-b : goal.invariant-loop-b
-invariant-loop-b l = record {
-  marked : Marked l.before l.needs;
-  shown : RowShown l.before l.a l.b;
-}
+invariant-loop-b l = RowShown l.before l.a l.b

@@ -3,7 +3,7 @@ use Rattle.hq_packet.specs.Parts.{head_of}
 use Rattle.hq_model.specs.Job.{packet}
 use Rattle.hq_job.specs.Plan.{plan}
 use Rattle.hq_order.specs.Matrix.{BitAbove}
-use Rattle.hq_order.proofs.Single.{few, bit_here, bit_not_here}
+use Rattle.hq_order.proofs.Single.{few, bit_here, bit_not_here, start_low, none_below}
 use Rattle.hq_order.proofs.direct.last_bit.Goals as goal
 use Rattle.hq_order.proofs.direct.last_bit.Goals.{then-has_bit_in, else-has_bit_in}
 
@@ -15,8 +15,17 @@ overflow_add-j-end c =
 
 pub returns : goal.returns
 returns c = λ p.
+    let low : c.of_queue-j.result.start ≤ c.args.r = start_low (plan c.args.job.now) c.packet.result.now.queue c.of_queue-j.result.start c.of_queue-j.result.end c.args.r c.of_queue-j.ensures (sym (ap (λ x. x.queue) c.packet.ensures)) c.requires in
     let end : c.loop-j.j ≡ c.args.r + 1 = let n = c.loop-j-test.false in let m = c.loop-j.auto.j-end in omega arith in
     subst (λ j. p < c.loop-j.last ↔ BitAbove (plan c.args.job.now) c.args.r j p) end (c.loop-j.invariant.last p)
+
+pub loop-j-init : goal.loop-j-init
+loop-j-init c =
+    let queue = sym (ap (λ x. x.queue) c.packet.ensures) in
+    record {
+      queue = queue;
+      last = λ p. none_below (plan c.args.job.now) c.packet.result.now.queue c.of_queue-j.result.start c.of_queue-j.result.end c.args.r p c.of_queue-j.ensures queue c.requires;
+    }
 
 pub loop-j-preserved : goal.loop-j-preserved
 loop-j-preserved c =

@@ -9,7 +9,7 @@ use Rattle.hq_audit.specs.Rests.{Below, ByBranch}
 use Rattle.hq_audit.specs.Kept.{lines_of, AllBranched}
 use Rattle.hq_audit.proofs.Founded.{within_first, within_second, below_before}
 use Rattle.hq_audit.proofs.Branching.{branch_before, branched_push, signals_some, signals_none, either_follows, through_follows, add_answers}
-use Rattle.hq_audit.proofs.Adding.{goes_same, goes_more, spot_in}
+use Rattle.hq_audit.proofs.Adding.{goes_same, goes_more}
 use Rattle.hq_audit.proofs.lines.Lines.+number.Goals as goal
 use Rattle.hq_audit.proofs.lines.Lines.+number.Goals.{branches-in-Some+in_ok-branch+in_ok-push, branches-in_default}
 
@@ -50,24 +50,12 @@ either-returns t c =
           (either_follows job c.args.self.now new c.args.p c.args.r slots c.in_ok-citations.citations.items (Below job c.args.round) c.requires.either same c.in_ok-citations.ensures);
     }
 
-pub number-known-requires : goal.number-known-requires
-number-known-requires t c =
-    let w = c.requires.first.within in
-    spot_in c.args.before.now c.args.self.now c.args.p c.args.r c.requires.kept (within_first c.args.before.now c.args.round c.args.p c.args.r w) (within_second c.args.before.now c.args.round c.args.p c.args.r w)
-
 pub number-returns-in-Some : goal.number-returns-in-Some
-number-returns-in-Some t c =
-    let w = c.requires.first.within in
-    record {
-      goes = goes_same c.args.before.now c.args.self.now c.requires.kept;
-      says = c.requires.kept.sound c.args.p c.args.r c.in-Some.number (within_first c.args.before.now c.args.round c.args.p c.args.r w) (within_second c.args.before.now c.args.round c.args.p c.args.r w) c.in-Some.ensures.0;
-      small = c.in-Some.ensures.1;
-    }
-
-pub number-add-requires-clause-spot : goal.number-add-requires-clause-spot
-number-add-requires-clause-spot t c =
-    let w = c.requires.first.within in
-    spot_in c.args.before.now c.rule.new.self c.args.p c.args.r c.in_ok-rule.ensures.goes.kept (within_first c.args.before.now c.args.round c.args.p c.args.r w) (within_second c.args.before.now c.args.round c.args.p c.args.r w)
+number-returns-in-Some t c = record {
+  goes = goes_same c.args.before.now c.args.self.now c.requires.kept;
+  says = c.in-Some.ensures.0;
+  small = c.in-Some.ensures.1;
+}
 
 pub number-add-requires-clause-p_is : goal.number-add-requires-clause-p_is
 number-add-requires-clause-p_is t c =
@@ -86,7 +74,7 @@ number-returns t c =
     let w = c.requires.first.within in
     add_answers c.args.before.now c.args.self.now c.rule.new.self c.add.new.self c.args.p c.args.r c.in_ok-rule.rule c.add.result c.in_ok-rule.ensures.goes
     (within_first c.args.before.now c.args.round c.args.p c.args.r w) (within_second c.args.before.now c.args.round c.args.p c.args.r w) c.in_ok-rule.ensures.follows
-    c.add.ensures.lines c.add.ensures.numbers c.add.ensures.number c.add.ensures.small
+    c.add.ensures.lines c.add.ensures.number c.add.ensures.small
 
 pub through-round_of-requires : goal.through-round_of-requires
 through-round_of-requires t c = below_before c.args.before.now c.args.round c.args.p c.args.m c.requires.middle.first

@@ -1,5 +1,4 @@
 use Rattle.std.proofs.Common.{◌+◌, ◌*◌}
-use Rattle.hq_audit.specs.Marked.{Marked}
 use Rattle.hq_audit.proofs.needs.Needs.+mark.Given as goal
 
 abbrev pub decreases-mark_cited : goal.decreases-mark_cited
@@ -13,6 +12,3 @@ decreases-mark_branch l = 4 * l.round + 1
 
 abbrev pub decreases-mark_below : goal.decreases-mark_below
 decreases-mark_below l = 4 * l.round
-
-abbrev pub invariant-mark_each-loop-slot : goal.invariant-mark_each-loop-slot
-invariant-mark_each-loop-slot l = Marked l.before l.self

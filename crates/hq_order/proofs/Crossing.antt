@@ -1,0 +1,248 @@
+-- Rows of bits turned round, and the least number that two rows have.
+use Rattle.std.specs.Prelude.{MatchOption}
+use Rattle.std.proofs.Common.{Option, Some, None, ◌≡◌, ◌≢◌, ◌↔◌, ℕ, ◌+◌, ◌*◌, ◌/◌, ◌%◌, ◌<◌, ◌≤◌, ◌⊎◌, inl, inr, List, [], ◌∷◌, ◌++◌, length, refl, sym, ◌∙◌, ap, subst, arith, IsTrue, Bool, true, false, ◌||◌, ◌==◌, slice_index, bit_and, min, take, drop}
+use Rattle.std.specs.Int.{bit_at}
+use Rattle.std.specs.Global.{Vec}
+use Rattle.std.proofs.lemmas.Bool.{cases_lt, cases_eq, eq-eqb, eqb-true}
+use Rattle.std.proofs.lemmas.List.{get_or-take, get_or-drop}
+use Rattle.std.proofs.lemmas.Nat.Bits.{bit_at_and, bit_at-lt, bit_at-zero}
+use Rattle.hq_order.specs.Bits.{has, IsFirstCommon}
+use Rattle.hq_order.specs.Matrix.{row, matrix, Marks, Turned, IsMarkedBetween}
+use Rattle.hq_order.proofs.Closure.{pushed}
+use Rattle.hq_order.proofs.Rows.{joined, eq_test, marked_below, within}
+
+-- ---- the least number that two rows have
+
+both_bits : (a b i : ℕ) → bit_at (bit_and a b) i ≡ 1 → (bit_at a i ≡ 1) × (bit_at b i ≡ 1)
+both_bits a b i h =
+    let m : min (bit_at a i) (bit_at b i) ≡ 1 = sym (bit_at_and a b i) ∙ h in
+    let la : bit_at a i < 2 = bit_at-lt a i in
+    let lb : bit_at b i < 2 = bit_at-lt b i in
+    (omega arith, omega arith)
+
+no_bit : (a b i : ℕ) → bit_at (bit_and a b) i ≡ 0 → bit_at a i ≡ 1 → bit_at b i ≡ 1 → ⊥
+no_bit a b i h x y =
+    let m : min (bit_at a i) (bit_at b i) ≡ 0 = sym (bit_at_and a b i) ∙ h in
+    omega arith
+
+-- no number of the first words is in both
+abbrev pub Apart : List ℕ → List ℕ → ℕ → Type 0
+Apart left right i = (n : ℕ) → n / 64 < i → IsTrue (has left n) → IsTrue (has right n) → ⊥
+
+has_at : (row : List ℕ) (n i : ℕ) → n / 64 ≡ i → IsTrue (has row n) → bit_at (slice_index row i) (n % 64) ≡ 1
+has_at row n i e h = subst (λ k. bit_at (slice_index row k) (n % 64) ≡ 1) e (eqb-true (bit_at (slice_index row (n / 64)) (n % 64)) 1 h)
+
+pub apart_next : (left right : List ℕ) (i : ℕ) → Apart left right i → ((bit : ℕ) → bit_at (bit_and (slice_index left i) (slice_index right i)) bit ≡ 0) → Apart left right (i + 1)
+apart_next left right i h none n l a b = elim (cases_lt (n / 64) i) [
+  | inl low ↦ h n low a b
+  | inr high ↦
+      let here : n / 64 ≡ i = omega arith in
+      no_bit (slice_index left i) (slice_index right i) (n % 64) (none (n % 64)) (has_at left n i here a) (has_at right n i here b)
+]
+
+place_of : (i bit : ℕ) → bit < 64 → (i * 64 + bit) / 64 ≡ i
+place_of i bit l = omega arith
+
+bit_of : (i bit : ℕ) → bit < 64 → (i * 64 + bit) % 64 ≡ bit
+bit_of i bit l = omega arith
+
+-- the number at a word's bit
+pub has_there : (row : List ℕ) (i bit : ℕ) → bit < 64 → bit_at (slice_index row i) bit ≡ 1 → IsTrue (has row (i * 64 + bit))
+has_there row i bit l e =
+    ap (λ k. bit_at (slice_index row k) ((i * 64 + bit) % 64) == 1) (place_of i bit l)
+    ∙ ap (λ k. bit_at (slice_index row i) k == 1) (bit_of i bit l)
+    ∙ eq-eqb (bit_at (slice_index row i) bit) 1 e
+
+pub first_there : (left right : List ℕ) (i bit : ℕ) → Apart left right i → bit < 64
+    → bit_at (bit_and (slice_index left i) (slice_index right i)) bit ≡ 1
+    → ((k : ℕ) → k < bit → bit_at (bit_and (slice_index left i) (slice_index right i)) k ≡ 0)
+    → IsFirstCommon left right (i * 64 + bit)
+first_there left right i bit h l this lower =
+    let b = both_bits (slice_index left i) (slice_index right i) bit this in
+    record {
+      in_left = has_there left i bit l b.0;
+      in_right = has_there right i bit l b.1;
+      first = λ n below x y. elim (cases_lt (n / 64) i) [
+        | inl low ↦ h n low x y
+        | inr high ↦
+            let here : n / 64 ≡ i = omega arith in
+            no_bit (slice_index left i) (slice_index right i) (n % 64) (lower (n % 64) (omega arith)) (has_at left n i here x) (has_at right n i here y)
+      ];
+    }
+
+-- ---- rows turned round
+
+pub mark_bit : (old new : Bool) (x n : ℕ) → new ≡ (old || x == n) → IsTrue new ↔ (IsTrue old ⊎ (x ≡ n))
+mark_bit old new x n e = joined old (x == n) new (x ≡ n) e (eq_test x n)
+
+-- a bit of the word that the rest hasn't any more, for which the statement holds
+abbrev pub Gone : ℕ → ℕ → (ℕ → Type 0) → Type 0
+Gone word rest Q = (bit : ℕ) × (bit < 64) × (IsTrue (bit_at word bit == 1) × (bit_at rest bit ≡ 0) × Q bit)
+
+pub gone_none : (Old : Type 0) (word : ℕ) (Q : ℕ → Type 0) → Old ↔ (Old ⊎ Gone word word Q)
+gone_none Old word Q = (
+  λ o. inl o,
+  λ t. elim t [
+    | inl o ↦ o
+    | inr g ↦
+        let one : bit_at word g.0 ≡ 1 = eqb-true (bit_at word g.0) 1 g.2.0 in
+        let none : bit_at word g.0 ≡ 0 = g.2.1 in
+        absurd (omega arith)
+  ],
+)
+
+-- one more is gone
+pub gone_more : (Old A B : Type 0) (word rest less k : ℕ) (Q : ℕ → Type 0) → k < 64 → bit_at word k ≡ 1 → bit_at less k ≡ 0 → ((i : ℕ) → i < 64 → i ≢ k → bit_at less i ≡ bit_at rest i)
+    → A ↔ (Old ⊎ Gone word rest Q) → B ↔ (A ⊎ Q k) → B ↔ (Old ⊎ Gone word less Q)
+gone_more Old A B word rest less k Q low one clear same h g = (
+  λ b. elim (g.0 b) [
+    | inl a ↦ elim (h.0 a) [
+      | inl o ↦ inl o
+      | inr x ↦ inr (x.0, x.1, (x.2.0, elim (cases_eq x.0 k) [ inl e ↦ subst (λ i. bit_at less i ≡ 0) (sym e) clear | inr d ↦ same x.0 x.1 d ∙ x.2.1 ], x.2.2))
+    ]
+    | inr q ↦ inr (k, low, (eq-eqb (bit_at word k) 1 one, clear, q))
+  ],
+  λ t. elim t [
+    | inl o ↦ g.1 (inl (h.1 (inl o)))
+    | inr x ↦ elim (cases_eq x.0 k) [
+      | inl e ↦ g.1 (inr (subst Q e x.2.2))
+      | inr d ↦ g.1 (inl (h.1 (inr (x.0, x.1, (x.2.0, sym (same x.0 x.1 d) ∙ x.2.1, x.2.2)))))
+    ]
+  ],
+)
+
+pub gone_all : (Old A : Type 0) (word rest : ℕ) (Q : ℕ → Type 0) → rest ≡ 0 → A ↔ (Old ⊎ Gone word rest Q) → A ↔ (Old ⊎ ((bit : ℕ) × (bit < 64) × (IsTrue (bit_at word bit == 1) × Q bit)))
+gone_all Old A word rest Q z h = (
+  λ a. elim (h.0 a) [ inl o ↦ inl o | inr x ↦ inr (x.0, x.1, (x.2.0, x.2.2)) ],
+  λ t. elim t [ inl o ↦ h.1 (inl o) | inr x ↦ h.1 (inr (x.0, x.1, (x.2.0, ap (λ w. bit_at w x.0) z ∙ bit_at-zero x.0, x.2.1))) ],
+)
+
+-- what the rest has the word has
+abbrev pub Under : ℕ → ℕ → Type 0
+Under word rest = (i : ℕ) → i < 64 → bit_at rest i ≡ 1 → bit_at word i ≡ 1
+
+pub under_less : (word rest less k : ℕ) → bit_at less k ≡ 0 → ((i : ℕ) → i < 64 → i ≢ k → bit_at less i ≡ bit_at rest i) → Under word rest → Under word less
+under_less word rest less k clear same u i low one = elim (cases_eq i k) [
+  | inl e ↦ let none : bit_at less i ≡ 0 = subst (λ j. bit_at less j ≡ 0) (sym e) clear in absurd (omega arith)
+  | inr d ↦ u i low (sym (same i low d) ∙ one)
+]
+
+-- r is to stand at x for a packet of this word
+abbrev pub OfWord : ℕ → ℕ → ℕ → ℕ → Type 0
+OfWord word first r x = (bit : ℕ) × (bit < 64) × (IsTrue (bit_at word bit == 1) × (x ≡ (first + bit) * 1024 + r))
+
+pub of_zero : (first r x : ℕ) → OfWord 0 first r x → ⊥
+of_zero first r x o =
+    let zeros : (bit_at 0 o.0 == 1) ≡ false = ap (λ b. b == 1) (bit_at-zero o.0) in
+    let is : IsTrue (bit_at 0 o.0 == 1) = o.2.0 in
+    let never : true ≡ false = sym is ∙ zeros in
+    absurd (cc)
+
+-- so for a packet of this row
+abbrev pub OfRow : List ℕ → ℕ → ℕ → Type 0
+OfRow row r x = (p : ℕ) × (p < 1024) × IsTrue (has row p) × (x ≡ p * 1024 + r)
+
+word_row : (row : List ℕ) (place r x : ℕ) → place < 16 → OfWord (slice_index row place) (place * 64) r x → OfRow row r x
+word_row row place r x l o =
+    let low : o.0 < 64 = o.1 in
+    (place * 64 + o.0, omega arith, has_there row place o.0 o.1 (eqb-true (bit_at (slice_index row place) o.0) 1 o.2.0), o.2.1)
+
+whole : (p : ℕ) → p ≡ p / 64 * 64 + p % 64
+whole p = omega arith
+
+row_word : (row : List ℕ) (r x : ℕ) (o : OfRow row r x) → OfWord (slice_index row (o.0 / 64)) (o.0 / 64 * 64) r x
+row_word row r x o = (o.0 % 64, omega arith, (o.2, o.3 ∙ ap (λ p. p * 1024 + r) (whole o.0)))
+
+pub row_done : (Old A : Type 0) (row : List ℕ) (r x i : ℕ) → 16 ≤ i → i ≤ 16 → A ↔ (Old ⊎ ((place : ℕ) × (place < i) × OfWord (slice_index row place) (place * 64) r x)) → A ↔ (Old ⊎ OfRow row r x)
+row_done Old A row r x i high most h = (
+  λ a. elim (h.0 a) [ inl o ↦ inl o | inr w ↦ inr (word_row row w.0 r x (let l = w.1 in omega arith) w.2) ],
+  λ t. elim t [ inl o ↦ h.1 (inl o) | inr w ↦ h.1 (inr (w.0 / 64, let l = w.1 in omega arith, row_word row r x w)) ],
+)
+
+-- one number and the other, from a place in the table
+same_first : (p q r s : ℕ) → r < 1024 → s < 1024 → p * 1024 + r ≡ q * 1024 + s → p ≡ q
+same_first p q r s l k e = omega arith
+
+same_second : (p q r s : ℕ) → r < 1024 → s < 1024 → p * 1024 + r ≡ q * 1024 + s → r ≡ s
+same_second p q r s l k e = omega arith
+
+pub turned_done : (rows : List (Vec ℕ)) (table : List ℕ) → length table ≡ 16384 → length rows ≤ 1024
+    → ((x : ℕ) → IsTrue (has table x) ↔ ((r : ℕ) × (r < length rows) × OfRow (row rows r) r x)) → Turned rows table
+turned_done rows table len few h = record {
+  len = len;
+  exact = λ p r lp lr. (
+    λ t.
+        let o = (h (p * 1024 + r)).0 t in
+        let low : o.0 < 1024 = let l = o.1 in omega arith in
+        let first : p ≡ o.2.0 = same_first p o.2.0 r o.0 lr low o.2.3 in
+        let second : r ≡ o.0 = same_second p o.2.0 r o.0 lr low o.2.3 in
+        subst (λ k. Marks rows k r) (sym first) (subst (λ k. Marks rows o.2.0 k) (sym second) o.2.2),
+    λ m. (h (p * 1024 + r)).1 (r, marked_below rows p r m, (p, lp, m, refl)),
+  );
+}
+
+-- ---- a packet's part of the table
+
+column_has : (table : List ℕ) (p m : ℕ) → m / 64 < 16 → has (take 16 (drop (p * 16) table)) m ≡ has table (p * 1024 + m)
+column_has table p m l =
+    let word : slice_index (take 16 (drop (p * 16) table)) (m / 64) ≡ slice_index table (p * 16 + m / 64) = get_or-take 16 (drop (p * 16) table) (m / 64) 0 l ∙ get_or-drop (p * 16) table (m / 64) 0 in
+    let place : p * 16 + m / 64 ≡ (p * 1024 + m) / 64 = omega arith in
+    let bit : m % 64 ≡ (p * 1024 + m) % 64 = omega arith in
+    ap (λ w. bit_at w (m % 64) == 1) (word ∙ ap (slice_index table) place) ∙ ap (λ k. bit_at (slice_index table ((p * 1024 + m) / 64)) k == 1) bit
+
+-- the part of p has what p is before
+pub column_marks : (rows : List (Vec ℕ)) (table column : List ℕ) (p m : ℕ) → Turned rows table → column ≡ take 16 (drop (p * 16) table) → p < 1024 → m < 1024 → IsTrue (has column m) ↔ Marks rows p m
+column_marks rows table column p m t e lp lm =
+    let same : has column m ≡ has table (p * 1024 + m) = ap (λ c. has c m) e ∙ column_has table p m (omega arith) in
+    let x = t.exact p m lp lm in
+    (λ h. x.0 (sym same ∙ h), λ k. same ∙ x.1 k)
+
+-- what the part of p has is a packet's number
+pub column_low : (column : List ℕ) (m : ℕ) → length column ≤ 16 → IsTrue (has column m) → m < 1024
+column_low column m l h = let w : m / 64 < length column = within column m h in omega arith
+
+pub between_found : (rows : List (Vec ℕ)) (table column other : List ℕ) (p r : ℕ) (o : Option ℕ) → Turned rows table → column ≡ take 16 (drop (p * 16) table) → length column ≤ 16 → other ≡ row rows r → p < 1024 → length rows ≤ 1024
+    → MatchOption o ((n : ℕ) → IsTrue (has column n) → IsTrue (has other n) → ⊥) (IsFirstCommon column other)
+    → MatchOption o ((m : ℕ) → Marks rows p m → Marks rows m r → ⊥) (IsMarkedBetween rows p r)
+between_found rows table column other p r None t e len f lp few h = λ m a b.
+    let low : m < 1024 = let l = marked_below rows p m a in omega arith in
+    h m ((column_marks rows table column p m t e lp low).1 a) (subst (λ x. IsTrue (has x m)) (sym f) b)
+between_found rows table column other p r (Some m) t e len f lp few h = record {
+  first = (column_marks rows table column p m t e lp (column_low column m len h.in_left)).0 h.in_left;
+  second = subst (λ x. IsTrue (has x m)) f h.in_right;
+  least = λ i l a b.
+      let low : i < 1024 = let k = marked_below rows p i a in omega arith in
+      h.first i l ((column_marks rows table column p i t e lp low).1 a) (subst (λ x. IsTrue (has x i)) (sym f) b);
+}
+
+-- ---- round by round
+
+pub tables_next : (rounds : List (Vec (Vec ℕ))) (tables new : List (Vec ℕ)) (x : Vec ℕ) (rows : List (Vec ℕ)) (n : ℕ) → length tables ≡ n → new ≡ tables ++ x ∷ [] → matrix rounds n ≡ rows → ((k : ℕ) → k < n → Turned (matrix rounds k) (row tables k)) → Turned rows x.items → (k : ℕ) → k < n + 1 → Turned (matrix rounds k) (row new k)
+tables_next rounds tables new x rows n len e m h t = pushed (λ k words. Turned (matrix rounds k) words) tables x new n len e h (subst (λ rs. Turned rs x.items) (sym m) t)
+
+-- ---- what is before the known ones, word by word
+
+-- p is before a packet of this word
+abbrev pub OfKnown : List (Vec ℕ) → ℕ → ℕ → ℕ → Type 0
+OfKnown rows word first p = (bit : ℕ) × (bit < 64) × (IsTrue (bit_at word bit == 1) × Marks rows p (first + bit))
+
+pub none_known : (rows : List (Vec ℕ)) (first p : ℕ) → OfKnown rows 0 first p → ⊥
+none_known rows first p o =
+    let zeros : (bit_at 0 o.0 == 1) ≡ false = ap (λ b. b == 1) (bit_at-zero o.0) in
+    let is : IsTrue (bit_at 0 o.0 == 1) = o.2.0 in
+    let never : true ≡ false = sym is ∙ zeros in
+    absurd (cc)
+
+pub known_done : (Old A : Type 0) (rows : List (Vec ℕ)) (known : List ℕ) (p i : ℕ) → length rows ≤ 1024 → 16 ≤ i → A ↔ (Old ⊎ ((place : ℕ) × (place < i) × OfKnown rows (slice_index known place) (place * 64) p)) → A ↔ (Old ⊎ ((m : ℕ) × Marks rows p m × IsTrue (has known m)))
+known_done Old A rows known p i few high h = (
+  λ a. elim (h.0 a) [
+    | inl o ↦ inl o
+    | inr w ↦ let o = w.2 in inr (w.0 * 64 + o.0, o.2.1, has_there known w.0 o.0 o.1 (eqb-true (bit_at (slice_index known w.0) o.0) 1 o.2.0))
+  ],
+  λ t. elim t [
+    | inl o ↦ h.1 (inl o)
+    | inr w ↦
+        let low : w.0 < length rows = marked_below rows p w.0 w.1 in
+        h.1 (inr (w.0 / 64, omega arith, (w.0 % 64, omega arith, (w.2, subst (Marks rows p) (whole w.0) w.1))))
+  ],
+)

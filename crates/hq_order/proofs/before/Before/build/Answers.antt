@@ -1,0 +1,12 @@
+use Rattle.std.proofs.Common.{◌≤◌, length, sym, subst, arith}
+use Rattle.hq_job.specs.Plan.{plan}
+use Rattle.hq_order.specs.Matrix.{AreRounds}
+use Rattle.hq_order.proofs.Middles.{few_rows}
+use Rattle.hq_order.proofs.Single.{count}
+use Rattle.hq_order.proofs.before.Before.build.Goals as goal
+
+pub all_turned-requires : goal.all_turned-requires
+all_turned-requires c = λ k l.
+    let few : length (plan c.args.job.now).packets ≤ 1024 = omega (arith, c.valid.ensures.limits.packets, count c.args.job.now) in
+    let rounds = subst (AreRounds (plan c.args.job.now)) (sym c.deref.ensures.value) c.in_ok-rounds.ensures.rounds in
+    few_rows (plan c.args.job.now) c.deref.result.now k rounds few l

@@ -1,0 +1,108 @@
+//! The rows turned round: for each packet what it is before.
+
+ghost use Rattle.std.specs.Prelude.{◌≡◌, ℕ, ◌+◌, ◌*◌, ◌<◌, ◌≤◌, ◌↔◌, ◌⊎◌, ◌==◌, IsTrue, IfOk, MatchOption, length, slice_index, take, drop};
+ghost use Rattle.std.specs.Int.{bit_at};
+ghost use Rattle.hq_order.specs.Bits.{has};
+ghost use Rattle.hq_order.specs.Matrix.{row, Marks, matrix, Turned, AreTurned, IsMarkedBetween};
+
+use crate::bits::{first_common, insert, lowest, without, word_at};
+use std::alloc::{AllocError, Global};
+
+/// How many numbers a row of the table has room for: the most packets that a job has.
+const WIDTH: usize = 1024;
+
+/// How many words that takes.
+pub const WORDS: usize = 16;
+
+/// Takes in r for each packet that the word has; the packet of its first bit is `first`.
+fn turn_word(table: &mut [u64], word: u64, first: usize, r: usize)
+    requires len { length table.old ≡ 16384 }
+    requires first { first + 64 ≤ 1024 }
+    requires r { r < 1024 }
+    ensures { (x : ℕ) → IsTrue (has table.new x) ↔ (IsTrue (has table.old x) ⊎ ((bit : ℕ) × (bit < 64) × (IsTrue (bit_at word bit == 1) × (x ≡ (first + bit) * 1024 + r)))) }
+{
+    let mut rest = word;
+    'each: while rest != 0 {
+        let bit = lowest(rest);
+        insert(table, (first + bit) * WIDTH + r);
+        rest = without(rest, bit);
+    }
+}
+
+/// Takes in r for each packet that the row has.
+fn turn_row(table: &mut [u64], row: &[u64], r: usize)
+    requires len { length table.old ≡ 16384 }
+    requires r { r < 1024 }
+    ensures { (x : ℕ) → IsTrue (has table.new x) ↔ (IsTrue (has table.old x) ⊎ ((p : ℕ) × (p < 1024) × IsTrue (has row.now p) × (x ≡ p * 1024 + r))) }
+{
+    for place in 0..WORDS {
+        let word = word_at(row, place);
+        if word != 0 {
+            turn_word(table, word, place * 64, r);
+        }
+    }
+}
+
+/// Takes in each packet for those that its row has.
+fn turn_rows(table: &mut [u64], rows: &[Vec<u64>])
+    requires len { length table.old ≡ 16384 }
+    requires few { length rows.now ≤ 1024 }
+    ensures { (x : ℕ) → IsTrue (has table.new x) ↔ (IsTrue (has table.old x) ⊎ ((r : ℕ) × (r < length rows.now) × ((p : ℕ) × (p < 1024) × Marks rows.now p r × (x ≡ p * 1024 + r)))) }
+{
+    for (r, row) in rows.iter().enumerate() {
+        turn_row(table, row, r);
+    }
+}
+
+/// The rows turned round.
+fn turned(alloc: Global, rows: &[Vec<u64>]) -> Result<Vec<u64>, AllocError>
+    requires { length rows.now ≤ 1024 }
+    ensures { IfOk result (λ table. Turned rows.now table.items) }
+{
+    let mut table = vec![in alloc; 0; WIDTH * WORDS]?;
+    turn_rows(&mut table, rows);
+    Ok(table)
+}
+
+/// The rows of each round turned round.
+pub fn all_turned(alloc: Global, rounds: &[Vec<Vec<u64>>]) -> Result<Vec<Vec<u64>>, AllocError>
+    requires { (k : ℕ) → k < length rounds.now → length (matrix rounds.now k) ≤ 1024 }
+    ensures { IfOk result (λ tables. AreTurned rounds.now tables.items) }
+{
+    let mut tables = Vec::with_capacity(alloc, rounds.len())?;
+    for rows in rounds {
+        tables.push(turned(alloc, rows)?)?;
+    }
+    Ok(tables)
+}
+
+/// The row of r; none where there is no such packet.
+fn row_of(rows: &[Vec<u64>], r: usize) -> &[u64]
+    ensures { result.now ≡ row rows.now r }
+{
+    match rows.get(r) {
+        Some(row) => row,
+        None => &[],
+    }
+}
+
+/// The part of p in the table.
+fn column_of(table: &[u64], p: usize) -> &[u64]
+    requires len { length table.now ≡ 16384 }
+    requires p { p < 1024 }
+    ensures column { result.now ≡ take 16 (drop (p * 16) table.now) }
+    ensures len { length result.now ≡ 16 }
+{
+    let start = p * WORDS;
+    &table[start..start + WORDS]
+}
+
+/// The least packet that p is before and that is before r.
+pub fn between(rows: &[Vec<u64>], table: &[u64], p: usize, r: usize) -> Option<usize>
+    requires turned { Turned rows.now table.now }
+    requires p { p < 1024 }
+    requires few { length rows.now ≤ 1024 }
+    ensures { MatchOption result ((m : ℕ) → Marks rows.now p m → Marks rows.now m r → ⊥) (IsMarkedBetween rows.now p r) }
+{
+    first_common(column_of(table, p), row_of(rows, r))
+}
