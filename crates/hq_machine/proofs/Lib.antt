@@ -1,0 +1,12 @@
+pub mod Jobs
+pub mod Starts
+pub mod Places
+pub mod Within
+pub mod Moves
+pub mod NextPackets
+pub mod CopyMoves
+pub mod Fences
+pub mod Counts
+pub mod Finishing
+pub mod Reading
+pub mod StoreMoves

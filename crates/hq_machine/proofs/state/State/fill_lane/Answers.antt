@@ -1,0 +1,19 @@
+use Rattle.std.proofs.Common.{sym, subst}
+use Rattle.hq_job.specs.Plan.{plan}
+use Rattle.hq_model.specs.Machine.Event.{FillLane}
+use Rattle.hq_machine.specs.View.{IsStateOf, Moved, recopied}
+use Rattle.hq_machine.specs.contracts.state.State.{the_view}
+use Rattle.hq_machine.proofs.CopyMoves.{moved_fill_lane}
+use Rattle.hq_machine.proofs.state.State.fill_lane.Goals as goal
+use Rattle.hq_machine.proofs.state.State.fill_lane.Goals.{in-Ok, in-Err}
+
+pub returns-clause-ok : goal.returns-clause-ok
+returns-clause-ok c = elim c.match-fill_lane.branch [
+  | in-Ok w ↦
+      let job = plan c.args.job.now in
+      let v = the_view c.self.inside in
+      let there = c.has_lane_byte.ensures.0 c.if-not-has_lane_byte.false in
+      let moved : Moved job v (FillLane c.args.packet c.args.byte) (recopied v c.fill_lane.new.self) = moved_fill_lane job v c.args.packet c.args.byte c.fill_lane.new.self c.valid.ensures.valid (subst (IsStateOf job) (sym c.self.view_is) c.requires) there.0 there.1 w.in-Ok.ensures.ok in
+      rw w.result-is (subst (λ x. Moved job x (FillLane c.args.packet c.args.byte) (recopied v c.fill_lane.new.self)) c.self.view_is moved)
+  | in-Err w ↦ rw w.result-is tt
+]

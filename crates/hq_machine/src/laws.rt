@@ -1,0 +1,27 @@
+//! Laws of the machine, those of the model.
+
+ghost use Rattle.hq_model.specs.Theorems.{StepsDetermined, BoundLaw};
+ghost use Rattle.hq_model.specs.Journal.{CoarseLaw};
+
+use hq_model::machine;
+
+/// An event leads from a state to one state.
+pub fn steps_determined()
+    ensures { StepsDetermined }
+{
+    machine::steps_determined();
+}
+
+/// The work steps of a run are at most the job's bound.
+pub fn bound_law()
+    ensures { BoundLaw }
+{
+    machine::bound_law();
+}
+
+/// What a coarse event leaves: all read, all stored, complete, or nothing dirty.
+pub fn coarse_law()
+    ensures { CoarseLaw }
+{
+    machine::coarse_law();
+}

@@ -1,0 +1,190 @@
+//! What the job says of a packet.
+
+ghost use Rattle.std.specs.Prelude.{◌≡◌, ◌+◌, ◌-◌, ◌<◌, ◌≤◌, ◌↔◌, ℕ, Some, IfSome, MatchOption, All, slice_get, slice_index, IsTrue, length};
+ghost use Rattle.std.specs.List.{flat_map};
+ghost use Rattle.hq_footprint.specs.Bytes.{bytes_of};
+ghost use Rattle.hq_job.specs.Access.{AreOfQueue};
+ghost use Rattle.hq_job.specs.Plan.{plan};
+ghost use Rattle.hq_model.specs.Job.{IsPacket, IsBarrier, Dependency, Earlier, Frees, packet, agent_of, size_of};
+ghost use Rattle.hq_machine.specs.View.{IsEntry};
+ghost use Rattle.hq_model.specs.Machine.{IsByte};
+
+use hq_footprint::Range as ByteRange;
+use hq_footprint::laws::{bytes_counted, entries_counted};
+use hq_job::Job;
+use hq_packet::{Packet, Scope};
+use std::ops::Range;
+
+/// The number of the agent of a packet's queue.
+pub fn agent_of(job: &Job, number: usize) -> usize
+    requires { IsPacket (plan job.now) number }
+    ensures { result ≡ agent_of (plan job.now) number }
+{
+    job.valid();
+    let queue = job.packet(number).queue as usize;
+    job.queues()[queue].agent as usize
+}
+
+/// How many slots the packet's queue has.
+pub fn slots_of(job: &Job, number: usize) -> usize
+    requires { IsPacket (plan job.now) number }
+    ensures { result ≡ size_of (plan job.now) number }
+{
+    job.valid();
+    let queue = job.packet(number).queue as usize;
+    job.queues()[queue].size as usize
+}
+
+/// The number of the first packet of the packet's queue.
+pub fn first_of_queue(job: &Job, number: usize) -> usize
+    requires { IsPacket (plan job.now) number }
+    ensures first { result ≤ number }
+    ensures frees { IsTrue job.now.rings → (e : ℕ) → Frees (plan job.now) e number ↔ ((result ≤ e) × (e < number + 1 - size_of (plan job.now) number)) }
+    ensures earlier { (e : ℕ) → Earlier (plan job.now) e number ↔ ((result ≤ e) × (e < number)) }
+{
+    job.valid();
+    let queue = job.packet(number).queue as usize;
+    job.of_queue(queue).start
+}
+
+/// Whether the packet has the barrier bit.
+pub fn has_bit(job: &Job, number: usize) -> bool
+    requires { IsPacket (plan job.now) number }
+    ensures { result ≡ (packet (plan job.now) number).bit }
+{
+    job.packet(number).packet.head().barrier
+}
+
+/// The scope of the packet's acquire fence.
+pub fn acquire_of(job: &Job, number: usize) -> Scope
+    requires { IsPacket (plan job.now) number }
+    ensures { result ≡ (packet (plan job.now) number).acquire }
+{
+    job.packet(number).packet.head().acquire
+}
+
+/// The scope of the packet's release fence.
+pub fn release_of(job: &Job, number: usize) -> Scope
+    requires { IsPacket (plan job.now) number }
+    ensures { result ≡ (packet (plan job.now) number).release }
+{
+    job.packet(number).packet.head().release
+}
+
+/// Whether the packet is a barrier packet.
+pub fn is_barrier(job: &Job, number: usize) -> bool
+    requires { IsPacket (plan job.now) number }
+    ensures { IsTrue result ↔ IsBarrier (plan job.now) number }
+{
+    match job.packet(number).packet {
+        Packet::Kernel(_) => false,
+        Packet::Agent(_) => false,
+        Packet::And(_) => true,
+        Packet::Or(_) => true,
+    }
+}
+
+/// The signal of a slot of the packet, if the slot isn't null.
+pub fn dependency(job: &Job, number: usize, slot: usize) -> Option<u16>
+    requires { IsPacket (plan job.now) number }
+    ensures found { (s : ℕ) → (result ≡ Some s) ↔ Dependency (plan job.now) number slot s }
+    ensures few { IfSome result (λ s. slot < 5) }
+{
+    match job.packet(number).slots.get(slot) {
+        Some(signal) => *signal,
+        None => None,
+    }
+}
+
+/// The numbers of the packets of the packet's queue.
+pub fn queue_of(job: &Job, number: usize) -> Range<usize>
+    requires { IsPacket (plan job.now) number }
+    ensures are { AreOfQueue (plan job.now) (packet (plan job.now) number).queue result.start result.end }
+    ensures rising { result.start ≤ result.end }
+    ensures within { result.end ≤ length (plan job.now).packets }
+{
+    job.valid();
+    let queue = job.packet(number).queue as usize;
+    job.of_queue(queue)
+}
+
+/// The slots for dependencies of the packet.
+fn slots_for(job: &Job, number: usize) -> &[Option<u16>]
+    requires { IsPacket (plan job.now) number }
+    ensures { result.now ≡ (packet (plan job.now) number).deps }
+{
+    &job.packet(number).slots
+}
+
+/// How many slots for dependencies the packet has.
+pub fn slot_count(job: &Job, number: usize) -> usize
+    requires { IsPacket (plan job.now) number }
+    ensures { result ≡ length (packet (plan job.now) number).deps }
+{
+    slots_for(job, number).len()
+}
+
+/// How many bytes the packet writes.
+pub fn write_count(job: &Job, number: usize) -> usize
+    requires { IsPacket (plan job.now) number }
+    ensures { result ≡ length (packet (plan job.now) number).writes }
+{
+    bytes_counted();
+    job.packet(number).bytes.write.len as usize
+}
+
+/// How many entries the packet reads.
+pub fn read_count(job: &Job, number: usize) -> usize
+    requires { IsPacket (plan job.now) number }
+    ensures { result ≡ length (packet (plan job.now) number).reads }
+{
+    job.valid();
+    bytes_counted();
+    entries_counted();
+    let [first, second] = job.packet(number).bytes.reads;
+    first.len as usize + second.len as usize
+}
+
+/// The signal that the packet completes on, if there is one.
+pub fn done_of(job: &Job, number: usize) -> Option<u16>
+    requires { IsPacket (plan job.now) number }
+    ensures is { result ≡ (packet (plan job.now) number).done }
+    ensures there { IfSome result (λ s. s < length (plan job.now).starts) }
+{
+    job.valid();
+    job.packet(number).done
+}
+
+/// The byte of an entry of these ranges, laid end to end, if there are so many.
+#[tactic(auto, using(crate::proofs::Jobs::entry_first, crate::proofs::Jobs::entry_later, crate::proofs::Jobs::entries_length, crate::proofs::Jobs::entry_low, crate::proofs::Jobs::entries_rest))]
+fn entry_of(ranges: &[ByteRange], entry: usize) -> Option<usize>
+    requires { All (λ b. b < 65536) (flat_map bytes_of ranges.now) }
+    ensures { MatchOption result (length (flat_map bytes_of ranges.now) ≤ entry) (λ b. slice_get (flat_map bytes_of ranges.now) entry ≡ Some b) }
+{
+    let (range, rest) = ranges.split_first()?;
+    let count = range.len as usize;
+    if entry < count {
+        return Some(range.at as usize + entry);
+    }
+    entry_of(rest, entry - count)
+}
+
+/// The byte that the packet reads as an entry, if it has so many.
+pub fn read_at(job: &Job, number: usize, entry: usize) -> Option<usize>
+    requires { IsPacket (plan job.now) number }
+    ensures { MatchOption result (length (packet (plan job.now) number).reads ≤ entry) (λ b. IsEntry (plan job.now) number entry b) }
+{
+    job.valid();
+    entry_of(&job.packet(number).bytes.reads, entry)
+}
+
+/// A byte that the packet writes.
+pub fn write_at(job: &Job, number: usize, entry: usize) -> usize
+    requires number { IsPacket (plan job.now) number }
+    requires entry { entry < length (packet (plan job.now) number).writes }
+    ensures at { result ≡ slice_index (packet (plan job.now) number).writes entry }
+    ensures within { IsByte (plan job.now) result }
+{
+    job.valid();
+    job.packet(number).bytes.write.at as usize + entry
+}

@@ -1,0 +1,180 @@
+//! What a packet has read and stored.
+
+ghost use Rattle.std.specs.Prelude.{◌≡◌, ◌↔◌, ◌<◌, ◌⊎◌, ℕ, Some, None, true, false, length, replicate, slice_index_or, slice_set, IsTrue, IsSome, IsOk, OnOk, OnErr, IfOk, if◌then◌else◌, ◌==◌};
+ghost use Rattle.hq_machine.specs.View.{IsRow, NextRow};
+
+use std::alloc::{AllocError, Global};
+use std::marker::Model;
+
+/// The bytes that a packet has read; takes no memory before the first.
+#[derive(Drop)]
+pub struct Reads {
+    bytes: Vec<Option<u8>>,
+    count: usize,
+}
+
+impl Model for Reads {
+    ghost use Rattle.std.specs.Prelude.{◌≡◌, ℕ, List, Option, count_by, is_some};
+
+    ghost Value = { List (Option ℕ) };
+
+    ghost view = { λ r. r.bytes.items };
+
+    ghost invariant = { λ r. r.count ≡ count_by is_some r.bytes.items };
+}
+
+impl Reads {
+    ghost use Rattle.std.specs.Prelude.{[], count_by, is_some};
+
+    /// Nothing read.
+    pub fn new(alloc: Global) -> Reads
+        ensures { result ≡ [] }
+    {
+        Reads {
+            bytes: Vec::new(alloc),
+            count: 0,
+        }
+    }
+
+    /// The byte of an entry, if it was read.
+    pub fn get(&self, entry: usize) -> Option<u8>
+        ensures { result ≡ slice_index_or self.now entry None }
+    {
+        match self.bytes.get(entry) {
+            Some(byte) => *byte,
+            None => None,
+        }
+    }
+
+    /// How many entries were read.
+    pub fn count(&self) -> usize
+        ensures { result ≡ count_by is_some self.now }
+    {
+        self.count
+    }
+
+    /// Makes room for so many entries, where there is none yet.
+    pub fn open(&mut self, total: usize) -> Result<(), AllocError>
+        requires { IsRow total self.old }
+        ensures room { OnOk result (length self.new ≡ total) }
+        ensures same { OnOk result ((i : ℕ) → slice_index_or self.new i None ≡ slice_index_or self.old i None) }
+        ensures err { OnErr result (self.new ≡ self.old) }
+    {
+        if self.bytes.is_empty() {
+            self.bytes.resize(total, None)?;
+        }
+        Ok(())
+    }
+
+    /// Takes the byte of an entry in.
+    pub fn set(&mut self, entry: usize, byte: u8)
+        requires there { entry < length self.old }
+        requires fresh { slice_index_or self.old entry None ≡ None }
+        ensures { self.new ≡ slice_set self.old entry (Some byte) }
+    {
+        self.bytes[entry] = Some(byte);
+        self.count += 1;
+    }
+
+    /// Takes the byte of one of so many entries in.
+    pub fn take(&mut self, entry: usize, total: usize, byte: u8) -> Result<(), AllocError>
+        requires row { IsRow total self.old }
+        requires there { entry < total }
+        requires fresh { slice_index_or self.old entry None ≡ None }
+        ensures ok { OnOk result (NextRow self.old total entry byte self.new) }
+        ensures err { OnErr result (self.new ≡ self.old) }
+    {
+        self.open(total)?;
+        self.set(entry, byte);
+        Ok(())
+    }
+}
+
+/// The bytes that a packet stores, and which of them it has stored; takes no memory before the first.
+#[derive(Drop)]
+pub struct Stores {
+    bytes: Vec<u8>,
+    stored: Vec<bool>,
+    count: usize,
+}
+
+impl Model for Stores {
+    ghost use Rattle.std.specs.Prelude.{◌≡◌, count_by};
+    ghost use Rattle.hq_machine.specs.State.{StoresValue};
+
+    ghost Value = { StoresValue };
+
+    ghost view = { λ s. record { bytes = s.bytes.items; stored = s.stored.items } };
+
+    ghost invariant = { λ s. s.count ≡ count_by (λ b. b) s.stored.items };
+}
+
+impl Stores {
+    ghost use Rattle.std.specs.Prelude.{count_by, slice_index};
+    ghost use Rattle.hq_machine.specs.State.{no_stores};
+
+    /// Nothing stored.
+    pub fn new(alloc: Global) -> Stores
+        ensures { result ≡ no_stores }
+    {
+        Stores {
+            bytes: Vec::new(alloc),
+            stored: Vec::new(alloc),
+            count: 0,
+        }
+    }
+
+    /// These bytes, none of them stored yet.
+    pub fn open(alloc: Global, bytes: Vec<u8>) -> Result<Stores, AllocError>
+        ensures { IfOk result (λ s. s ≡ record { bytes = bytes.items; stored = replicate (length bytes.items) false }) }
+    {
+        let stored = vec![in alloc; false; bytes.len()]?;
+        Ok(Stores {
+            bytes,
+            stored,
+            count: 0,
+        })
+    }
+
+    /// Whether there is no byte yet.
+    pub fn is_empty(&self) -> bool
+        ensures { IsTrue result ↔ (length self.now.stored ≡ 0) }
+    {
+        self.stored.is_empty()
+    }
+
+    /// A byte that the packet stores.
+    pub fn byte(&self, entry: usize) -> u8
+        requires { entry < length self.now.bytes }
+        ensures { result ≡ slice_index self.now.bytes entry }
+    {
+        self.bytes[entry]
+    }
+
+    /// Whether the byte is stored.
+    pub fn is_stored(&self, entry: usize) -> bool
+        ensures { result ≡ slice_index_or self.now.stored entry false }
+    {
+        match self.stored.get(entry) {
+            Some(stored) => *stored,
+            None => false,
+        }
+    }
+
+    /// How many bytes are stored.
+    pub fn count(&self) -> usize
+        ensures { result ≡ count_by (λ b. b) self.now.stored }
+    {
+        self.count
+    }
+
+    /// The byte is stored.
+    pub fn set(&mut self, entry: usize)
+        requires there { entry < length self.old.stored }
+        requires fresh { slice_index_or self.old.stored entry false ≡ false }
+        ensures { self.new ≡ record self.old { stored = slice_set self.old.stored entry true } }
+    {
+        self.stored[entry] = true;
+        self.count += 1;
+    }
+}

@@ -1,0 +1,262 @@
+//! The state of a run.
+
+ghost use Rattle.std.specs.Prelude.{◌≡◌, ◌+◌, ◌<◌, ◌≤◌, ◌↔◌, ◌⊎◌, ℕ, Some, None, [], All, false, length, IfOk, IfErr, OnOk, OnErr, IsTrue, map, slice_index, slice_index_or, replicate};
+ghost use Rattle.hq_copies.specs.Copies.{IsLaneByte, opened};
+ghost use Rattle.hq_job.specs.Plan.{plan};
+ghost use Rattle.hq_model.specs.Job.{Job as JobOfNumbers, IsPacket, agent_of};
+ghost use Rattle.hq_model.specs.Machine as machine;
+ghost use Rattle.hq_model.specs.Machine.{first_phase, start, is_launched, lane_sees, listed};
+ghost use Rattle.hq_model.specs.View.{phases_of};
+ghost use Rattle.hq_machine.specs.State.{named, no_stores};
+ghost use Rattle.hq_machine.specs.View.{IsStateOf, AllAre, Opens, phased, state_of};
+
+use crate::fault::StepFault;
+use crate::packets::agent_of;
+use crate::phase::Phase;
+use crate::rows::{Reads, Stores};
+use hq_copies::Copies;
+use hq_job::Job;
+use std::alloc::{AllocError, Global};
+use std::marker::Model;
+use std::ops::Range;
+
+/// The state of a run of a job.
+///
+/// Each call that takes the job wants the one that the state was started with.
+#[derive(Drop)]
+pub struct State {
+    pub(crate) alloc: Global,
+    pub(crate) phases: Vec<Phase>,
+    pub(crate) observed: Vec<[bool; 5]>,
+    pub(crate) reads: Vec<Reads>,
+    pub(crate) stores: Vec<Stores>,
+    pub(crate) signals: Vec<u64>,
+    pub(crate) copies: Copies,
+}
+
+impl Model for State {
+    ghost use Rattle.std.specs.Prelude.{map};
+    ghost use Rattle.hq_machine.specs.State.{StateValue, state_code, named};
+
+    ghost Value = { StateValue };
+
+    ghost coded = { state_code };
+
+    ghost view = { λ s. record { phases = map named s.phases.items; observed = s.observed.items; reads = s.reads.items; stores = s.stores.items; signals = s.signals.items; copies = s.copies } };
+}
+
+/// The phase that packets start in.
+fn first_phase(job: &Job) -> Phase
+    ensures { named result ≡ first_phase (plan job.now) }
+{
+    if job.rings() {
+        Phase::Waiting
+    } else {
+        Phase::InQueue
+    }
+}
+
+/// The number of the agent of a packet's queue.
+#[tactic(auto, using(crate::proofs::Jobs::agent_below))]
+fn lane_agent(job: &Job, packet: usize) -> u8
+    requires { IsPacket (plan job.now) packet }
+    ensures agent { result ≡ agent_of (plan job.now) packet }
+    ensures there { result < length job.now.agents }
+{
+    job.valid();
+    agent_of(job, packet) as u8
+}
+
+/// The agent of each packet.
+fn lane_agents(alloc: Global, job: &Job) -> Result<Vec<u8>, AllocError>
+    ensures count { IfOk result (λ agents. length agents.items ≡ length job.now.packets) }
+    ensures agents { IfOk result (λ agents. AllAre (λ p agent. agent ≡ agent_of (plan job.now) p) agents.items) }
+{
+    let count = job.packets().len();
+    let mut agents = Vec::with_capacity(alloc, count)?;
+    for packet in 0..count {
+        agents.push(lane_agent(job, packet))?;
+    }
+    Ok(agents)
+}
+
+/// How many packets the job has.
+fn packet_count(job: &Job) -> usize
+    ensures { result ≡ length (plan job.now).packets }
+{
+    job.packets().len()
+}
+
+/// Memory as the job starts, and a lane for each packet.
+fn first_copies(alloc: Global, job: &Job) -> Result<Copies, StepFault>
+    ensures ok { IfOk result (λ copies. Opens (plan job.now) copies) }
+    ensures memory { IfErr result (λ e. e ≡ StepFault.Memory) }
+{
+    job.valid();
+    let agents = lane_agents(alloc, job)?;
+    let memory = job.memory(alloc)?;
+    match Copies::new(alloc, memory, job.agents(), agents) {
+        Ok(copies) => Ok(copies),
+        Err(_) => Err(StepFault::Memory),
+    }
+}
+
+/// The phase of each packet as the job starts.
+#[tactic(auto, using(crate::proofs::Starts::map_replicate))]
+fn first_phases(alloc: Global, job: &Job) -> Result<Vec<Phase>, AllocError>
+    ensures { IfOk result (λ phases. map named phases.items ≡ replicate (length (plan job.now).packets) (first_phase (plan job.now))) }
+{
+    let phases = vec![in alloc; first_phase(job); packet_count(job)]?;
+    Ok(phases)
+}
+
+/// What each packet has observed as the job starts.
+fn nothing_observed(alloc: Global, count: usize) -> Result<Vec<[bool; 5]>, AllocError>
+    ensures { IfOk result (λ rows. rows.items ≡ replicate count (replicate 5 false)) }
+{
+    let rows = vec![in alloc; [false; 5]; count]?;
+    Ok(rows)
+}
+
+/// What each signal starts with.
+fn signal_values(alloc: Global, job: &Job) -> Result<Vec<u64>, AllocError>
+    ensures { IfOk result (λ values. values.items ≡ (plan job.now).starts) }
+{
+    let signals = job.signals();
+    let count = signals.len();
+    let mut values = Vec::with_capacity(alloc, count)?;
+    for signal in 0..count {
+        values.push(signals.start(signal))?;
+    }
+    Ok(values)
+}
+
+/// A row for each packet, with nothing read.
+#[tactic(auto, using(crate::proofs::Starts::replicate_more))]
+fn no_reads(alloc: Global, count: usize) -> Result<Vec<Reads>, AllocError>
+    ensures { IfOk result (λ rows. rows.items ≡ replicate count []) }
+{
+    let mut rows = Vec::with_capacity(alloc, count)?;
+    for _ in 0..count {
+        rows.push(Reads::new(alloc))?;
+    }
+    Ok(rows)
+}
+
+/// The stores of each packet, with nothing stored.
+#[tactic(auto, using(crate::proofs::Starts::replicate_more))]
+fn nothing_stored(alloc: Global, count: usize) -> Result<Vec<Stores>, AllocError>
+    ensures { IfOk result (λ rows. rows.items ≡ replicate count no_stores) }
+{
+    let mut rows = Vec::with_capacity(alloc, count)?;
+    for _ in 0..count {
+        rows.push(Stores::new(alloc))?;
+    }
+    Ok(rows)
+}
+
+impl State {
+    /// The state in which a run of the job starts.
+    pub fn start(alloc: Global, job: &Job) -> Result<State, StepFault>
+        ensures is { IfOk result (λ s. IsStateOf (plan job.now) s) }
+        ensures start { IfOk result (λ s. state_of (plan job.now) s ≡ start (plan job.now)) }
+        ensures memory { IfErr result (λ e. e ≡ StepFault.Memory) }
+    {
+        let count = packet_count(job);
+        Ok(State {
+            alloc,
+            phases: first_phases(alloc, job)?,
+            observed: nothing_observed(alloc, count)?,
+            reads: no_reads(alloc, count)?,
+            stores: nothing_stored(alloc, count)?,
+            signals: signal_values(alloc, job)?,
+            copies: first_copies(alloc, job)?,
+        })
+    }
+
+    /// How many packets there are.
+    pub fn packets(&self) -> usize
+        ensures { result ≡ length self.now.phases }
+    {
+        self.phases.len()
+    }
+
+    /// The phase of a packet.
+    pub fn phase(&self, packet: usize) -> Phase
+        requires { packet < length self.now.phases }
+        ensures { (first : machine.Phase) → named result ≡ phases_of first self.now.phases packet }
+    {
+        self.phases[packet]
+    }
+
+    /// The bytes of memory.
+    pub fn memory(&self) -> &[u8]
+        ensures { result.now ≡ self.now.copies.memory }
+    {
+        self.copies.memory()
+    }
+
+    /// The byte that is seen through a packet's lane.
+    pub fn seen(&self, packet: usize, byte: usize) -> u8
+        requires { IsLaneByte self.now.copies packet byte }
+        ensures { (job : JobOfNumbers) → IsStateOf job self.now → result ≡ lane_sees job (state_of job self.now) packet byte }
+    {
+        self.copies.read(packet, byte)
+    }
+
+    /// Writes into the slice the bytes that are seen through a packet's lane from a byte on.
+    pub fn seen_into(&self, packet: usize, byte: usize, bytes: &mut [u8])
+        requires packet { packet < length self.now.copies.lanes }
+        requires bytes { byte + length bytes.old ≤ length self.now.copies.memory }
+        ensures { (job : JobOfNumbers) → IsStateOf job self.now → bytes.new ≡ listed (length bytes.old) (λ i. lane_sees job (state_of job self.now) packet (byte + i)) }
+    {
+        self.copies.read_into(packet, byte, bytes);
+    }
+
+    /// The byte that a packet has read as an entry, if it has.
+    pub fn read_byte(&self, packet: usize, entry: usize) -> Option<u8>
+        requires { packet < length self.now.reads }
+        ensures { (job : JobOfNumbers) → result ≡ (state_of job self.now).read packet entry }
+    {
+        self.reads[packet].get(entry)
+    }
+
+    /// Puts a packet in a phase.
+    #[tactic(auto, using(crate::proofs::Moves::map_named))]
+    pub(crate) fn set_phase(&mut self, packet: usize, phase: Phase)
+        requires { packet < length self.old.phases }
+        ensures { self.new ≡ phased self.old packet (named phase) }
+    {
+        self.phases[packet] = phase;
+    }
+
+    /// Whether a packet is in a phase.
+    #[tactic(auto, using(crate::proofs::Moves::named_same))]
+    pub(crate) fn is_in(&self, packet: usize, phase: Phase) -> bool
+        requires { packet < length self.now.phases }
+        ensures { (first : machine.Phase) → IsTrue result ↔ (phases_of first self.now.phases packet ≡ named phase) }
+    {
+        self.phase(packet) == phase
+    }
+
+    /// Whether a packet is launched, active or complete.
+    pub(crate) fn is_launched(&self, packet: usize) -> bool
+        requires { packet < length self.now.phases }
+        ensures { (first : machine.Phase) → result ≡ is_launched (phases_of first self.now.phases packet) }
+    {
+        self.phase(packet).is_launched()
+    }
+
+    /// Whether all packets of these numbers are complete.
+    pub(crate) fn all_complete(&self, numbers: Range<usize>) -> bool
+        requires { numbers.end ≤ length self.now.phases }
+        ensures { (first : machine.Phase) → IsTrue result ↔ ((e : ℕ) → numbers.start ≤ e → e < numbers.end → phases_of first self.now.phases e ≡ machine.Phase.Complete) }
+    {
+        for packet in numbers.start..numbers.end {
+            if !self.is_in(packet, Phase::Complete) {
+                return false;
+            }
+        }
+        true
+    }
+}

@@ -1,0 +1,9 @@
+pub mod Cuts
+pub mod Turns
+pub mod Parts
+pub mod Forms
+pub mod States
+pub mod Wholes
+pub mod Faults
+pub mod Puts
+pub mod Again

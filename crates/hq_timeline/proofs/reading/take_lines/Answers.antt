@@ -1,0 +1,16 @@
+use Rattle.std.proofs.Common.{arith}
+use Rattle.hq_text.specs.Lines.{lines_of}
+use Rattle.hq_timeline.specs.DraftView.{state_of}
+use Rattle.hq_timeline.proofs.Turns.{one_taken, none_more}
+use Rattle.hq_timeline.proofs.reading.take_lines.Goals as goal
+
+pub returns-in-Err-clause-taken : goal.returns-in-Err-clause-taken
+returns-in-Err-clause-taken c =
+    none_more (lines_of c.args.text.now) (lines_of c.loop-rest.rest.now) (lines_of c.first_line.result.1.now) c.first_line.result.0.now c.loop-rest.count (state_of c.loop-rest.draft) (state_of c.take_line.new.draft) c.in-Err.reason c.fault_at.result
+    c.loop-rest.invariant.taken c.first_line.ensures.cut c.in-Err.ensures c.fault_at.ensures
+
+pub loop-rest-preserved : goal.loop-rest-preserved
+loop-rest-preserved c = record {
+  taken = one_taken (lines_of c.args.text.now) (lines_of c.loop-rest.rest.now) (lines_of c.first_line.result.1.now) c.first_line.result.0.now c.loop-rest.count (state_of c.loop-rest.draft) (state_of c.take_line.new.draft) c.loop-rest.invariant.taken c.first_line.ensures.cut c.in_default.ensures;
+  short = omega arith;
+}

@@ -1,0 +1,9 @@
+pub mod Names
+pub mod Grammar
+pub mod TextFaults
+pub mod LineTests
+pub mod TextStates
+pub mod Gives
+pub mod DraftView
+pub mod Split
+pub mod Printed

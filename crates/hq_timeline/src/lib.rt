@@ -1,0 +1,21 @@
+//! Timelines: the text of a run's journal, printed and parsed.
+//!
+//! A timeline begins `hsat 1`, then has an event a line, and ends with `end`. Nothing here knows whether the events can happen:
+//! that is for a replay to say.
+#![tactic(auto)]
+
+mod draft;
+mod fault;
+mod kinds;
+pub mod laws;
+mod pen;
+mod printing;
+mod reading;
+mod words;
+
+pub use fault::{TimeFault, TimeReason};
+pub use printing::{PrintFault, print};
+pub use reading::parse;
+
+#[cfg(test)]
+mod tests;

@@ -1,0 +1,58 @@
+use super::*;
+use hq_machine::{Event, Journal};
+use std::alloc::Global;
+use std::process::Abort;
+use std::test::*;
+
+/// Lines of no, one and two numbers.
+const TEXT: &[u8] = b"hsat 1\nsubmit\nlaunch 0\nobserve 1 4294967295\npushlane 1023 65535\nend\n";
+
+#[test]
+fn printed_again(rt: HostRuntime) -> Result<(), Fail> {
+    let journal = parse(rt.alloc(), TEXT)?;
+    assert_eq!(rt; journal.events().len(), 4);
+    let mut text = Vec::new(rt.alloc());
+    print(rt.alloc(), &journal, &mut text)?;
+    assert!(rt; text.as_slice() == TEXT);
+    Ok(())
+}
+
+#[test]
+fn each_event(rt: HostRuntime) -> Result<(), Fail> {
+    let mut journal = Journal::new(rt.alloc());
+    journal.push(Event::Complete { packet: 7 })?;
+    journal.push(Event::Finish { packet: 7 })?;
+    journal.push(Event::DropAgent { agent: 1, byte: 2 })?;
+    let mut text = Vec::new(rt.alloc());
+    print(rt.alloc(), &journal, &mut text)?;
+    assert!(rt;
+        text.as_slice() == b"hsat 1\ncomplete 7\nfinish 7\ndropagent 1 2\nend\n".as_slice()
+    );
+    let read = parse(rt.alloc(), &text)?;
+    assert!(rt; read.events() == journal.events());
+    Ok(())
+}
+
+fn is_fault(rt: &impl Abort, alloc: Global, text: &[u8], line: usize, reason: TimeReason) {
+    match parse(alloc, text) {
+        Ok(_) => assert!(rt; false),
+        Err(fault) => assert!(rt; fault == TimeFault { line, reason }),
+    }
+}
+
+#[test]
+fn faults(rt: HostRuntime) {
+    for (text, line, reason) in [
+        (b"".as_slice(), 1, TimeReason::NoEnd),
+        (b"hsat 1\n", 2, TimeReason::NoEnd),
+        (b"hsat 2\n", 1, TimeReason::Word),
+        (b"hsat 1\nlaunch\nend\n", 2, TimeReason::Word),
+        (b"hsat 1\nlaunch 4294967296\nend\n", 2, TimeReason::Number),
+        (b"hsat 1\nlaunch 01 2\n", 2, TimeReason::Word),
+        (b"hsat 1\nread 0  1\n", 2, TimeReason::Word),
+        (b"hsat 1\nenter \n", 2, TimeReason::Number),
+        (b"hsat 1\nend\n\n", 3, TimeReason::Word),
+    ] {
+        is_fault(&rt, rt.alloc(), text, line, reason);
+    }
+}
