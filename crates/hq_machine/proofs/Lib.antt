@@ -10,3 +10,4 @@ pub mod Counts
 pub mod Finishing
 pub mod Reading
 pub mod StoreMoves
+pub mod WorkLeft

@@ -1,3 +1,4 @@
 pub mod Events
 pub mod State
 pub mod View
+pub mod WorkLeft

@@ -6,6 +6,7 @@ mod event;
 mod fault;
 mod journal;
 pub mod laws;
+mod left;
 mod packets;
 mod phase;
 mod queues;

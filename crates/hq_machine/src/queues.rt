@@ -49,7 +49,7 @@ impl State {
     }
 
     /// The packet that may be submitted, if one may.
-    fn submittable(&self, job: &Job) -> Option<usize>
+    pub(crate) fn submittable(&self, job: &Job) -> Option<usize>
         requires { IsStateOf (plan job.now) self.now }
         ensures { MatchOption result ((p : ℕ) → MaySubmit (plan job.now) (state_of (plan job.now) self.now) p → ⊥) (λ p. MaySubmit (plan job.now) (state_of (plan job.now) self.now) p) }
     {
@@ -139,7 +139,7 @@ impl State {
     }
 
     /// The packet of the queue that may be launched, if one may.
-    fn launchable(&self, job: &Job, queue: usize) -> Option<usize>
+    pub(crate) fn launchable(&self, job: &Job, queue: usize) -> Option<usize>
         requires { IsStateOf (plan job.now) self.now }
         ensures { MatchOption result ((p : ℕ) → MayLaunch (plan job.now) (state_of (plan job.now) self.now) queue p → ⊥) (λ p. MayLaunch (plan job.now) (state_of (plan job.now) self.now) queue p) }
     {

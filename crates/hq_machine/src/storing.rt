@@ -82,7 +82,7 @@ impl State {
     }
 
     /// Whether the packet may store the byte.
-    fn may_store(&self, job: &Job, packet: usize, entry: usize) -> bool
+    pub(crate) fn may_store(&self, job: &Job, packet: usize, entry: usize) -> bool
         requires { IsStateOf (plan job.now) self.now }
         ensures { IsTrue result ↔ MayStore (plan job.now) (state_of (plan job.now) self.now) packet entry }
     {

@@ -48,7 +48,7 @@ impl State {
     }
 
     /// Whether the packet may observe the slot.
-    fn is_observable(&self, job: &Job, packet: usize, slot: usize) -> bool
+    pub(crate) fn is_observable(&self, job: &Job, packet: usize, slot: usize) -> bool
         requires is { IsStateOf (plan job.now) self.now }
         requires packet { IsPacket (plan job.now) packet }
         ensures may { IsTrue result ↔ MayObserve (plan job.now) (state_of (plan job.now) self.now) packet slot }
@@ -157,7 +157,7 @@ impl State {
     }
 
     /// Whether the packet may enter.
-    fn may_enter(&self, job: &Job, packet: usize) -> bool
+    pub(crate) fn may_enter(&self, job: &Job, packet: usize) -> bool
         requires { IsStateOf (plan job.now) self.now }
         ensures { IsTrue result ↔ MayEnter (plan job.now) (state_of (plan job.now) self.now) packet }
     {

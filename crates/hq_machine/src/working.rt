@@ -63,7 +63,7 @@ impl State {
     }
 
     /// Whether the packet may complete.
-    fn may_finish(&self, job: &Job, packet: usize) -> bool
+    pub(crate) fn may_finish(&self, job: &Job, packet: usize) -> bool
         requires { IsStateOf (plan job.now) self.now }
         ensures { IsTrue result ↔ MayFinish (plan job.now) (state_of (plan job.now) self.now) packet }
     {
@@ -120,7 +120,7 @@ impl State {
     }
 
     /// Whether the packet reads, and hasn't read the entry.
-    fn is_read_open(&self, job: &Job, packet: usize, entry: usize) -> bool
+    pub(crate) fn is_read_open(&self, job: &Job, packet: usize, entry: usize) -> bool
         requires { IsStateOf (plan job.now) self.now }
         ensures { IsTrue result ↔ ReadOpen (plan job.now) (state_of (plan job.now) self.now) packet entry }
     {
