@@ -11,3 +11,6 @@ pub mod Finishing
 pub mod Reading
 pub mod StoreMoves
 pub mod WorkLeft
+pub mod PushedBytes
+pub mod PushLists
+pub mod Releases

@@ -2,3 +2,4 @@ pub mod Events
 pub mod State
 pub mod View
 pub mod WorkLeft
+pub mod Pushes

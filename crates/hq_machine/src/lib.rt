@@ -1,6 +1,7 @@
 //! The machine of the definitions as code: its events, its states, single steps from state to state, and the record of a run.
 #![tactic(auto)]
 
+mod coarse;
 mod copying;
 mod event;
 mod fault;

@@ -41,7 +41,7 @@ impl State {
     }
 
     /// Whether a packet has stored all its bytes.
-    fn has_stored_all(&self, job: &Job, packet: usize) -> bool
+    pub(crate) fn has_stored_all(&self, job: &Job, packet: usize) -> bool
         requires is { IsStateOf (plan job.now) self.now }
         requires packet { IsPacket (plan job.now) packet }
         ensures { IsTrue result ↔ AllStored (plan job.now) (state_of (plan job.now) self.now) packet }
@@ -75,7 +75,7 @@ impl State {
     }
 
     /// The signal, if there is one, goes down by 1.
-    fn decrement(&mut self, done: Option<u16>)
+    pub(crate) fn decrement(&mut self, done: Option<u16>)
         requires { IfSome done (λ s. s < length self.old.signals) }
         ensures { self.new ≡ signalled self.old done }
     {

@@ -1,0 +1,101 @@
+-- Lists of pushes: of all dirty bytes of one lane or agent, and of some of them in turn. This project's own.
+use Rattle.std.specs.Prelude.{◌≡◌, ◌≢◌, ℕ, ◌+◌, ◌-◌, ◌<◌, ◌≤◌, true, false, List, [], ◌∷◌, length, slice_index, map, filter, flat_map}
+use Rattle.hq_copies.specs.Copies.{CopiesValue, PushedLane, PushedAgent, IsLaneByte, IsAgentByte}
+use Rattle.hq_job.specs.Access.{AreOfQueue}
+use Rattle.hq_machine.specs.declared.coarse.Holders.{Holders}
+use Rattle.hq_machine.specs.declared.coarse.Holders.TheVariants as holders
+use Rattle.hq_model.specs.Job.{Job, packet, IsPacket, agent_of, reaches}
+use Rattle.hq_model.specs.Journal.{numbers}
+use Rattle.hq_model.specs.Machine as machine
+use Rattle.hq_model.specs.Machine.{Event, is_dirty, listed, AllRead, AllStored}
+use Rattle.hq_model.specs.Machine.Event.{PushLane, PushAgent}
+use Rattle.hq_model.specs.View.{Held, copies_of}
+use Rattle.hq_packet.specs.declared.packet.Scope.TheVariants as scope
+
+-- the maps of these holders, and the push of a byte of one of them
+abbrev pub maps_of : Holders → CopiesValue → List Held
+maps_of holders.Lanes c = c.lanes
+maps_of holders.Agents c = c.agents
+
+abbrev pub push_of : Holders → ℕ → ℕ → Event
+push_of holders.Lanes k b = PushLane k b
+push_of holders.Agents k b = PushAgent k b
+
+-- The copies after a push. Other events are none.
+abbrev pub PushedBy : CopiesValue → Event → CopiesValue → Type 0
+PushedBy old (PushLane p b) new = IsLaneByte old p b × PushedLane old p b new
+PushedBy old (PushAgent a b) new = IsAgentByte old a b × PushedAgent old a b new
+PushedBy old _ new = ⊥
+
+-- The pushes happen in their order.
+abbrev pub AllPushed : CopiesValue → List Event → CopiesValue → Type 0
+AllPushed old [] new = new ≡ old
+AllPushed old (event ∷ events) new = (mid : CopiesValue) × PushedBy old event mid × AllPushed mid events new
+
+-- only bytes of memory are dirty, and each lane stands on an agent that is there
+pub record Within (c : CopiesValue) : Type 0 where
+  pub lanes : (p b : ℕ) → is_dirty (copies_of c.lanes p b) ≡ true → b < length c.memory
+  pub agents : (a b : ℕ) → is_dirty (copies_of c.agents a b) ≡ true → b < length c.memory
+  pub agents_there : (p : ℕ) → p < length c.lanes → slice_index c.lane_agents p < length c.agents
+
+-- as many bytes and maps, and the lanes on the same agents
+pub record Counts (old new : CopiesValue) : Type 0 where
+  pub memory : length new.memory ≡ length old.memory
+  pub agents : length new.agents ≡ length old.agents
+  pub lanes : length new.lanes ≡ length old.lanes
+  pub lane_agents : new.lane_agents ≡ old.lane_agents
+
+-- the dirty bytes of one holder, rising
+abbrev pub dirty_of : Holders → CopiesValue → ℕ → List ℕ
+dirty_of h c k = filter (λ b. is_dirty (copies_of (maps_of h c) k b)) (numbers (length c.memory))
+
+-- what all pushes keep
+pub record Kept (old new : CopiesValue) : Type 0 where
+  pub counts : Counts old new
+  pub within : Within new
+
+-- the holder's dirty bytes are pushed, and the others of its kind hold what they held
+pub record Cleaned (h : Holders) (old : CopiesValue) (k : ℕ) (new : CopiesValue) : Type 0 where
+  pub run : AllPushed old (map (push_of h k) (dirty_of h old k)) new
+  pub kept : Kept old new
+  pub others : (q b : ℕ) → q ≢ k → copies_of (maps_of h new) q b ≡ copies_of (maps_of h old) q b
+
+-- the numbers from start up to, but not with, stop
+abbrev pub span : ℕ → ℕ → List ℕ
+span start stop = listed (stop - start) (λ i. start + i)
+
+abbrev pub pushes_of : Holders → CopiesValue → List ℕ → List Event
+pushes_of h c ks = flat_map (λ k. map (push_of h k) (dirty_of h c k)) ks
+
+-- the dirty bytes of these holders are pushed, in turn; those from stop on hold what they held
+pub record Swept (h : Holders) (old : CopiesValue) (start stop : ℕ) (new : CopiesValue) : Type 0 where
+  pub run : AllPushed old (pushes_of h old (span start stop)) new
+  pub kept : Kept old new
+  pub later : (q b : ℕ) → stop ≤ q → copies_of (maps_of h new) q b ≡ copies_of (maps_of h old) q b
+
+-- those of lanes, and then those of agents
+pub record WrittenBack (old : CopiesValue) (lane lanes agent agents : ℕ) (new : CopiesValue) : Type 0 where
+  pub mid : CopiesValue
+  pub lanes_swept : Swept holders.Lanes old lane lanes mid
+  pub agents_swept : Swept holders.Agents mid agent agents new
+
+-- p is at its completion, but for its release fence
+pub record IsWorked (job : Job) (state : machine.State) (p : ℕ) : Type 0 where
+  pub is_packet : IsPacket job p
+  pub active : state.phase p ≡ machine.Phase.Active
+  pub read : AllRead job state p
+  pub stored : AllStored job state p
+
+-- the lanes that p's release fence reaches: from start up to stop, or none
+pub record LanesOf (job : Job) (p start stop : ℕ) : Type 0 where
+  pub rising : start ≤ stop
+  pub within : stop ≤ length job.packets
+  pub some : reaches (packet job p).release scope.Agent ≡ true → AreOfQueue job (packet job p).queue start stop
+  pub none : reaches (packet job p).release scope.Agent ≡ false → start ≡ stop
+
+-- the agent that it reaches, or none
+pub record AgentsOf (job : Job) (p start stop : ℕ) : Type 0 where
+  pub rising : start ≤ stop
+  pub within : stop ≤ job.agents
+  pub some : reaches (packet job p).release scope.System ≡ true → (start ≡ agent_of job p) × (stop ≡ start + 1)
+  pub none : reaches (packet job p).release scope.System ≡ false → start ≡ stop
