@@ -4,12 +4,12 @@
 mod input;
 
 use hq_engines::{
-    Status, audit_engine, check_engine, pack_engine, say_file, say_memory, show_engine,
+    Status, audit_engine, check_engine, pack_engine, replay_engine, say_file, say_memory,
+    show_engine,
 };
 use hq_words::{Asked, WordsFault, command_of};
-use input::Input;
+use input::{open, open_file};
 use std::alloc::{AllocError, Global};
-use std::fs::File;
 use std::io::{BufWriter, Write};
 use std::process::ExitCode;
 use std::thread::Threads;
@@ -23,17 +23,25 @@ fn flushed<W: Write>(writer: &mut W, status: Status) -> Status {
     }
 }
 
+/// Writes why an input can't be read.
+fn say_unopened<W: Write>(error: &io::Error, writer: &mut W) -> Status {
+    match error.kind() {
+        io::ErrorKind::OutOfMemory => say_memory(writer),
+        _ => say_file(writer),
+    }
+}
+
 fn show<W: Write>(rt: &HostRuntime, job: &str, writer: &mut W) -> Status {
-    match Input::open(rt, job) {
+    match open(rt, job) {
         Ok(mut input) => show_engine(rt.alloc(), &mut input, writer),
-        Err(_) => say_file(writer),
+        Err(error) => say_unopened(&error, writer),
     }
 }
 
 fn audit<W: Write>(rt: &HostRuntime, job: &str, writer: &mut W) -> Status {
-    match Input::open(rt, job) {
+    match open(rt, job) {
         Ok(mut input) => audit_engine(rt.alloc(), &mut input, writer),
-        Err(_) => say_file(writer),
+        Err(error) => say_unopened(&error, writer),
     }
 }
 
@@ -45,11 +53,19 @@ fn check<W: Write>(
     certificate: &str,
     writer: &mut W,
 ) -> Status {
-    match (Input::open(rt, job), File::open(rt, certificate)) {
+    match (open(rt, job), open_file(rt, certificate)) {
         (Ok(mut input), Ok(mut file)) => {
             check_engine(threads, rt.alloc(), &mut input, &mut file, writer)
         }
-        _ => say_file(writer),
+        (Err(error), _) | (_, Err(error)) => say_unopened(&error, writer),
+    }
+}
+
+/// Opens both files before it reads either.
+fn replay<W: Write>(rt: &HostRuntime, job: &str, timeline: &str, writer: &mut W) -> Status {
+    match (open(rt, job), open_file(rt, timeline)) {
+        (Ok(mut input), Ok(mut file)) => replay_engine(rt.alloc(), &mut input, &mut file, writer),
+        (Err(error), _) | (_, Err(error)) => say_unopened(&error, writer),
     }
 }
 
@@ -65,6 +81,7 @@ fn answer<W: Write>(
         Asked::Pack { words } => pack_engine(rt.alloc(), words, writer),
         Asked::Audit { job } => audit(rt, job, writer),
         Asked::Check { job, certificate } => check(rt, threads, job, certificate, writer),
+        Asked::Replay { job, timeline } => replay(rt, job, timeline, writer),
     }
 }
 

@@ -4,3 +4,4 @@ pub mod Queues
 pub mod Packs
 pub mod Audits
 pub mod Checks
+pub mod Replays

@@ -5,3 +5,5 @@ pub mod Audit
 pub mod Pack
 pub mod Packing
 pub mod Check
+pub mod Buffers
+pub mod Replay

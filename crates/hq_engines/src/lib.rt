@@ -4,9 +4,11 @@
 #![tactic(auto)]
 
 mod audit;
+mod buffers;
 mod check;
 mod fields;
 mod pack;
+mod replay;
 mod saying;
 mod show;
 mod status;
@@ -16,6 +18,7 @@ mod taking;
 pub use audit::audit_engine;
 pub use check::check_engine;
 pub use pack::pack_engine;
+pub use replay::replay_engine;
 pub use saying::{say_file, say_memory};
 pub use show::show_engine;
 pub use status::Status;

@@ -30,3 +30,13 @@ pub fn say_file<W: Write>(writer: &mut W) -> Status
 {
     say(writer, "file fault", Status::File)
 }
+
+/// Writes a whole text, and answers `Done`; where the writer fails that is `File`. It takes no memory.
+pub fn say_text<W: Write>(writer: &mut W, text: &[u8]) -> Status
+    ensures { Said (W.contents writer.old) (W.contents writer.new) text.now Status.Done result }
+{
+    match writer.write_all(text) {
+        Ok(()) => Status::Done,
+        Err(_) => Status::File,
+    }
+}

@@ -50,3 +50,83 @@ fn a_writer_that_fails(rt: HostRuntime) {
         9
     );
 }
+
+/// A reader of one byte a turn that fails once its turns are over.
+#[derive(Drop)]
+struct FailsAfter<'a> {
+    text: &'a [u8],
+    turns: usize,
+}
+
+impl<'a> Read for FailsAfter<'a> {
+    fn read(&mut self, buf: &mut [u8]) -> io::Result<usize> {
+        if self.turns == 0 || buf.is_empty() {
+            return Err(io::Error::from(io::ErrorKind::Interrupted));
+        }
+        self.turns -= 1;
+        match self.text.split_first() {
+            Some((byte, rest)) => {
+                buf[0] = *byte;
+                self.text = rest;
+                Ok(1)
+            }
+            None => Ok(0),
+        }
+    }
+}
+
+/// A writer that fails once its turns are over.
+#[derive(Drop)]
+struct Full {
+    turns: usize,
+}
+
+impl Write for Full {
+    fn write(&mut self, buf: &[u8]) -> io::Result<usize> {
+        if self.turns == 0 {
+            return Err(io::Error::from(io::ErrorKind::WriteZero));
+        }
+        self.turns -= 1;
+        Ok(buf.len())
+    }
+
+    fn flush(&mut self) -> io::Result<()> {
+        Ok(())
+    }
+}
+
+#[test]
+fn a_reader_that_fails_at_each_turn(rt: HostRuntime) {
+    for turns in 0..EMPTY.len() + 1 {
+        let mut reader = FailsAfter { text: EMPTY, turns };
+        let mut out = Vec::new(rt.alloc());
+        let status = audit_engine(rt.alloc(), &mut reader, &mut out);
+        assert_eq!(rt; status.code(), 9);
+        assert_eq!(rt; out.as_slice(), b"file fault\n".as_slice());
+    }
+    let turns = EMPTY.len() + 1;
+    let mut reader = FailsAfter { text: EMPTY, turns };
+    let mut out = Vec::new(rt.alloc());
+    let status = audit_engine(rt.alloc(), &mut reader, &mut out);
+    assert_eq!(rt; status.code(), 0);
+}
+
+#[test]
+fn a_writer_that_fails_at_each_write(rt: HostRuntime) {
+    let mut done = false;
+    for turns in 0..16 {
+        let status = show_engine(rt.alloc(), &mut EMPTY, &mut Full { turns });
+        assert!(rt; status.code() == 0 || (status.code() == 9 && !done));
+        done = status.code() == 0;
+    }
+    assert!(rt; done);
+}
+
+#[test]
+fn replays_a_timeline(rt: HostRuntime) {
+    let mut out = Vec::new(rt.alloc());
+    let mut timeline = b"hsat 1\nrest\nend\n".as_slice();
+    let status = replay_engine(rt.alloc(), &mut EMPTY, &mut timeline, &mut out);
+    assert_eq!(rt; status.code(), 0);
+    assert_eq!(rt; out.as_slice(), b"".as_slice());
+}

@@ -14,3 +14,6 @@ pub mod WorkLeft
 pub mod PushedBytes
 pub mod PushLists
 pub mod Releases
+pub mod Singles
+pub mod EachEntry
+pub mod EachStore

@@ -3,3 +3,4 @@ pub mod State
 pub mod View
 pub mod WorkLeft
 pub mod Pushes
+pub mod Entries

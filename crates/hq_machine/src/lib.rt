@@ -1,8 +1,10 @@
 //! The machine of the definitions as code: its events, its states, single steps from state to state, and the record of a run.
 #![tactic(auto)]
 
+mod applying;
 mod coarse;
 mod copying;
+mod entries;
 mod event;
 mod fault;
 mod journal;
@@ -23,3 +25,6 @@ pub use fault::StepFault;
 pub use journal::Journal;
 pub use phase::Phase;
 pub use state::State;
+
+#[cfg(test)]
+mod tests;

@@ -42,7 +42,7 @@ fn evaluated(alloc: Global, task: Task, reads: &[u8], count: usize) -> Result<Ve
 
 impl State {
     /// Where the state takes memory.
-    fn allocator(&self) -> Global {
+    pub(crate) fn allocator(&self) -> Global {
         self.alloc
     }
 
@@ -62,7 +62,7 @@ impl State {
 
     /// The bytes that the packet's task makes of those that it has read.
     #[tactic(auto, using(crate::proofs::StoreMoves::length_listed))]
-    fn task_bytes(&self, job: &Job, packet: usize) -> Result<Vec<u8>, AllocError>
+    pub(crate) fn task_bytes(&self, job: &Job, packet: usize) -> Result<Vec<u8>, AllocError>
         requires is { IsStateOf (plan job.now) self.now }
         requires packet { IsPacket (plan job.now) packet }
         ensures bytes { IfOk result (λ bytes. bytes.items ≡ bytes_stored (plan job.now) (state_of (plan job.now) self.now) packet) }

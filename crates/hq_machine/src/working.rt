@@ -16,7 +16,7 @@ use std::alloc::AllocError;
 
 impl State {
     /// How many entries a packet has read.
-    fn reads_done(&self, packet: usize) -> usize
+    pub(crate) fn reads_done(&self, packet: usize) -> usize
         requires { packet < length self.now.reads }
         ensures { result ≡ count_by is_some (row_of self.now.reads packet) }
     {
@@ -24,7 +24,7 @@ impl State {
     }
 
     /// How many bytes a packet has stored.
-    fn stores_done(&self, packet: usize) -> usize
+    pub(crate) fn stores_done(&self, packet: usize) -> usize
         requires { packet < length self.now.stores }
         ensures { result ≡ count_by (λ b. b) (stores_of self.now packet).stored }
     {

@@ -7,3 +7,4 @@ pub mod Wholes
 pub mod Faults
 pub mod Puts
 pub mod Again
+pub mod Replays

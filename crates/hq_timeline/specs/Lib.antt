@@ -7,3 +7,4 @@ pub mod Gives
 pub mod DraftView
 pub mod Split
 pub mod Printed
+pub mod Replays

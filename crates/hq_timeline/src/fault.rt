@@ -46,3 +46,24 @@ impl<T: Drop> From<AllocFailed<T>> for TimeReason {
         TimeReason::Memory
     }
 }
+
+/// Why the events of a journal don't all happen.
+#[derive(Clone, Copy, Debug, PartialEq, Eq, Error)]
+pub enum ReplayFault {
+    /// The event of this place, counted from 0, isn't enabled after those before it.
+    #[error("event {0} isn't enabled")]
+    NotEnabled(usize),
+    /// There is no memory.
+    #[error("out of memory")]
+    Memory,
+}
+
+impl From<AllocError> for ReplayFault {
+    ghost use Rattle.hq_timeline.specs.declared.fault.ReplayFault.TheVariants as stop;
+
+    ghost from_gives = { λ _ e. e ≡ stop.Memory };
+
+    fn from(_e: AllocError) -> ReplayFault {
+        ReplayFault::Memory
+    }
+}

@@ -11,11 +11,13 @@ pub mod laws;
 mod pen;
 mod printing;
 mod reading;
+mod replaying;
 mod words;
 
-pub use fault::{TimeFault, TimeReason};
+pub use fault::{ReplayFault, TimeFault, TimeReason};
 pub use printing::{PrintFault, print};
 pub use reading::parse;
+pub use replaying::replay;
 
 #[cfg(test)]
 mod tests;

@@ -2,7 +2,7 @@
 use Rattle.std.specs.Prelude.{◌≡◌, List, [], ◌∷◌, Option, Some, None, codes, map}
 use Rattle.clap.specs.Words.{Row, Text, first_of, all_of}
 use Rattle.hq_words.specs.declared.words.Asked.{Asked}
-use Rattle.hq_words.specs.declared.words.Asked.TheVariants.{Show, Pack, Audit, Check}
+use Rattle.hq_words.specs.declared.words.Asked.TheVariants.{Show, Pack, Audit, Check, Replay}
 use Rattle.hq_words.specs.declared.words.WordsFault.{WordsFault}
 use Rattle.hq_words.specs.declared.words.WordsFault.TheVariants.{Words, Memory}
 
@@ -12,18 +12,20 @@ words_or_audit [] = codes "audit" ∷ codes "@" ∷ []
 words_or_audit (word ∷ words) = word ∷ words
 
 -- a command that takes files, with the words for these
-abbrev pub AsksWith : Text → Option Text → Option Text → Asked → Type 0
-AsksWith name job certificate (Show a) = (name ≡ codes "show") × (job ≡ Some a.now)
-AsksWith name job certificate (Pack words) = ⊥
-AsksWith name job certificate (Audit a) = (name ≡ codes "audit") × (job ≡ Some a.now)
-AsksWith name job certificate (Check a b) = (name ≡ codes "check") × (job ≡ Some a.now) × (certificate ≡ Some b.now)
+abbrev pub AsksWith : Text → Option Text → Option Text → Option Text → Asked → Type 0
+AsksWith name job certificate timeline (Show a) = (name ≡ codes "show") × (job ≡ Some a.now)
+AsksWith name job certificate timeline (Pack words) = ⊥
+AsksWith name job certificate timeline (Audit a) = (name ≡ codes "audit") × (job ≡ Some a.now)
+AsksWith name job certificate timeline (Check a b) = (name ≡ codes "check") × (job ≡ Some a.now) × (certificate ≡ Some b.now)
+AsksWith name job certificate timeline (Replay a b) = (name ≡ codes "replay") × (job ≡ Some a.now) × (timeline ≡ Some b.now)
 
 -- the command of this name, with these arguments, is what is asked for
 abbrev pub AsksFor : Text → List Row → Asked → Type 0
 AsksFor name rows (Pack words) = (name ≡ codes "pack") × (all_of (codes "WORDS") rows ≡ Some (map (λ w. w.now) words.items))
-AsksFor name rows (Show a) = AsksWith name (first_of (codes "JOB") rows) (first_of (codes "CERT") rows) (Show a)
-AsksFor name rows (Audit a) = AsksWith name (first_of (codes "JOB") rows) (first_of (codes "CERT") rows) (Audit a)
-AsksFor name rows (Check a b) = AsksWith name (first_of (codes "JOB") rows) (first_of (codes "CERT") rows) (Check a b)
+AsksFor name rows (Show a) = AsksWith name (first_of (codes "JOB") rows) (first_of (codes "CERT") rows) (first_of (codes "TIMELINE") rows) (Show a)
+AsksFor name rows (Audit a) = AsksWith name (first_of (codes "JOB") rows) (first_of (codes "CERT") rows) (first_of (codes "TIMELINE") rows) (Audit a)
+AsksFor name rows (Check a b) = AsksWith name (first_of (codes "JOB") rows) (first_of (codes "CERT") rows) (first_of (codes "TIMELINE") rows) (Check a b)
+AsksFor name rows (Replay a b) = AsksWith name (first_of (codes "JOB") rows) (first_of (codes "CERT") rows) (first_of (codes "TIMELINE") rows) (Replay a b)
 
 -- of what `clap` finds: the command's name, and its arguments
 abbrev pub Asks : Option (Text × List Row) → Asked → Type 0

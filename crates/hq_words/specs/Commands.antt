@@ -9,6 +9,9 @@ job_rule = record (new_rule (codes "JOB")) { required = true; action = Some Set 
 abbrev pub file_rule : Rule
 file_rule = record (new_rule (codes "CERT")) { required = true; action = Some Set }
 
+abbrev pub timeline_rule : Rule
+timeline_rule = record (new_rule (codes "TIMELINE")) { required = true; action = Some Set }
+
 abbrev pub show_app : App
 show_app = with_rule (new_app (codes "show")) job_rule
 
@@ -17,6 +20,9 @@ audit_app = with_rule (new_app (codes "audit")) job_rule
 
 abbrev pub check_app : App
 check_app = with_rule (with_rule (new_app (codes "check")) job_rule) file_rule
+
+abbrev pub replay_app : App
+replay_app = with_rule (with_rule (new_app (codes "replay")) job_rule) timeline_rule
 
 abbrev pub words_rule : Rule
 words_rule = record (new_rule (codes "WORDS")) { required = true; action = Some Append }
@@ -31,4 +37,5 @@ program_app =
     record new { top = record new.top { has_version = true; no_binary_name = true; subcommand_required = true } }
 
 abbrev pub hsaq_app : App
-hsaq_app = with_subcommand (with_subcommand (with_subcommand (with_subcommand program_app show_app.top) pack_app.top) audit_app.top) check_app.top
+hsaq_app =
+    with_subcommand (with_subcommand (with_subcommand (with_subcommand (with_subcommand program_app show_app.top) pack_app.top) audit_app.top) check_app.top) replay_app.top

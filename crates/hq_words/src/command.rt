@@ -3,7 +3,7 @@
 ghost use Rattle.std.specs.Prelude.{◌≡◌, IfOk, false};
 ghost use Rattle.clap.specs.Words.{app_of, rule_of};
 ghost use Rattle.clap.specs.declared.builder.command.Command.TheViews.{out-Command as fields_of};
-ghost use Rattle.hq_words.specs.Commands.{job_rule, file_rule, show_app, audit_app, check_app, pack_app, program_app, hsaq_app};
+ghost use Rattle.hq_words.specs.Commands.{job_rule, file_rule, timeline_rule, show_app, audit_app, check_app, pack_app, replay_app, program_app, hsaq_app};
 
 use clap::{Arg, ArgAction, Command};
 use std::alloc::{AllocError, Global};
@@ -31,6 +31,17 @@ fn certificate<'a>(alloc: Global) -> Arg<'a>
         .required(true)
         .action(ArgAction::Set)
         .help("A certificate, as `audit` prints it")
+}
+
+/// The argument TIMELINE.
+fn timeline<'a>(alloc: Global) -> Arg<'a>
+    ensures rule { rule_of result ≡ timeline_rule }
+    ensures local { result.global ≡ false }
+{
+    Arg::new(alloc, "TIMELINE")
+        .required(true)
+        .action(ArgAction::Set)
+        .help("A timeline: the events of a run, one line each")
 }
 
 /// `show JOB`
@@ -66,6 +77,17 @@ fn check<'a>(alloc: Global) -> Result<Command<'a>, AllocError>
         .arg(certificate(alloc))
 }
 
+/// `replay JOB TIMELINE`
+fn replay<'a>(alloc: Global) -> Result<Command<'a>, AllocError>
+    ensures app { IfOk result (λ c. app_of c ≡ replay_app) }
+    ensures local { IfOk result (λ c. (fields_of c).has_globals ≡ false) }
+{
+    Command::new(alloc, "replay")
+        .about("Replays a timeline on a job, and prints the buffers as it leaves them")
+        .arg(job(alloc))?
+        .arg(timeline(alloc))
+}
+
 /// `pack WORDS..`
 fn pack<'a>(alloc: Global) -> Result<Command<'a>, AllocError>
     ensures app { IfOk result (λ c. app_of c ≡ pack_app) }
@@ -99,9 +121,11 @@ pub fn hsaq<'a>(alloc: Global) -> Result<Command<'a>, AllocError>
     let pack = pack(alloc)?;
     let audit = audit(alloc)?;
     let check = check(alloc)?;
+    let replay = replay(alloc)?;
     program(alloc)
         .subcommand(show)?
         .subcommand(pack)?
         .subcommand(audit)?
-        .subcommand(check)
+        .subcommand(check)?
+        .subcommand(replay)
 }

@@ -21,6 +21,8 @@ pub enum Asked<'a> {
     Audit { job: &'a str },
     /// Whether a certificate holds for a job.
     Check { job: &'a str, certificate: &'a str },
+    /// A job's buffers after the events of a timeline.
+    Replay { job: &'a str, timeline: &'a str },
 }
 
 /// Why nothing is asked for. `Words` has what `clap` says of the words: a fault, or the help or version that they ask for.
@@ -76,7 +78,12 @@ fn asked_for<'a>(alloc: Global, name: &str, own: &ArgMatches<'a>) -> Result<Aske
         let words = pack_words(alloc, own)?;
         return Ok(Asked::Pack { words });
     }
-    match asked_of_files(name, own.get_str("JOB"), own.get_str("CERT")) {
+    match asked_of_files(
+        name,
+        own.get_str("JOB"),
+        own.get_str("CERT"),
+        own.get_str("TIMELINE"),
+    ) {
         Some(asked) => Ok(asked),
         None => Err(AllocError),
     }
@@ -87,8 +94,9 @@ fn asked_of_files<'a>(
     name: &str,
     job: Option<&'a str>,
     certificate: Option<&'a str>,
+    timeline: Option<&'a str>,
 ) -> Option<Asked<'a>>
-    ensures { IfSome result (AsksWith name.now (option_map (λ j. j.now) job.entry) (option_map (λ c. c.now) certificate.entry)) }
+    ensures { IfSome result (AsksWith name.now (option_map (λ j. j.now) job.entry) (option_map (λ c. c.now) certificate.entry) (option_map (λ t. t.now) timeline.entry)) }
 {
     let job = job?;
     if name == "show" {
@@ -100,6 +108,10 @@ fn asked_of_files<'a>(
     if name == "check" {
         let certificate = certificate?;
         return Some(Asked::Check { job, certificate });
+    }
+    if name == "replay" {
+        let timeline = timeline?;
+        return Some(Asked::Replay { job, timeline });
     }
     None
 }

@@ -1,0 +1,71 @@
+-- What `replay` writes.
+use Rattle.std.specs.Prelude.{◌≡◌, ℕ, ◌⊎◌, List, ◌++◌, Option, codes, length}
+use Rattle.std.specs.Fmt.{decimal}
+use Rattle.hq_text.specs.Lines.{lines_of}
+use Rattle.hq_job.specs.JobText.{JobText}
+use Rattle.hq_job.specs.Plan.{plan}
+use Rattle.hq_job.specs.Value.{JobValue}
+use Rattle.hq_machine.specs.declared.event.Event.{Event}
+use Rattle.hq_timeline.specs.Grammar.{TimeText}
+use Rattle.hq_timeline.specs.TextFaults.{FirstFault}
+use Rattle.hq_timeline.specs.Replays.{Replayed, StopsAt}
+use Rattle.hq_timeline.specs.declared.fault.TimeFault.{TimeFault}
+use Rattle.hq_timeline.specs.declared.fault.TimeReason.{TimeReason}
+use Rattle.hq_timeline.specs.declared.fault.TimeReason.TheVariants as reason
+use Rattle.hq_timeline.specs.declared.fault.ReplayFault.{ReplayFault}
+use Rattle.hq_timeline.specs.declared.fault.ReplayFault.TheVariants as fault
+use Rattle.hq_engines.specs.Buffers.{buffers_text}
+use Rattle.hq_engines.specs.Reports.{NoJob, Said, with_feed}
+use Rattle.hq_engines.specs.declared.status.Status.{Status}
+use Rattle.hq_engines.specs.declared.status.Status.TheVariants.{Done, RunRefused, Memory, File}
+
+-- ---- the lines
+
+abbrev pub time_code : TimeReason → List ℕ
+time_code reason.Word = codes "E1"
+time_code reason.Number = codes "E2"
+time_code reason.NoEnd = codes "E3"
+time_code reason.Memory = codes "E4"
+
+abbrev pub time_refusal : TimeFault → List ℕ
+time_refusal fault = codes "refused line " ++ decimal fault.line ++ codes " " ++ time_code fault.reason
+
+abbrev pub event_refusal : ℕ → List ℕ
+event_refusal place = codes "refused event " ++ decimal place
+
+-- ---- the reports
+
+-- Why there is no journal, of what was read: the text has a first fault; memory ran out; or the reader failed.
+pub data NoTimeline (text : List ℕ) : List ℕ → Status → Type 0 where
+  refused : (fault : TimeFault) → FirstFault (lines_of text) fault → NoTimeline text (with_feed (time_refusal fault)) RunRefused
+  no_memory : NoTimeline text (with_feed (codes "out of memory")) Memory
+  no_text : NoTimeline text (with_feed (codes "file fault")) File
+
+-- What is written of a job and the events of a journal: the buffers as these leave them; or the first event that isn't enabled.
+pub data RunReport (job : JobValue) (events : List Event) : List ℕ → Status → Type 0 where
+  replayed : (bytes : List ℕ) → Replayed (plan job) events bytes → RunReport job events (buffers_text job.buffers bytes) Done
+  stopped : (place : ℕ) → StopsAt (plan job) events place → RunReport job events (with_feed (event_refusal place)) RunRefused
+  no_memory : RunReport job events (with_feed (codes "out of memory")) Memory
+
+-- What is written of a job and a timeline's text.
+pub data TimelineReport (job : JobValue) (timeline : List ℕ) : List ℕ → Status → Type 0 where
+  read : {out : List ℕ} {status : Status} (events : List Event) → TimeText (lines_of timeline) events → RunReport job events out status → TimelineReport job timeline out status
+  no_timeline : {out : List ℕ} {status : Status} → NoTimeline timeline out status → TimelineReport job timeline out status
+
+-- What `replay` writes of a job's text and a timeline's.
+pub data ReplayReport (text timeline : List ℕ) : List ℕ → Status → Type 0 where
+  of_job : {out : List ℕ} {status : Status} (job : JobValue) → JobText (lines_of text) job → TimelineReport job timeline out status → ReplayReport text timeline out status
+  no_job : {out : List ℕ} {status : Status} → NoJob text out status → ReplayReport text timeline out status
+
+-- ---- what the parts write
+
+-- why there is no journal is written, by the parser's fault
+abbrev pub SaysNoTimeline : TimeFault → Option (List ℕ) → Option (List ℕ) → Status → Type 0
+SaysNoTimeline fault old new answered =
+    ((fault.reason ≡ reason.Memory) × Said old new (with_feed (codes "out of memory")) Memory answered)
+    ⊎ ((¬ (fault.reason ≡ reason.Memory)) × Said old new (with_feed (time_refusal fault)) RunRefused answered)
+
+-- why the events don't all happen is written
+abbrev pub StopSaid : ReplayFault → Option (List ℕ) → Option (List ℕ) → Status → Type 0
+StopSaid (fault.NotEnabled place) old new answered = Said old new (with_feed (event_refusal place)) RunRefused answered
+StopSaid fault.Memory old new answered = Said old new (with_feed (codes "out of memory")) Memory answered

@@ -1,0 +1,138 @@
+//! `hsaq replay`: a job's buffers after the events of a timeline.
+
+ghost use Rattle.std.specs.Prelude.{◌≡◌, Some, IfSome, IfOk, IfErr, OnOk};
+ghost use Rattle.hq_text.specs.Lines.{lines_of};
+ghost use Rattle.hq_timeline.specs.Grammar.{TimeText};
+ghost use Rattle.hq_engines.specs.Replay.{NoTimeline, SaysNoTimeline, StopSaid, RunReport, TimelineReport, ReplayReport, time_refusal, event_refusal};
+ghost use Rattle.hq_engines.specs.Reports.{Reported};
+
+use crate::buffers::say_buffers;
+use crate::saying::{say, say_file, say_memory};
+use crate::status::Status;
+use crate::taking::take_job;
+use hq_job::{Job, TextFault, take_text};
+use hq_machine::Journal;
+use hq_timeline::{ReplayFault, TimeFault, TimeReason, parse, replay};
+use std::alloc::Global;
+use std::fmt;
+use std::io::{Read, Write};
+
+/// A timeline's refusal: `refused line`, the line, and E1 to E4.
+#[derive(Clone, Copy, Debug)]
+struct TimeRefusal(TimeFault);
+
+impl fmt::Display for TimeRefusal {
+    ghost output = { λ r. Some (time_refusal r.0) };
+
+    fn fmt<W: fmt::Write>(&self, f: &mut fmt::Formatter<W>) -> fmt::Result {
+        let line = self.0.line;
+        match self.0.reason {
+            TimeReason::Word => write!(f, "refused line {line} E1"),
+            TimeReason::Number => write!(f, "refused line {line} E2"),
+            TimeReason::NoEnd => write!(f, "refused line {line} E3"),
+            TimeReason::Memory => write!(f, "refused line {line} E4"),
+        }
+    }
+}
+
+/// That an event isn't enabled.
+#[derive(Clone, Copy, Debug)]
+struct EventRefusal(usize);
+
+impl fmt::Display for EventRefusal {
+    ghost output = { λ r. Some (event_refusal r.0) };
+
+    fn fmt<W: fmt::Write>(&self, f: &mut fmt::Formatter<W>) -> fmt::Result {
+        write!(f, "refused event {}", self.0)
+    }
+}
+
+/// Writes why a text is no timeline.
+fn say_no_timeline<W: Write>(writer: &mut W, fault: TimeFault) -> Status
+    ensures { SaysNoTimeline fault (W.contents writer.old) (W.contents writer.new) result }
+{
+    match fault.reason {
+        TimeReason::Memory => say_memory(writer),
+        _ => say(writer, TimeRefusal(fault), Status::RunRefused),
+    }
+}
+
+/// The journal that a text is; or, where it is none, the status of the refusal, which is written.
+fn journal_of<W: Write>(alloc: Global, text: &[u8], writer: &mut W) -> Result<Journal, Status>
+    ensures found { IfOk result (λ journal. TimeText (lines_of text.now) journal) }
+    ensures unwritten { OnOk result (writer.new ≡ writer.old) }
+    ensures refused { IfErr result (Reported (NoTimeline text.now) (W.contents writer.old) (W.contents writer.new)) }
+{
+    match parse(alloc, text) {
+        Ok(journal) => Ok(journal),
+        Err(fault) => Err(say_no_timeline(writer, fault)),
+    }
+}
+
+/// The journal of a reader's text; or, where there is none, the status of the refusal, which is written.
+fn take_journal<R: Read, W: Write>(
+    alloc: Global,
+    reader: &mut R,
+    writer: &mut W,
+) -> Result<Journal, Status>
+    ensures found { IfSome (R.remaining reader.old) (λ text. IfOk result (λ journal. TimeText (lines_of text) journal)) }
+    ensures unwritten { OnOk result (writer.new ≡ writer.old) }
+    ensures refused { IfSome (R.remaining reader.old) (λ text. IfErr result (Reported (NoTimeline text) (W.contents writer.old) (W.contents writer.new))) }
+{
+    match take_text(alloc, reader) {
+        Ok(text) => journal_of(alloc, &text, writer),
+        Err(TextFault::Read) => Err(say_file(writer)),
+        Err(TextFault::Memory) => Err(say_memory(writer)),
+    }
+}
+
+/// Writes why the events of a journal don't all happen.
+fn say_stopped<W: Write>(writer: &mut W, fault: ReplayFault) -> Status
+    ensures { StopSaid fault (W.contents writer.old) (W.contents writer.new) result }
+{
+    match fault {
+        ReplayFault::NotEnabled(place) => say(writer, EventRefusal(place), Status::RunRefused),
+        ReplayFault::Memory => say_memory(writer),
+    }
+}
+
+/// Replays a journal on a job, and writes the answer.
+fn replay_found<W: Write>(alloc: Global, writer: &mut W, job: &Job, journal: &Journal) -> Status
+    ensures { Reported (RunReport job.now journal.now) (W.contents writer.old) (W.contents writer.new) result }
+{
+    match replay(alloc, job, journal) {
+        Ok(memory) => say_buffers(alloc, writer, job, &memory),
+        Err(fault) => say_stopped(writer, fault),
+    }
+}
+
+/// Reads a timeline, and writes the buffers of a job as it leaves them.
+fn replay_read<S: Read, W: Write>(
+    alloc: Global,
+    timeline: &mut S,
+    writer: &mut W,
+    job: &Job,
+) -> Status
+    ensures { IfSome (S.remaining timeline.old) (λ text. Reported (TimelineReport job.now text) (W.contents writer.old) (W.contents writer.new) result) }
+{
+    match take_journal(alloc, timeline, writer) {
+        Ok(journal) => replay_found(alloc, writer, job, &journal),
+        Err(status) => status,
+    }
+}
+
+/// Reads a job and then a timeline, and writes the job's buffers as the timeline's events leave them, one line each, or the first
+/// event that isn't enabled. A fault of the job is written first. Nothing is written before the last growth of memory.
+pub fn replay_engine<R: Read, S: Read, W: Write>(
+    alloc: Global,
+    reader: &mut R,
+    timeline: &mut S,
+    writer: &mut W,
+) -> Status
+    ensures { IfSome (R.remaining reader.old) (λ text. IfSome (S.remaining timeline.old) (λ line. Reported (ReplayReport text line) (W.contents writer.old) (W.contents writer.new) result)) }
+{
+    match take_job(alloc, reader, writer) {
+        Ok(job) => replay_read(alloc, timeline, writer, &job),
+        Err(status) => status,
+    }
+}

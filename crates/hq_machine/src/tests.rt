@@ -1,0 +1,64 @@
+ghost use Rattle.hq_job.specs.Plan.{plan};
+ghost use Rattle.hq_machine.specs.View.{IsStateOf};
+
+use super::*;
+use hq_job::{Job, read_text};
+use std::alloc::{AllocError, Global};
+use std::test::*;
+
+/// A fill of four bytes and a copy of them, in one queue, with the barrier bit and system fences.
+const JOB: &[u8] =
+    b"hsaq 1\nagent a\nbuffer b 4096 8\nargs k0 256 00100000000000000700000000000000\nargs k1 512 00100000000000000410000000000000\nkernel f 1 fill\nkernel c 2 copy\nqueue q a 4\npacket 02150100010001000100000004000000010000000100000000000000000000000100000000000000000100000000000000000000000000000000000000000000\npacket 02150100010001000100000004000000010000000100000000000000000000000200000000000000000200000000000000000000000000000000000000000000\nend\n";
+
+/// Adds a packet's single steps, one by one; it writes four bytes, from this one on.
+fn add_steps(journal: &mut Journal, packet: u32, first: u32, reads: u32) -> Result<(), AllocError> {
+    journal.push(Event::Launch { queue: 0 })?;
+    journal.push(Event::Enter { packet })?;
+    for entry in 0..reads {
+        journal.push(Event::Read { packet, entry })?;
+    }
+    for entry in 0..4 {
+        journal.push(Event::Store { packet, entry })?;
+    }
+    for byte in 0..4 {
+        let byte = first.saturating_add(byte);
+        journal.push(Event::PushLane { packet, byte })?;
+    }
+    for byte in 0..4 {
+        let byte = first.saturating_add(byte);
+        journal.push(Event::PushAgent { agent: 0, byte })?;
+    }
+    journal.push(Event::Finish { packet })
+}
+
+/// Makes the events happen, each where work is left.
+fn walk(state: &mut State, job: &Job, events: &[Event]) -> bool
+    requires { IsStateOf (plan job.now) state.old }
+    ensures { IsStateOf (plan job.now) state.new }
+{
+    for event in events {
+        if state.work_left(job).is_none() || state.apply(job, *event).is_err() {
+            return false;
+        }
+    }
+    true
+}
+
+/// Walks through a run of a job.
+fn ends(alloc: Global, job: &Job, journal: &Journal) -> Result<bool, StepFault> {
+    let mut state = State::start(alloc, job)?;
+    let whole = walk(&mut state, job, journal.events());
+    let rested = state.work_left(job).is_none();
+    Ok(whole && rested && state.memory() == b"\x07\x07\x07\x07\x07\x07\x07\x07".as_slice())
+}
+
+#[test]
+fn work_is_left_until_the_end(rt: HostRuntime) -> Result<(), Fail> {
+    let job = read_text(rt.alloc(), JOB)?;
+    let mut journal = Journal::new(rt.alloc());
+    add_steps(&mut journal, 0, 0, 0)?;
+    add_steps(&mut journal, 1, 4, 4)?;
+    assert_eq!(rt; journal.events().len(), 34);
+    assert!(rt; ends(rt.alloc(), &job, &journal)?);
+    Ok(())
+}
