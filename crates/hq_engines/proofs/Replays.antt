@@ -1,5 +1,5 @@
 -- What `replay` writes.
-use Rattle.std.proofs.Common.{◌≡◌, ◌⊎◌, ℕ, zero, suc, inl, inr, List, [], ◌∷◌, ◌++◌, Option, Some, None, IfSome, IfOk, IfErr, Result, Ok, Err, length, codes, sym, ap, ◌∙◌, subst, refl, arith, length-append}
+use Rattle.std.proofs.Common.{◌≡◌, ◌⊎◌, ℕ, zero, suc, inl, inr, List, [], ◌∷◌, Option, Some, None, IfSome, length, codes, ap, ◌∙◌, subst, refl, arith, length-append}
 use Rattle.hq_model.specs.Job.{Job}
 use Rattle.hq_model.specs.Machine.{listed}
 use Rattle.hq_text.specs.Lines.{lines_of}

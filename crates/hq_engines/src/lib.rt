@@ -3,6 +3,7 @@
 //! An engine reads its input, writes the report of it, and answers the status that the program ends with.
 #![tactic(auto)]
 
+mod accepting;
 mod audit;
 mod buffers;
 mod check;
@@ -15,6 +16,7 @@ mod status;
 mod stuck;
 mod taking;
 
+pub use accepting::accept;
 pub use audit::audit_engine;
 pub use check::check_engine;
 pub use pack::pack_engine;

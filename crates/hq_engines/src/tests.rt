@@ -123,6 +123,17 @@ fn a_writer_that_fails_at_each_write(rt: HostRuntime) {
 }
 
 #[test]
+fn accepts_what_it_audits(rt: HostRuntime) -> Result<(), Fail> {
+    let job = hq_job::read_text(rt.alloc(), EMPTY)?;
+    let Ok(accepted) = accept(rt.alloc(), job) else {
+        return Err("a job without packets is ordered".into());
+    };
+    assert_eq!(rt; accepted.order().len(), 0);
+    assert_eq!(rt; accepted.bound(), 0);
+    Ok(())
+}
+
+#[test]
 fn replays_a_timeline(rt: HostRuntime) {
     let mut out = Vec::new(rt.alloc());
     let mut timeline = b"hsat 1\nrest\nend\n".as_slice();
