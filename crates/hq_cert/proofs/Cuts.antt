@@ -16,19 +16,19 @@ all_of (x ∷ xs) zero le = absurd (omega arith)
 all_of (x ∷ xs) (suc n) le = ap (λ ys. x ∷ ys) (all_of xs n (omega arith))
 
 -- there is a last part
-record Parts (parts : List (List ℕ)) : Type 0 where
+pub record Parts (parts : List (List ℕ)) : Type 0 where
   first : List ℕ
   others : List (List ℕ)
   is : parts ≡ first ∷ others
 
-parts_of : (p : ℕ → Bool) (xs : List ℕ) → Parts (slice_split p xs)
+pub parts_of : (p : ℕ → Bool) (xs : List ℕ) → Parts (slice_split p xs)
 parts_of p [] = record { first = []; others = []; is = refl }
 parts_of p (x ∷ xs) = by (p x) (parts_of p xs) where
   by : (b : Bool) → Parts (slice_split p xs) → Parts (cond b ([] ∷ slice_split p xs) (Rattle.std.specs.List.onto_first x (slice_split p xs)))
   by true r = record { first = []; others = slice_split p xs; is = refl }
   by false r = record { first = x ∷ r.first; others = r.others; is = ap (Rattle.std.specs.List.onto_first x) r.is }
 
-without : (x : List ℕ) (parts : List (List ℕ)) → Parts parts → without_empty_last (x ∷ parts) ≡ x ∷ without_empty_last parts
+pub without : (x : List ℕ) (parts : List (List ℕ)) → Parts parts → without_empty_last (x ∷ parts) ≡ x ∷ without_empty_last parts
 without [] parts r = rw r.is refl
 without (b ∷ x) parts r = rw r.is refl
 

@@ -8,7 +8,10 @@ pub mod States
 pub mod Wholes
 pub mod Puts
 pub mod Split
+pub mod Holds
 pub mod Reasons
 pub mod Late
 pub mod Nine
+pub mod Placed
 pub mod OnePass
+pub mod Taking

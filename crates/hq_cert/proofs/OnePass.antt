@@ -1,208 +1,163 @@
--- What one pass over a line finds is what its words say.
-use Rattle.std.proofs.Common.{◌≡◌, ◌≢◌, ℕ, ◌+◌, ◌-◌, ◌*◌, ◌^◌, ◌<◌, ◌≤◌, ◌&&◌, Bool, true, false, cond, List, [], ◌∷◌, Option, Some, None, Ok, Err, Result, refl, sym, ap, subst, ◌∙◌, arith, eqb, leb, ltb, codes, length, ◌++◌, inl, inr}
-use Rattle.std.specs.List.{slice_split, onto_first}
+-- What one pass over a text finds, and that it is taken in.
+use Rattle.std.proofs.Common.{◌≡◌, ◌≢◌, ℕ, ◌+◌, ◌-◌, ◌*◌, ◌^◌, ◌<◌, ◌≤◌, ◌&&◌, Bool, true, false, cond, List, [], ◌∷◌, ◌++◌, length, get_or, take, Option, Some, None, refl, sym, ap, subst, ◌∙◌, arith, ltb, append_assoc, zero, suc, add-one}
+use Rattle.std.proofs.Math.Nat.{pow-suc, pow-le-pow_right}
+use Rattle.std.specs.Prelude.{MatchOption, IfSome, codes, map}
+use Rattle.std.specs.Fmt.{decimal}
 use Rattle.std.specs.Bool.{Decides}
-use Rattle.std.specs.Prelude.{MatchOption, IfSome}
-use Rattle.std.specs.Str.{bytes_eq}
-use Rattle.std.proofs.lemmas.Slice.Eq.{bytes_eq-Decides}
-use Rattle.std.proofs.lemmas.Bool.{leb-true, lt-ltb, eqb-true, ne_eqb, eq-eqb, cond-true, cond-false}
-use Rattle.hq_text.specs.Lines.{words_of, is_space}
-use Rattle.hq_text.specs.Numbers.{is_digit, read_on, number_of}
-use Rattle.hq_cert.specs.declared.fault.CertReason.{CertReason}
-use Rattle.hq_cert.specs.LineTests.{number_said, citation_said, small, ◌>>=◌, bit_said, and_said, below, through_said, through_of, rule_said, rule_kind, next_said, line_said, line_of, cited_below, read_write_said, write_write_said, write_write_of, write_read_said, write_read_of, fences_kind, fences_said, pair_said, pair_of}
+use Rattle.std.proofs.lemmas.Bool.{lt-ltb, le-leb, eqb-true, ne_eqb, eq-eqb, cond-true, cond-false}
+use Rattle.std.proofs.lemmas.Fmt.{decimal_digit}
+use Rattle.std.proofs.lemmas.List.{take_more}
+use Rattle.std.proofs.Common.{eqb}
+use Rattle.hq_text.specs.Numbers.{is_digit, read_on, number_of, IsNumber}
+use Rattle.hq_text.proofs.NumberLaws.{number_tells}
 use Rattle.hq_model.specs.Certificate as model
-use Rattle.hq_cert.specs.declared.forms.RuleKind.TheVariants as kinds
-use Rattle.hq_cert.specs.declared.forms.FencesKind.TheVariants as fence
-use Rattle.hq_cert.specs.declared.draft.Stage.TheVariants as stage
-use Rattle.hq_cert.specs.TextFaults.{State, with_line, with_pair, added, add_content, add_line, add_behind, add_pair}
-use Rattle.hq_model.specs.Certificate.Rule.{Bit, Queue, And, Through}
-use Rattle.hq_model.specs.Certificate.Fences.{ForReadWrite, ForWriteWrite, ForWriteRead}
-use Rattle.hq_cert.specs.OnePass.{words_behind, digits_on, EndsWord, NumberAhead, CitationAhead, TwoNumbers, CitedBelow, TakenLine, TakenPair, TakenOrLeft, RuleAhead, FencesAhead}
+use Rattle.hq_model.specs.Certificate.Rule.{Bit, Queue, And, Or, Through}
+use Rattle.hq_model.specs.Certificate.Fences.{ForReadWrite, ForWriteWrite, ForWriteRead, ForWriteWriteChained, ForWriteReadChained}
+use Rattle.hq_cert.specs.Grammar.{IsSmall, citation_word, rule_words, fences_words}
+use Rattle.hq_cert.specs.Printed.{spaced, line_text}
+use Rattle.hq_cert.specs.OnePass.{DigitsAhead, NumberAhead, BelowAhead, CitationAhead, RuleAhead, LineAhead, FencesAhead, PairAhead}
 
--- the word that digits are
-record Found (n : ℕ) (ds : List ℕ) (m : ℕ) (behind : Option (List ℕ)) : Type 0 where
-  word : List ℕ
-  cut : words_of ds ≡ word ∷ words_behind behind
-  reads : read_on n word ≡ Some m
-  fits : m < 4294967296
+-- ---- digits
 
-number_in : Option (ℕ × Option (List ℕ)) → ℕ
-number_in None = 0
-number_in (Some t) = t.0
+-- one digit more
+read_more : (n m d : ℕ) (ds : List ℕ) → read_on n ds ≡ Some m → is_digit d ≡ true → m * 10 + (d - 48) < 18446744073709551616 → read_on n (ds ++ d ∷ []) ≡ Some (m * 10 + (d - 48))
+read_more n m d [] e digit l =
+    let same : n ≡ m = cc in
+    let test : (is_digit d && ltb (n * 10 + (d - 48)) 18446744073709551616) ≡ true = ap (λ b. b && ltb (n * 10 + (d - 48)) 18446744073709551616) digit ∙ lt-ltb (n * 10 + (d - 48)) 18446744073709551616 (subst (λ (k : ℕ). k * 10 + (d - 48) < 18446744073709551616) (sym same) l) in
+    cond-true _ (Some (n * 10 + (d - 48))) None test ∙ ap (λ k. Some (k * 10 + (d - 48))) same
+read_more n m d (x ∷ ds) e digit l = by (is_digit x && ltb (n * 10 + (x - 48)) 18446744073709551616) (λ h. read_more (n * 10 + (x - 48)) m d ds h digit l) e where
+  by : (b : Bool) → (read_on (n * 10 + (x - 48)) ds ≡ Some m → read_on (n * 10 + (x - 48)) (ds ++ d ∷ []) ≡ Some (m * 10 + (d - 48))) → cond b (read_on (n * 10 + (x - 48)) ds) None ≡ Some m
+      → cond b (read_on (n * 10 + (x - 48)) (ds ++ d ∷ [])) None ≡ Some (m * 10 + (d - 48))
+  by true more e = more e
+  by false more e = absurd cc
 
-behind_in : Option (ℕ × Option (List ℕ)) → Option (List ℕ)
-behind_in None = None
-behind_in (Some t) = t.1
+-- a digit, by its distance from `0`
+is_digit_at : (d : ℕ) → 48 ≤ d → d ≤ 57 → is_digit d ≡ true
+is_digit_at d lo hi = rw (le-leb 48 d lo, le-leb d 57 hi) refl
 
-same_pair : (a b : ℕ) (x y : Option (List ℕ)) → ◌≡◌ {A = Option (ℕ × Option (List ℕ))} (Some (a, x)) (Some (b, y)) → (a ≡ b) × (x ≡ y)
-unfolding number_in behind_in
-same_pair a b x y e = (ap number_in e, ap behind_in e)
+-- the digits up to i are the number so far
+pub record ReadSoFar (text : List ℕ) (i number : ℕ) : Type 0 where
+  pub reads : read_on 0 (take i text) ≡ Some number
+  pub bound : number < 10 ^ i
 
-both_true : (a b : Bool) → (a && b) ≡ true → (a ≡ true) × (b ≡ true)
-both_true true b e = (refl, e)
-both_true false b e = absurd cc
-
-small_digit : (d : ℕ) → is_digit d ≡ true → d ≤ 57
-small_digit d e = leb-true d 57 (both_true (leb 48 d) (leb d 57) e).1
-
-cut_at : (d : ℕ) (ds : List ℕ) (b : Bool) → eqb d 32 ≡ b → words_of (d ∷ ds) ≡ cond b ([] ∷ words_of ds) (onto_first d (words_of ds))
-cut_at d ds b e = ap (λ t. cond t ([] ∷ words_of ds) (onto_first d (words_of ds))) e
-
-reads_digit : (n d : ℕ) (ds : List ℕ) (m : Option ℕ) → is_digit d ≡ true → n * 10 + (d - 48) < 18446744073709551616 → read_on (n * 10 + (d - 48)) ds ≡ m → read_on n (d ∷ ds) ≡ m
-reads_digit n d ds m e l r = cond-true _ (read_on (n * 10 + (d - 48)) ds) None (ap (λ b. b && ltb (n * 10 + (d - 48)) 18446744073709551616) e ∙ lt-ltb (n * 10 + (d - 48)) 18446744073709551616 l) ∙ r
-
-found : (n : ℕ) (ds : List ℕ) (m : ℕ) (behind : Option (List ℕ)) → n < 4294967296 → digits_on n ds ≡ Some (m, behind) → Found n ds m behind
-found n [] m behind l e =
-    let same = same_pair n m None behind e in
-    record { word = []; cut = ap (λ b. [] ∷ words_behind b) same.1; reads = ap (λ k. Some k) same.0; fits = subst (λ k. k < 4294967296) same.0 l }
-found n (d ∷ ds) m behind l e =
-    at (eqb d 32) (is_digit d && leb n 400000000) refl refl e (λ le. found (n * 10 + (d - 48)) ds m behind le)
-  where
-    at : (b t : Bool) → eqb d 32 ≡ b → (is_digit d && leb n 400000000) ≡ t
-        → cond b (Some (n, Some ds)) (cond t (digits_on (n * 10 + (d - 48)) ds) None) ≡ Some (m, behind)
-        → (n * 10 + (d - 48) < 4294967296 → digits_on (n * 10 + (d - 48)) ds ≡ Some (m, behind) → Found (n * 10 + (d - 48)) ds m behind)
-        → Found n (d ∷ ds) m behind
-    at true t is test h more =
-        let same = same_pair n m (Some ds) behind h in
-        record { word = []; cut = cut_at d ds true is ∙ ap (λ b. [] ∷ words_behind b) same.1; reads = ap (λ k. Some k) same.0; fits = subst (λ k. k < 4294967296) same.0 l }
-    at false true is test h more =
-        let both = both_true (is_digit d) (leb n 400000000) test in
-        let digit = small_digit d both.0 in
-        let low = leb-true n 400000000 both.1 in
-        let f = more (omega (arith, digit, low)) h in
-        record { word = d ∷ f.word; cut = cut_at d ds false is ∙ ap (onto_first d) f.cut; reads = reads_digit n d f.word (Some m) both.0 (omega (arith, digit, low)) f.reads; fits = f.fits }
-    at false false is test h more = absurd cc
-
-number_reads : (d : ℕ) (ds : List ℕ) (m : ℕ) → d ≢ 48 → read_on 0 (d ∷ ds) ≡ Some m → m < 4294967296 → number_said (d ∷ ds) ≡ Ok m
-unfolding number_said number_of
-number_reads d ds m other r l =
-    let test : number_of (d ∷ ds) ≡ Some m = cond-false (eqb d 48) _ (read_on 0 (d ∷ ds)) (ne_eqb d 48 other) ∙ r in
-    ap small test ∙ cond-true (ltb m 4294967296) (Ok m) _ (lt-ltb m 4294967296 l)
-
--- A word of one character, at which no digit stands.
-one_word : (d : ℕ) (rest : List ℕ) (behind : Option (List ℕ)) → d ≢ 32 → EndsWord rest behind → words_of (d ∷ rest) ≡ (d ∷ []) ∷ words_behind behind
-one_word d rest behind other ends = cut_at d rest false (ne_eqb d 32 other) ∙ ap (onto_first d) ends
-
-zero_said : number_said (48 ∷ []) ≡ Ok 0
-unfolding number_said number_of
-zero_said = refl
-
-pub zero_ahead : (text rest : List ℕ) (d : ℕ) (behind : Option (List ℕ)) → text ≡ d ∷ rest → d ≡ 48 → EndsWord rest behind → NumberAhead text 0 behind
-zero_ahead text rest d behind is zero ends =
+pub one_read : (text : List ℕ) (i number digit b : ℕ) → ReadSoFar text i number → i < length text → b ≡ get_or text i 0 → 48 + digit ≡ b → digit ≤ 9 → number * 10 + digit < 4294967296 → ReadSoFar text (i + 1) (number * 10 + digit)
+one_read text i number digit b so lt is at le small =
+    let found : b - 48 ≡ digit = omega arith in
+    let more : read_on 0 (take i text ++ b ∷ []) ≡ Some (number * 10 + (b - 48)) = read_more 0 number b (take i text) so.reads (is_digit_at b (omega arith) (omega arith)) (omega arith) in
     record {
-      word = 48 ∷ [];
-      cut = ap words_of (is ∙ ap (λ c. c ∷ rest) zero) ∙ one_word 48 rest behind (λ e. absurd (omega (arith, e))) ends;
-      said = zero_said;
+      reads = ap (read_on 0) (take_more text i 0 lt ∙ ap (λ c. take i text ++ c ∷ []) (sym is)) ∙ more ∙ ap (λ k. Some (number * 10 + k)) found;
+      bound = let p : 10 ^ (i + 1) ≡ 10 ^ i * 10 = rw add-one (pow-suc 10 i) in let low = so.bound in omega arith;
     }
 
--- one digit is read
-digit_first : (n d m : ℕ) (ds : List ℕ) (behind : Option (List ℕ)) → d ≢ 32 → digits_on n (d ∷ ds) ≡ Some (m, behind)
-    → (is_digit d ≡ true) × (n ≤ 400000000) × (digits_on (n * 10 + (d - 48)) ds ≡ Some (m, behind))
-digit_first n d m ds behind other e = by (is_digit d && leb n 400000000) refl (sym (cond-false (eqb d 32) (Some (n, Some ds)) _ (ne_eqb d 32 other)) ∙ e)
-  where
-    by : (t : Bool) → (is_digit d && leb n 400000000) ≡ t → cond t (digits_on (n * 10 + (d - 48)) ds) None ≡ Some (m, behind)
-        → (is_digit d ≡ true) × (n ≤ 400000000) × (digits_on (n * 10 + (d - 48)) ds ≡ Some (m, behind))
-    by true test h = let both = both_true (is_digit d) (leb n 400000000) test in (both.0, leb-true n 400000000 both.1, h)
-    by false test h = absurd cc
+-- eight digits have 32 bits
+eight : (i number : ℕ) → i ≤ 8 → number < 10 ^ i → number < 100000000
+eight i number le l = let p : 10 ^ i ≤ 100000000 = pow-le-pow_right {n = 10} (omega arith) le in omega arith
 
-pub digits_ahead : (text rest : List ℕ) (d m : ℕ) (behind : Option (List ℕ)) → text ≡ d ∷ rest → d ≢ 48 → d ≢ 32 → digits_on 0 text ≡ Some (m, behind) → NumberAhead text m behind
-digits_ahead text rest d m behind is no_zero no_space e =
-    let one = digit_first 0 d m rest behind no_space (ap (digits_on 0) (sym is) ∙ e) in
-    let digit = small_digit d one.0 in
-    let f = found (0 * 10 + (d - 48)) rest m behind (omega (arith, digit)) one.2 in
+pub room_left : (text : List ℕ) (i number digit : ℕ) → ReadSoFar text i number → i < 9 → digit ≤ 9 → number * 10 + digit < 4294967296
+room_left text i number digit so lt le = let low = eight i number (omega arith) so.bound in omega arith
+
+-- digits of which the first isn't `0`
+word_reads : (d : ℕ) (ds : List ℕ) (n : ℕ) → d ≢ 48 → read_on 0 (d ∷ ds) ≡ Some n → d ∷ ds ≡ decimal n
+unfolding number_of
+word_reads d ds n other e =
+    let found : IsNumber (d ∷ ds) n = number_tells (d ∷ ds) (Some n) (sym (cond-false (eqb d 48) _ (read_on 0 (d ∷ ds)) (ne_eqb d 48 other) ∙ e)) in found.0
+
+pub digits_end : (text : List ℕ) (i number : ℕ) → 10 ≤ length text → i < 9 → 0 < i → get_or text 0 0 ≢ 48 → ReadSoFar text i number → DigitsAhead text number i
+digits_end [] i number long lt some other so = absurd (omega arith)
+digits_end (d ∷ more) zero number long lt some other so = absurd (omega arith)
+digits_end (d ∷ more) (suc i) number long lt some other so =
+    let low = eight (suc i) number (omega arith) so.bound in record { goes_on = omega arith; are = word_reads d (take i more) number other so.reads; small = omega arith }
+
+pub zero_digit : (text : List ℕ) → 10 ≤ length text → get_or text 0 0 ≡ 48 → DigitsAhead text 0 1
+zero_digit [] long e = absurd (omega arith)
+zero_digit (d ∷ more) long e = record { goes_on = omega arith; are = ap (λ c. c ∷ []) e ∙ sym (decimal_digit 0 (omega arith)); small = omega arith }
+
+-- ---- words of a line
+
+last_word : (text w rest : List ℕ) → text ≡ w ++ 10 ∷ rest → text ≡ line_text (w ∷ []) ++ rest
+last_word text w rest e = e ∙ sym (append_assoc w (10 ∷ []) rest)
+
+-- a word and its space in front
+word_more : (text w t rest v : List ℕ) (ws : List (List ℕ)) → text ≡ w ++ 32 ∷ t → t ≡ line_text (v ∷ ws) ++ rest → text ≡ line_text (w ∷ v ∷ ws) ++ rest
+word_more text w t rest v ws e f =
+    e ∙ ap (λ r. w ++ 32 ∷ r) f ∙ ap (λ r. w ++ 32 ∷ (r ++ rest)) (sym (append_assoc v (spaced ws) (10 ∷ []))) ∙ sym (append_assoc w (32 ∷ ((v ++ spaced ws) ++ 10 ∷ [])) rest)
+
+pub bit_ahead : (k : ℕ) (text t rest : List ℕ) (j : ℕ) → text ≡ codes "bit " ++ t → NumberAhead t j 10 rest → RuleAhead k text (Bit j) rest
+bit_ahead k text t rest j e a = record { is = word_more text (codes "bit") t rest (decimal j) [] e (last_word t (decimal j) rest a.is); fits = a.small }
+
+pub and_ahead : (k : ℕ) (text t rest : List ℕ) (j : ℕ) → text ≡ codes "and " ++ t → NumberAhead t j 10 rest → RuleAhead k text (And j) rest
+and_ahead k text t rest j e a = record { is = word_more text (codes "and") t rest (decimal j) [] e (last_word t (decimal j) rest a.is); fits = a.small }
+
+pub queue_ahead : (k : ℕ) (text rest : List ℕ) → text ≡ codes "queue\n" ++ rest → RuleAhead k text Queue rest
+queue_ahead k text rest e = record { is = e; fits = tt }
+
+pub through_ahead : (k : ℕ) (text t u rest : List ℕ) (m n : ℕ) → text ≡ codes "through " ++ t → BelowAhead k t m 32 u → BelowAhead k u n 10 rest → RuleAhead k text (Through m n) rest
+through_ahead k text t u rest m n e a b =
     record {
-      word = d ∷ f.word;
-      cut = ap words_of is ∙ cut_at d rest false (ne_eqb d 32 no_space) ∙ ap (onto_first d) f.cut;
-      said = number_reads d f.word m no_zero (reads_digit 0 d f.word (Some m) one.0 (omega (arith, digit)) f.reads) f.fits;
+      is = word_more text (codes "through") t rest (decimal m) (decimal n ∷ []) e (word_more t (decimal m) u rest (decimal n) [] a.is (last_word u (decimal n) rest b.is));
+      fits = (a.fits, b.fits);
     }
 
-same_said : citation_said (61 ∷ []) ≡ Ok None
-unfolding citation_said
-same_said = refl
+-- the words of a rule, a kind: none is empty
+rule_more : (text w t rest : List ℕ) (rule : model.Rule) → text ≡ w ++ 32 ∷ t → t ≡ line_text (rule_words rule) ++ rest → text ≡ line_text (w ∷ rule_words rule) ++ rest
+rule_more text w t rest (Bit j) e f = word_more text w t rest (codes "bit") (decimal j ∷ []) e f
+rule_more text w t rest Queue e f = word_more text w t rest (codes "queue") [] e f
+rule_more text w t rest (And slot) e f = word_more text w t rest (codes "and") (decimal slot ∷ []) e f
+rule_more text w t rest (Or branches) e f = word_more text w t rest (codes "or") (map citation_word branches) e f
+rule_more text w t rest (Through first second) e f = word_more text w t rest (codes "through") (decimal first ∷ decimal second ∷ []) e f
 
-pub same_ahead : (text rest : List ℕ) (d : ℕ) (behind : Option (List ℕ)) → text ≡ d ∷ rest → d ≡ 61 → EndsWord rest behind → CitationAhead text None behind
-same_ahead text rest d behind is same ends =
+pub line_ahead : (k : ℕ) (text t u v w rest : List ℕ) (own p r : ℕ) (rule : model.Rule) → text ≡ codes "line " ++ t → NumberAhead t own 32 u → own ≡ k → NumberAhead u p 32 v → NumberAhead v r 32 w → RuleAhead k w rule rest
+    → LineAhead k text (record { p = p; r = r; rule = rule }) rest
+line_ahead k text t u v w rest own p r rule e a same b c d =
     record {
-      word = 61 ∷ [];
-      cut = ap words_of (is ∙ ap (λ c. c ∷ rest) same) ∙ one_word 61 rest behind (λ e. absurd (omega (arith, e))) ends;
-      said = same_said;
+      is = word_more text (codes "line") t rest (decimal k) (decimal p ∷ decimal r ∷ rule_words rule) e
+          (word_more t (decimal k) u rest (decimal p) (decimal r ∷ rule_words rule) (a.is ∙ ap (λ n. decimal n ++ 32 ∷ u) same)
+          (word_more u (decimal p) v rest (decimal r) (rule_words rule) b.is (rule_more v (decimal r) w rest rule c.is d.is)));
+      fits = record { number = subst (λ (n : ℕ). IsSmall n) same a.small; p = b.small; r = c.small; rule = d.fits };
     }
 
--- what is a number isn't `=`
-said_cites : (word : List ℕ) (n : ℕ) → number_said word ≡ Ok n → citation_said word ≡ Ok (Some n)
-unfolding citation_said number_said number_of
-said_cites word n e = by (bytes_eq word (codes "=")) refl where
-  by : (b : Bool) → bytes_eq word (codes "=") ≡ b → cond b (Ok None) (number_said word >>= λ m. Ok (Some m)) ≡ Ok (Some n)
-  by true is = let same : number_said (codes "=") ≡ Ok n = subst (λ w. number_said w ≡ Ok n) ((bytes_eq-Decides word (codes "=")).0 is) e in absurd cc
-  by false is = ap (λ r. r >>= λ m. Ok (Some m)) e
+-- ---- pair lines
 
-pub cited_ahead : (text : List ℕ) (n : ℕ) (behind : Option (List ℕ)) → NumberAhead text n behind → CitationAhead text (Some n) behind
-cited_ahead text n behind ahead = record { word = ahead.word; cut = ahead.cut; said = said_cites ahead.word n ahead.said }
+pub read_write_ahead : (count : ℕ) (text t rest : List ℕ) (l : ℕ) → text ≡ codes "rw " ++ t → BelowAhead count t l 10 rest → FencesAhead count text (ForReadWrite l) rest
+read_write_ahead count text t rest l e a = record { is = word_more text (codes "rw") t rest (decimal l) [] e (last_word t (decimal l) rest a.is); fits = λ chained. a.fits }
 
--- ---- rules
+pub write_write_ahead : (count : ℕ) (text t u v rest : List ℕ) (x : ℕ) (from : Option ℕ) (on : ℕ) → text ≡ codes "ww " ++ t → NumberAhead t x 32 u → CitationAhead count u from 32 v → BelowAhead count v on 10 rest
+    → FencesAhead count text (ForWriteWrite x from on) rest
+write_write_ahead count text t u v rest x from on e a b c =
+    record {
+      is = word_more text (codes "ww") t rest (decimal x) (citation_word from ∷ decimal on ∷ []) e
+          (word_more t (decimal x) u rest (citation_word from) (decimal on ∷ []) a.is (word_more u (citation_word from) v rest (decimal on) [] b.is (last_word v (decimal on) rest c.is)));
+      fits = λ chained. (a.small, b.fits, c.fits);
+    }
 
-pub bit_ahead : (text : List ℕ) (n : ℕ) → NumberAhead text n None → bit_said (words_of text) ≡ Ok (Bit n)
-unfolding bit_said
-bit_ahead text n a = rw (a.cut, a.said) refl
+pub write_read_ahead : (count : ℕ) (text s t u v w rest : List ℕ) (x y : ℕ) (from : Option ℕ) (between : ℕ) (to : Option ℕ) → text ≡ codes "wr " ++ s
+    → NumberAhead s x 32 t → NumberAhead t y 32 u → CitationAhead count u from 32 v → BelowAhead count v between 32 w → CitationAhead count w to 10 rest → FencesAhead count text (ForWriteRead x y from between to) rest
+write_read_ahead count text s t u v w rest x y from between to e a b c d f =
+    record {
+      is = word_more text (codes "wr") s rest (decimal x) (decimal y ∷ citation_word from ∷ decimal between ∷ citation_word to ∷ []) e
+          (word_more s (decimal x) t rest (decimal y) (citation_word from ∷ decimal between ∷ citation_word to ∷ []) a.is
+          (word_more t (decimal y) u rest (citation_word from) (decimal between ∷ citation_word to ∷ []) b.is
+          (word_more u (citation_word from) v rest (decimal between) (citation_word to ∷ []) c.is
+          (word_more v (decimal between) w rest (citation_word to) [] d.is (last_word w (citation_word to) rest f.is)))));
+      fits = λ chained. (a.small, b.small, c.fits, d.fits, f.fits);
+    }
 
-pub and_ahead : (text : List ℕ) (n : ℕ) → NumberAhead text n None → and_said (words_of text) ≡ Ok (And n)
-unfolding and_said
-and_ahead text n a = rw (a.cut, a.said) refl
+fences_more : (text w t rest : List ℕ) (f : model.Fences) → text ≡ w ++ 32 ∷ t → t ≡ line_text (fences_words f) ++ rest → text ≡ line_text (w ∷ fences_words f) ++ rest
+fences_more text w t rest (ForReadWrite l) e f = word_more text w t rest (codes "rw") (decimal l ∷ []) e f
+fences_more text w t rest (ForWriteWrite x from on) e f = word_more text w t rest (codes "ww") (decimal x ∷ citation_word from ∷ decimal on ∷ []) e f
+fences_more text w t rest (ForWriteRead x y from between to) e f = word_more text w t rest (codes "wr") (decimal x ∷ decimal y ∷ citation_word from ∷ decimal between ∷ citation_word to ∷ []) e f
+fences_more text w t rest (ForWriteWriteChained x x2 from link on) e f = word_more text w t rest (codes "wwc") (decimal x ∷ decimal x2 ∷ citation_word from ∷ decimal link ∷ decimal on ∷ []) e f
+fences_more text w t rest (ForWriteReadChained x x2 y2 y from link between link2 to) e f =
+    word_more text w t rest (codes "wrc") (decimal x ∷ decimal x2 ∷ decimal y2 ∷ decimal y ∷ citation_word from ∷ citation_word link ∷ decimal between ∷ citation_word link2 ∷ citation_word to ∷ []) e f
 
-below_limit : (k n : ℕ) → n < k → below k n ≡ Ok n
-unfolding below
-below_limit k n l = cond-true (ltb n k) (Ok n) _ (lt-ltb n k l)
-
-pub through_ahead : (k : ℕ) (text : List ℕ) (m n : ℕ) → TwoNumbers text m n → m < k → n < k → through_said k (words_of text) ≡ Ok (Through m n)
-unfolding through_said through_of
-through_ahead k text m n a l o = rw (a.cut, a.first_said, a.second_said, below_limit k m l, below_limit k n o) refl
-
-bit_named : (ws : List (List ℕ)) (rule : model.Rule) → bit_said ws ≡ Ok rule → rule_kind (codes "bit") (length ws) ≡ Some kinds.Bit
-unfolding bit_said rule_kind
-bit_named [] rule e = absurd cc
-bit_named (w ∷ []) rule e = refl
-bit_named (w ∷ v ∷ ws) rule e = absurd cc
-
-and_named : (ws : List (List ℕ)) (rule : model.Rule) → and_said ws ≡ Ok rule → rule_kind (codes "and") (length ws) ≡ Some kinds.And
-unfolding and_said rule_kind
-and_named [] rule e = absurd cc
-and_named (w ∷ []) rule e = refl
-and_named (w ∷ v ∷ ws) rule e = absurd cc
-
-through_named : (k : ℕ) (ws : List (List ℕ)) (rule : model.Rule) → through_said k ws ≡ Ok rule → rule_kind (codes "through") (length ws) ≡ Some kinds.Through
-unfolding through_said rule_kind
-through_named k [] rule e = absurd cc
-through_named k (w ∷ []) rule e = absurd cc
-through_named k (w ∷ v ∷ []) rule e = refl
-through_named k (w ∷ v ∷ u ∷ ws) rule e = absurd cc
-
-pub bit_rule : (k : ℕ) (text rest : List ℕ) (rule : model.Rule) → text ≡ codes "bit " ++ rest → bit_said (words_of rest) ≡ Ok rule → RuleAhead k text rule
-unfolding rule_said
-bit_rule k text rest rule is said = record { name = codes "bit"; operands = words_of rest; kind = kinds.Bit; cut = ap words_of is; named = bit_named (words_of rest) rule said; said = said }
-
-pub and_rule : (k : ℕ) (text rest : List ℕ) (rule : model.Rule) → text ≡ codes "and " ++ rest → and_said (words_of rest) ≡ Ok rule → RuleAhead k text rule
-unfolding rule_said
-and_rule k text rest rule is said = record { name = codes "and"; operands = words_of rest; kind = kinds.And; cut = ap words_of is; named = and_named (words_of rest) rule said; said = said }
-
-pub through_rule : (k : ℕ) (text rest : List ℕ) (rule : model.Rule) → text ≡ codes "through " ++ rest → through_said k (words_of rest) ≡ Ok rule → RuleAhead k text rule
-unfolding rule_said
-through_rule k text rest rule is said = record { name = codes "through"; operands = words_of rest; kind = kinds.Through; cut = ap words_of is; named = through_named k (words_of rest) rule said; said = said }
-
-pub queue_rule : (k : ℕ) (text name : List ℕ) → true ≡ bytes_eq text name → name ≡ codes "queue" → RuleAhead k text Queue
-unfolding rule_said rule_kind
-queue_rule k text name e f =
-    let is = (bytes_eq-Decides text name).0 (sym e) ∙ f in
-    record { name = codes "queue"; operands = []; kind = kinds.Queue; cut = ap words_of is; named = refl; said = refl }
-
--- ---- lines
-
-pub line_ahead : (k : ℕ) (text : List ℕ) (own p r : ℕ) (rule : model.Rule) (first second third : List ℕ) → own ≡ k
-    → NumberAhead text own (Some first) → NumberAhead first p (Some second) → NumberAhead second r (Some third) → RuleAhead k third rule
-    → line_said k (words_of text) ≡ Ok (record { p = p; r = r; rule = rule })
-unfolding line_said line_of next_said
-line_ahead k text own p r rule first second third same a b c d =
-    let test : next_said k a.word ≡ Ok own = rw a.said (cond-true (eqb own k) (Ok own) _ (eq-eqb own k same)) in
-    rw (a.cut, b.cut, c.cut, d.cut, d.named, test, b.said, c.said, d.said) refl
+pub pair_ahead : (count : ℕ) (text t u v rest : List ℕ) (p r : ℕ) (fences : model.Fences) → text ≡ codes "pair " ++ t → NumberAhead t p 32 u → NumberAhead u r 32 v → FencesAhead count v fences rest
+    → PairAhead count text (record { p = p; r = r; fences = fences }) rest
+pair_ahead count text t u v rest p r fences e a b c =
+    record {
+      is = word_more text (codes "pair") t rest (decimal p) (decimal r ∷ fences_words fences) e
+          (word_more t (decimal p) u rest (decimal r) (fences_words fences) a.is (fences_more u (decimal r) v rest fences b.is c.is));
+      fits = λ chained. record { p = a.small; r = b.small; fences = c.fits chained };
+    }
 
 -- ---- prefixes
 
@@ -212,85 +167,3 @@ from_match P N (Some x) m = m
 
 pub nat_tells : (a b : ℕ) → Decides (eqb a b) (a ≡ b)
 nat_tells a b = (eqb-true a b, eq-eqb a b)
-
--- ---- pair lines
-
-pub read_write_ahead : (count : ℕ) (text : List ℕ) (n : ℕ) → NumberAhead text n None → n < count → read_write_said count (words_of text) ≡ Ok (ForReadWrite n)
-unfolding read_write_said
-read_write_ahead count text n a l = rw (a.cut, a.said, below_limit count n l) refl
-
-cited_limit : (count : ℕ) (c : Option ℕ) → CitedBelow count c → cited_below count c ≡ Ok c
-cited_limit count None l = refl
-cited_limit count (Some n) l = rw (below_limit count n l) refl
-
-pub write_write_ahead : (count : ℕ) (text : List ℕ) (x : ℕ) (from : Option ℕ) (on : ℕ) (first second : List ℕ)
-    → NumberAhead text x (Some first) → CitationAhead first from (Some second) → NumberAhead second on None → CitedBelow count from → on < count
-    → write_write_said count (words_of text) ≡ Ok (ForWriteWrite x from on)
-unfolding write_write_said write_write_of
-write_write_ahead count text x from on first second a b c l m =
-    rw (a.cut, b.cut, c.cut, a.said, b.said, c.said, cited_limit count from l, below_limit count on m) refl
-
-pub write_read_ahead : (count : ℕ) (text : List ℕ) (x y : ℕ) (from : Option ℕ) (between : ℕ) (to : Option ℕ) (first second third fourth : List ℕ)
-    → NumberAhead text x (Some first) → NumberAhead first y (Some second) → CitationAhead second from (Some third) → NumberAhead third between (Some fourth)
-    → CitationAhead fourth to None → CitedBelow count from → between < count → CitedBelow count to
-    → write_read_said count (words_of text) ≡ Ok (ForWriteRead x y from between to)
-unfolding write_read_said write_read_of
-write_read_ahead count text x y from between to first second third fourth a b c d e l m n =
-    rw (a.cut, b.cut, c.cut, d.cut, e.cut, a.said, b.said, c.said, d.said, e.said, cited_limit count from l, below_limit count between m, cited_limit count to n) refl
-
-read_write_named : (chained : Bool) (count : ℕ) (ws : List (List ℕ)) (f : model.Fences) → read_write_said count ws ≡ Ok f → fences_kind chained (codes "rw") (length ws) ≡ Some fence.ReadWrite
-unfolding read_write_said fences_kind
-read_write_named chained count [] f e = absurd cc
-read_write_named chained count (w ∷ []) f e = refl
-read_write_named chained count (w ∷ v ∷ ws) f e = absurd cc
-
-write_write_named : (chained : Bool) (count : ℕ) (ws : List (List ℕ)) (f : model.Fences) → write_write_said count ws ≡ Ok f → fences_kind chained (codes "ww") (length ws) ≡ Some fence.WriteWrite
-unfolding write_write_said fences_kind
-write_write_named chained count [] f e = absurd cc
-write_write_named chained count (a ∷ []) f e = absurd cc
-write_write_named chained count (a ∷ b ∷ []) f e = absurd cc
-write_write_named chained count (a ∷ b ∷ c ∷ []) f e = refl
-write_write_named chained count (a ∷ b ∷ c ∷ d ∷ ws) f e = absurd cc
-
-write_read_named : (chained : Bool) (count : ℕ) (ws : List (List ℕ)) (f : model.Fences) → write_read_said count ws ≡ Ok f → fences_kind chained (codes "wr") (length ws) ≡ Some fence.WriteRead
-unfolding write_read_said fences_kind
-write_read_named chained count [] f e = absurd cc
-write_read_named chained count (a ∷ []) f e = absurd cc
-write_read_named chained count (a ∷ b ∷ []) f e = absurd cc
-write_read_named chained count (a ∷ b ∷ c ∷ []) f e = absurd cc
-write_read_named chained count (a ∷ b ∷ c ∷ d ∷ []) f e = absurd cc
-write_read_named chained count (a ∷ b ∷ c ∷ d ∷ x ∷ []) f e = refl
-write_read_named chained count (a ∷ b ∷ c ∷ d ∷ x ∷ y ∷ ws) f e = absurd cc
-
-pub read_write_fences : (count : ℕ) (text rest : List ℕ) (f : model.Fences) → text ≡ codes "rw " ++ rest → read_write_said count (words_of rest) ≡ Ok f → FencesAhead count text f
-unfolding fences_said
-read_write_fences count text rest f is said =
-    record { name = codes "rw"; operands = words_of rest; kind = fence.ReadWrite; cut = ap words_of is; named = λ chained. read_write_named chained count (words_of rest) f said; said = said }
-
-pub write_write_fences : (count : ℕ) (text rest : List ℕ) (f : model.Fences) → text ≡ codes "ww " ++ rest → write_write_said count (words_of rest) ≡ Ok f → FencesAhead count text f
-unfolding fences_said
-write_write_fences count text rest f is said =
-    record { name = codes "ww"; operands = words_of rest; kind = fence.WriteWrite; cut = ap words_of is; named = λ chained. write_write_named chained count (words_of rest) f said; said = said }
-
-pub write_read_fences : (count : ℕ) (text rest : List ℕ) (f : model.Fences) → text ≡ codes "wr " ++ rest → write_read_said count (words_of rest) ≡ Ok f → FencesAhead count text f
-unfolding fences_said
-write_read_fences count text rest f is said =
-    record { name = codes "wr"; operands = words_of rest; kind = fence.WriteRead; cut = ap words_of is; named = λ chained. write_read_named chained count (words_of rest) f said; said = said }
-
-pub pair_ahead : (chained : Bool) (count : ℕ) (text : List ℕ) (p r : ℕ) (f : model.Fences) (first second : List ℕ)
-    → NumberAhead text p (Some first) → NumberAhead first r (Some second) → FencesAhead count second f
-    → pair_said chained count (words_of text) ≡ Ok (record { p = p; r = r; fences = f })
-unfolding pair_said pair_of
-pair_ahead chained count text p r f first second a b d = rw (a.cut, b.cut, d.cut, d.named chained, a.said, b.said, d.said) refl
-
--- ---- whole lines
-
-pub line_taken : (taken : Bool) (s t : State) (text rest : List ℕ) → s.stage ≡ stage.Lines → text ≡ codes "line " ++ rest → TakenLine taken s rest t → TakenOrLeft taken s text t
-unfolding added add_content add_line
-line_taken false s t text rest at is left = left
-line_taken true s t text rest at is (line, said, new) = rw (is, at, said, new) refl
-
-pub pair_taken : (taken : Bool) (s t : State) (text rest : List ℕ) → s.stage ≡ stage.Pairs → text ≡ codes "pair " ++ rest → TakenPair taken s rest t → TakenOrLeft taken s text t
-unfolding added add_content add_behind add_pair
-pair_taken false s t text rest at is left = left
-pair_taken true s t text rest at is (pair, said, new) = rw (is, at, said, new) refl

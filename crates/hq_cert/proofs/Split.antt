@@ -1,5 +1,5 @@
 -- What is printed is cut into the same words again.
-use Rattle.std.proofs.Common.{◌≡◌, ℕ, ◌+◌, ◌%◌, ◌<◌, Bool, true, false, cond, List, [], ◌∷◌, ◌++◌, length, Option, Some, None, refl, sym, ap, ◌∙◌, append_assoc, append-nil, arith, eqb}
+use Rattle.std.proofs.Common.{◌≡◌, ℕ, ◌+◌, ◌%◌, ◌<◌, Bool, true, false, cond, List, [], ◌∷◌, ◌++◌, length, Option, Some, None, refl, sym, ap, ◌∙◌, append_assoc, append-nil, length-append, arith, eqb}
 use Rattle.std.specs.Prelude.{◌&&◌, codes, map}
 use Rattle.std.specs.List.{slice_split, onto_first, list_all, AllByRecursion}
 use Rattle.std.specs.Fmt.{decimal}
@@ -11,8 +11,9 @@ use Rattle.hq_text.proofs.Lines.{drops_last}
 use Rattle.hq_model.specs.Certificate as model
 use Rattle.hq_model.specs.Certificate.Rule.{Bit, Queue, And, Or, Through}
 use Rattle.hq_model.specs.Certificate.Fences.{ForReadWrite, ForWriteWrite, ForWriteRead, ForWriteWriteChained, ForWriteReadChained}
-use Rattle.hq_cert.specs.Grammar.{IsSmall, IsCited, citation_word, rule_words, lines_words, fences_words, pair_words, certificate_words, RuleFits, LinesFit, FencesFit, PairFits, CertificateFits, CertText}
+use Rattle.hq_cert.specs.Grammar.{IsSmall, IsCited, citation_word, rule_words, line_words, lines_words, fences_words, pair_words, certificate_words, RuleFits, LineFits, LinesFit, FencesFit, PairFits, CertificateFits, CertText}
 use Rattle.hq_cert.specs.Printed.{spaced, line_text, lines_text, has_chain, text_of}
+use Rattle.hq_cert.proofs.Cuts.{parts_of, without}
 use Rattle.hq_cert.proofs.Parts.{SmallCited, small_of}
 
 -- neither a space nor a line feed
@@ -72,7 +73,7 @@ words_again w [] h k = ap (slice_split is_space) (append-nil w) ∙ word_last w 
 words_again w (v ∷ ws) h k = word_cut w (v ++ spaced ws) h ∙ ap (λ r. w ∷ r) (words_again v ws k.0 k.1)
 
 -- a line that has words, all of them plain
-record PlainLine (words : List (List ℕ)) : Type 0 where
+pub record PlainLine (words : List (List ℕ)) : Type 0 where
   first : List ℕ
   others : List (List ℕ)
   is : words ≡ first ∷ others
@@ -127,6 +128,22 @@ line_text_cut words rest h =
     regroup : (a b c : List ℕ) → (a ++ (b ++ 10 ∷ [])) ++ c ≡ (a ++ b) ++ 10 ∷ c
     regroup a b c = simp append_assoc
 
+-- a line at the front of a text
+pub record FirstLine (words : List (List ℕ)) (rest : List ℕ) : Type 0 where
+  pub line : List ℕ
+  pub cut : lines_of (line_text words ++ rest) ≡ line ∷ lines_of rest
+  pub again : words_of line ≡ words
+  pub some : 0 < length (line_text words)
+
+pub line_first : (words : List (List ℕ)) (rest : List ℕ) → PlainLine words → FirstLine words rest
+line_first words rest h =
+    record {
+      line = bare words;
+      cut = ap without_empty_last (line_text_cut words rest h) ∙ without (bare words) (slice_split is_line_feed rest) (parts_of is_line_feed rest);
+      again = line_again words h;
+      some = let e = ap (λ ws. length (line_text ws)) h.is in let long = length-append h.first (spaced h.others ++ 10 ∷ []) in let more = length-append (spaced h.others) (10 ∷ []) in omega arith;
+    }
+
 parts_again : (lines : List (List (List ℕ))) → AllByRecursion PlainLine lines → slice_split is_line_feed (lines_text lines) ≡ map bare lines ++ [] ∷ []
 parts_again [] h = refl
 parts_again (words ∷ lines) h = line_text_cut words (lines_text lines) h.0 ∙ ap (λ r. bare words ∷ r) (parts_again lines h.1)
@@ -155,9 +172,12 @@ plain_rule k (And slot) h = (refl, (plain_number slot h, tt))
 plain_rule k (Or branches) h = (refl, plain_citations k branches h.cited)
 plain_rule k (Through a b) h = (refl, (plain_number a h.0.small, (plain_number b h.1.small, tt)))
 
+pub plain_line_of : (k : ℕ) (l : model.Line) → LineFits k l → PlainLine (line_words k l)
+plain_line_of k l h = plain_line (codes "line") _ refl (plain_number k h.number, (plain_number l.p h.p, (plain_number l.r h.r, plain_rule k l.rule h.rule)))
+
 plain_lines : (k : ℕ) (ls : List model.Line) → LinesFit k ls → AllByRecursion PlainLine (lines_words k ls)
 plain_lines k [] h = tt
-plain_lines k (l ∷ ls) h = (plain_line (codes "line") _ refl (plain_number k h.0.number, (plain_number l.p h.0.p, (plain_number l.r h.0.r, plain_rule k l.rule h.0.rule))), plain_lines (k + 1) ls h.1)
+plain_lines k (l ∷ ls) h = (plain_line_of k l h.0, plain_lines (k + 1) ls h.1)
 
 plain_fences : (ch : Bool) (count : ℕ) (fences : model.Fences) → FencesFit ch count fences → AllByRecursion Plain (fences_words fences)
 plain_fences ch count (ForReadWrite l) h = (refl, (plain_number l h.small, tt))
@@ -167,9 +187,12 @@ plain_fences ch count (ForWriteWriteChained x y a b c) h = (refl, (plain_number 
 plain_fences ch count (ForWriteReadChained x x2 y2 y a b c d e) h =
     (refl, (plain_number x h.1, (plain_number x2 h.2, (plain_number y2 h.3, (plain_number y h.4, (plain_cited a (small_of count a h.5), (plain_cited b (small_of count b h.6), (plain_number c h.7.small, (plain_cited d (small_of count d h.8), (plain_cited e (small_of count e h.9), tt))))))))))
 
+pub plain_pair_of : (ch : Bool) (count : ℕ) (p : model.Pair) → PairFits ch count p → PlainLine (pair_words p)
+plain_pair_of ch count p h = plain_line (codes "pair") _ refl (plain_number p.p h.p, (plain_number p.r h.r, plain_fences ch count p.fences h.fences))
+
 plain_pairs : (ch : Bool) (count : ℕ) (ps : List model.Pair) → AllByRecursion (PairFits ch count) ps → AllByRecursion PlainLine (map pair_words ps)
 plain_pairs ch count [] h = tt
-plain_pairs ch count (p ∷ ps) h = (plain_line (codes "pair") _ refl (plain_number p.p h.0.p, (plain_number p.r h.0.r, plain_fences ch count p.fences h.0.fences)), plain_pairs ch count ps h.1)
+plain_pairs ch count (p ∷ ps) h = (plain_pair_of ch count p h.0, plain_pairs ch count ps h.1)
 
 both_lists : (P : List (List ℕ) → Type 0) (xs ys : List (List (List ℕ))) → AllByRecursion P xs → AllByRecursion P ys → AllByRecursion P (xs ++ ys)
 both_lists P [] ys h k = k

@@ -8,3 +8,5 @@ pub mod Cited
 pub mod Printed
 pub mod LineForms
 pub mod OnePass
+pub mod Rows
+pub mod Gains

@@ -1,84 +1,57 @@
--- What a line is found to begin with, in one pass over its bytes.
-use Rattle.std.specs.Prelude.{◌≡◌, ℕ, ◌+◌, ◌-◌, ◌*◌, ◌<◌, ◌&&◌, List, [], ◌∷◌, length, Bool, true, false, ◌⊎◌, Option, Some, None, Ok, ◌==◌, nat_le, if◌then◌else◌}
-use Rattle.hq_text.specs.Lines.{words_of}
-use Rattle.hq_text.specs.Numbers.{is_digit}
-use Rattle.hq_cert.specs.LineTests.{number_said, citation_said, rule_kind, rule_said, fences_kind, fences_said, line_said, pair_said}
-use Rattle.hq_cert.specs.declared.forms.RuleKind.{RuleKind}
-use Rattle.hq_cert.specs.declared.forms.FencesKind.{FencesKind}
-use Rattle.hq_cert.specs.declared.draft.Stage.{Stage}
-use Rattle.hq_cert.specs.declared.draft.Stage.TheVariants as stage
-use Rattle.hq_cert.specs.TextFaults.{State, added, with_line, with_pair}
+-- What a text is found to begin with, in one pass over its bytes.
+use Rattle.std.specs.Prelude.{◌≡◌, ℕ, ◌+◌, ◌<◌, ◌≤◌, List, ◌∷◌, ◌++◌, length, take, Bool, Option}
+use Rattle.std.specs.Fmt.{decimal}
+use Rattle.hq_text.specs.Lines.{lines_of}
 use Rattle.hq_model.specs.Certificate as model
+use Rattle.hq_cert.specs.Grammar.{IsSmall, IsBelow, IsCited, citation_word, rule_words, line_words, fences_words, pair_words, RuleFits, LineFits, FencesFit, PairFits}
+use Rattle.hq_cert.specs.Printed.{line_text}
+use Rattle.hq_cert.specs.TextFaults.{State, AdmitsAll}
 
--- the words behind a word's space; none where there is no space
-abbrev pub words_behind : Option (List ℕ) → List (List ℕ)
-words_behind None = []
-words_behind (Some behind) = words_of behind
+-- the text begins with so many digits, which are the number n, and goes on
+pub record DigitsAhead (text : List ℕ) (n count : ℕ) : Type 0 where
+  pub goes_on : count < length text
+  pub are : take count text ≡ decimal n
+  pub small : IsSmall n
 
--- The number that digits are, behind those of n, up to a space or the end, with what stands behind the space; none where that
--- might be above 4294967295.
-abbrev pub digits_on : ℕ → List ℕ → Option (ℕ × Option (List ℕ))
-digits_on n [] = Some (n, None)
-digits_on n (d ∷ ds) = if d == 32 then Some (n, Some ds) else if is_digit d && nat_le n 400000000 then digits_on (n * 10 + (d - 48)) ds else None
+-- the text is the number n, a byte that ends it, and the rest
+pub record NumberAhead (text : List ℕ) (n stop : ℕ) (rest : List ℕ) : Type 0 where
+  pub is : text ≡ decimal n ++ stop ∷ rest
+  pub small : IsSmall n
 
--- No word is left at the beginning of the text: it is empty, or begins with a space, and behind that there is this.
-abbrev pub EndsWord : List ℕ → Option (List ℕ) → Type 0
-EndsWord text behind = words_of text ≡ [] ∷ words_behind behind
+-- the same with a number below the limit
+pub record BelowAhead (limit : ℕ) (text : List ℕ) (n stop : ℕ) (rest : List ℕ) : Type 0 where
+  pub is : text ≡ decimal n ++ stop ∷ rest
+  pub fits : IsBelow limit n
 
--- The text's first word is the number n, and behind its space there is this.
-pub record NumberAhead (text : List ℕ) (n : ℕ) (behind : Option (List ℕ)) : Type 0 where
-  pub word : List ℕ
-  pub cut : words_of text ≡ word ∷ words_behind behind
-  pub said : number_said word ≡ Ok n
+-- the same with a citation of a line below the limit
+pub record CitationAhead (limit : ℕ) (text : List ℕ) (c : Option ℕ) (stop : ℕ) (rest : List ℕ) : Type 0 where
+  pub is : text ≡ citation_word c ++ stop ∷ rest
+  pub fits : IsCited limit c
 
--- The text's first word is this citation, and behind its space there is this.
-pub record CitationAhead (text : List ℕ) (c : Option ℕ) (behind : Option (List ℕ)) : Type 0 where
-  pub word : List ℕ
-  pub cut : words_of text ≡ word ∷ words_behind behind
-  pub said : citation_said word ≡ Ok c
+-- the text is a rule of line k, a line feed, and the rest
+pub record RuleAhead (k : ℕ) (text : List ℕ) (rule : model.Rule) (rest : List ℕ) : Type 0 where
+  pub is : text ≡ line_text (rule_words rule) ++ rest
+  pub fits : RuleFits k rule
 
--- what is cited stands below the limit, where it isn't `=`
-abbrev pub CitedBelow : ℕ → Option ℕ → Type 0
-CitedBelow limit None = Unit {0}
-CitedBelow limit (Some n) = n < limit
+-- the text is line k and the rest
+pub record LineAhead (k : ℕ) (text : List ℕ) (line : model.Line) (rest : List ℕ) : Type 0 where
+  pub is : text ≡ line_text (line_words k line) ++ rest
+  pub fits : LineFits k line
 
--- The text is two numbers.
-pub record TwoNumbers (text : List ℕ) (m n : ℕ) : Type 0 where
-  pub first : List ℕ
-  pub second : List ℕ
-  pub cut : words_of text ≡ first ∷ second ∷ []
-  pub first_said : number_said first ≡ Ok m
-  pub second_said : number_said second ≡ Ok n
+-- the text is the fences of a pair line behind so many lines, a line feed, and the rest
+pub record FencesAhead (count : ℕ) (text : List ℕ) (fences : model.Fences) (rest : List ℕ) : Type 0 where
+  pub is : text ≡ line_text (fences_words fences) ++ rest
+  pub fits : (chained : Bool) → FencesFit chained count fences
 
--- The text says this rule of line k.
-pub record RuleAhead (k : ℕ) (text : List ℕ) (rule : model.Rule) : Type 0 where
-  pub name : List ℕ
-  pub operands : List (List ℕ)
-  pub kind : RuleKind
-  pub cut : words_of text ≡ name ∷ operands
-  pub named : rule_kind name (length operands) ≡ Some kind
-  pub said : rule_said k kind operands ≡ Ok rule
+-- the text is a pair line behind so many lines, and the rest
+pub record PairAhead (count : ℕ) (text : List ℕ) (pair : model.Pair) (rest : List ℕ) : Type 0 where
+  pub is : text ≡ line_text (pair_words pair) ++ rest
+  pub fits : (chained : Bool) → PairFits chained count pair
 
--- The text says these fences of a pair line behind so many lines, in a form without a chain.
-pub record FencesAhead (count : ℕ) (text : List ℕ) (fences : model.Fences) : Type 0 where
-  pub name : List ℕ
-  pub operands : List (List ℕ)
-  pub kind : FencesKind
-  pub cut : words_of text ≡ name ∷ operands
-  pub named : (chained : Bool) → fences_kind chained name (length operands) ≡ Some kind
-  pub said : fences_said count kind operands ≡ Ok fences
-
--- A line was taken in, as the tests take it in; or nothing was done, and it may be any line.
-abbrev pub TakenOrLeft : Bool → State → List ℕ → State → Type 0
-TakenOrLeft true old line new = added old (words_of line) ≡ Ok new
-TakenOrLeft false old line new = new ≡ old
-
--- The same of a line, by the text behind `line`, in the place of lines.
-abbrev pub TakenLine : Bool → State → List ℕ → State → Type 0
-TakenLine true old text new = (line : model.Line) × (line_said (length old.lines) (words_of text) ≡ Ok line) × (new ≡ with_line old line)
-TakenLine false old text new = new ≡ old
-
--- The same of a pair line, by the text behind `pair`.
-abbrev pub TakenPair : Bool → State → List ℕ → State → Type 0
-TakenPair true old text new = (pair : model.Pair) × (pair_said old.chained (length old.lines) (words_of text) ≡ Ok pair) × (new ≡ with_pair old pair)
-TakenPair false old text new = new ≡ old
+-- So many lines of the text were taken in, and the rest is left.
+pub record TakenFrom (text rest : List ℕ) (count : ℕ) (old new : State) : Type 0 where
+  pub front : List (List ℕ)
+  pub whole : lines_of text ≡ front ++ lines_of rest
+  pub counted : length front ≡ count
+  pub admitted : AdmitsAll old front new
+  pub short : count + length rest ≤ length text

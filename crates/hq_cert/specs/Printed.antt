@@ -1,7 +1,10 @@
 -- The text that a certificate prints.
-use Rattle.std.specs.Prelude.{ℕ, Bool, true, false, List, [], ◌∷◌, ◌++◌}
+use Rattle.std.specs.Prelude.{ℕ, ◌^◌, ◌≤◌, Bool, true, false, List, [], ◌∷◌, ◌++◌, length}
 use Rattle.std.specs.List.{flat_map, list_any}
 use Rattle.hq_text.specs.Lines.{lines_of}
+use Rattle.hq_model.specs.Job.{Job, packet}
+use Rattle.hq_model.specs.Theorems.{Valid}
+use Rattle.hq_model.specs.Certificate.{CertHolds}
 use Rattle.hq_model.specs.Certificate as model
 use Rattle.hq_model.specs.Certificate.Fences.{ForReadWrite, ForWriteWrite, ForWriteRead, ForWriteWriteChained, ForWriteReadChained}
 use Rattle.hq_cert.specs.Grammar.{certificate_words, CertificateFits, CertText}
@@ -38,3 +41,12 @@ text_of c = lines_text (certificate_words (has_chain c) c)
 -- What a certificate prints is its text.
 abbrev pub ReadBack : Type 0
 ReadBack = (c : model.Certificate) → CertificateFits (has_chain c) c → CertText (lines_of (text_of c)) c
+
+-- a job within the limits of its text: at most 1,024 packets, each with at most five slots
+pub record Limited (job : Job) : Type 0 where
+  pub packets : length job.packets ≤ 1024
+  pub slots : (r : ℕ) → length (packet job r).deps ≤ 5
+
+-- What prints of a certificate that holds for such a job, with lines that 32 bits number, is a text of that certificate.
+abbrev pub PrintedIsRead : Type 0
+PrintedIsRead = (job : Job) (c : model.Certificate) → Valid job → Limited job → CertHolds job c → length c.lines ≤ 2 ^ 32 → CertText (lines_of (text_of c)) c

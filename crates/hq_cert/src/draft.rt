@@ -5,7 +5,8 @@ ghost use Rattle.hq_cert.specs.LineTests.{head_said, order_said};
 ghost use Rattle.hq_cert.specs.TextFaults.{start, add_head, add_order, add_line, add_pair, add_end, add_behind, add_content, added, is_ended, read_of};
 ghost use Rattle.hq_cert.specs.DraftView.{state_of};
 ghost use Rattle.hq_cert.specs.Gives.{Gives};
-ghost use Rattle.hq_cert.specs.OnePass.{TakenLine, TakenPair, TakenOrLeft};
+ghost use Rattle.hq_cert.specs.OnePass.{TakenFrom};
+ghost use Rattle.hq_cert.specs.declared.draft.Stage.{Stage};
 
 use crate::certificate::{Certificate, Line, Pair};
 use crate::fault::CertReason;
@@ -184,51 +185,53 @@ impl Draft {
         }
     }
 
-    /// Takes in a line, by the text behind `line`, where that is in one of the common forms; answers whether it did.
-    fn take_line(&mut self, text: &[u8]) -> Result<bool, CertReason>
-        ensures taken { IfOk result (λ taken. TakenLine taken (state_of self.old) text.now (state_of self.new)) }
+    /// Takes in the lines that a text begins with, up to one that isn't in a common form. Answers how many they are, and what is left.
+    fn take_lines<'a>(&mut self, text: &'a [u8]) -> Result<(usize, &'a [u8]), CertReason>
+        requires { self.old.stage ≡ Stage.Lines }
+        ensures taken { IfOk result (λ t. TakenFrom text.now t.1.now t.0 (state_of self.old) (state_of self.new)) }
+        ensures memory { IfErr result (λ e. e ≡ CertReason.Memory) }
+    {
+        let mut rest = text;
+        let mut taken = 0;
+        loop {
+            let Some((line, behind)) = one_pass::line(self.count()?, rest) else {
+                return Ok((taken, rest));
+            };
+            self.lines.push(line)?;
+            rest = behind;
+            taken += 1;
+        }
+    }
+
+    /// The same of pair lines.
+    fn take_pairs<'a>(&mut self, text: &'a [u8]) -> Result<(usize, &'a [u8]), CertReason>
+        requires { self.old.stage ≡ Stage.Pairs }
+        ensures taken { IfOk result (λ t. TakenFrom text.now t.1.now t.0 (state_of self.old) (state_of self.new)) }
         ensures memory { IfErr result (λ e. e ≡ CertReason.Memory) }
     {
         let count = self.count()?;
-        let Some(line) = one_pass::line(count, text) else {
-            return Ok(false);
-        };
-        self.lines.push(line)?;
-        self.stage = Stage::Lines;
-        Ok(true)
+        let mut rest = text;
+        let mut taken = 0;
+        loop {
+            let Some((pair, behind)) = one_pass::pair(count, rest) else {
+                return Ok((taken, rest));
+            };
+            self.pairs.push(pair)?;
+            rest = behind;
+            taken += 1;
+        }
     }
 
-    /// Takes in a pair line, by the text behind `pair`, where that is in one of the common forms; answers whether it did.
-    fn take_pair(&mut self, text: &[u8]) -> Result<bool, CertReason>
-        ensures taken { IfOk result (λ taken. TakenPair taken (state_of self.old) text.now (state_of self.new)) }
-        ensures memory { IfErr result (λ e. e ≡ CertReason.Memory) }
-    {
-        let count = self.count()?;
-        let Some(pair) = one_pass::pair(count, text) else {
-            return Ok(false);
-        };
-        self.pairs.push(pair)?;
-        self.stage = Stage::Pairs;
-        Ok(true)
-    }
-
-    /// Takes in the next line in one pass over its bytes, where it is in one of the common forms; answers whether it did. Where
-    /// it didn't, nothing changed.
-    #[tactic(auto, using(crate::proofs::OnePass::line_taken, crate::proofs::OnePass::pair_taken))]
-    pub fn take(&mut self, line: &[u8]) -> Result<bool, CertReason>
-        ensures taken { IfOk result (λ taken. TakenOrLeft taken (state_of self.old) line.now (state_of self.new)) }
+    /// Takes in the lines that a text begins with, as long as they are in a common form. Answers how many they are, and what is left.
+    #[tactic(auto, using(crate::proofs::Taking::none_taken_from))]
+    pub fn take<'a>(&mut self, text: &'a [u8]) -> Result<(usize, &'a [u8]), CertReason>
+        ensures taken { IfOk result (λ t. TakenFrom text.now t.1.now t.0 (state_of self.old) (state_of self.new)) }
         ensures memory { IfErr result (λ e. e ≡ CertReason.Memory) }
     {
         match self.stage {
-            Stage::Lines => match one_pass::behind(line, b"line ".as_slice()) {
-                Some(text) => self.take_line(text),
-                None => Ok(false),
-            },
-            Stage::Pairs => match one_pass::behind(line, b"pair ".as_slice()) {
-                Some(text) => self.take_pair(text),
-                None => Ok(false),
-            },
-            _ => Ok(false),
+            Stage::Lines => self.take_lines(text),
+            Stage::Pairs => self.take_pairs(text),
+            _ => Ok((0, text)),
         }
     }
 

@@ -2,7 +2,7 @@
 
 ghost use Rattle.hq_cert.specs.TextFaults.{OneCertificate, FaultlessWhereCertificate, OneFirstFault};
 ghost use Rattle.hq_cert.specs.LineForms.{WordMeans, CitationMeans};
-ghost use Rattle.hq_cert.specs.Printed.{ReadBack};
+ghost use Rattle.hq_cert.specs.Printed.{ReadBack, PrintedIsRead};
 
 /// A text is one certificate's.
 pub fn one_certificate()
@@ -24,6 +24,13 @@ pub fn one_first_fault()
 /// lines that cite lines that are there.
 pub fn read_back()
     ensures { ReadBack }
+{}
+
+/// `parse` of what `print` wrote is the same certificate, or memory runs out: wherever the certificate holds for some job within
+/// the limits of the job text, and has at most 2^32 lines. For `print` writes this text, and `parse` ensures that a text of a
+/// certificate gives that one, or that there is no memory.
+pub fn printed_is_read()
+    ensures { PrintedIsRead }
 {}
 
 /// A line is refused for its words exactly where they have no form that may stand there, whatever their numbers are.

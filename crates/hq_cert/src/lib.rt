@@ -13,9 +13,10 @@ pub mod laws;
 mod one_pass;
 mod operands;
 mod pairs;
-mod pen;
+mod placing;
 mod printing;
 mod reading;
+mod rows;
 mod rules;
 
 pub use certificate::{Branches, Certificate, Fences, Line, Pair, ReadChain, Rule, WriteChain};

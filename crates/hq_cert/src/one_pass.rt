@@ -1,257 +1,230 @@
 //! Lines in their commonest forms, read in one pass over their bytes. A line that isn't read here is left to the readers of
 //! words, which tell what is wrong with it.
 
-ghost use Rattle.std.specs.Prelude.{◌≡◌, ◌++◌, Some, Ok, ◌<◌, Bool, IfSome, option_map, None};
-ghost use Rattle.hq_text.specs.Lines.{words_of};
-ghost use Rattle.hq_cert.specs.LineTests.{bit_said, and_said, through_said, line_said, read_write_said, write_write_said, write_read_said, pair_said};
+ghost use Rattle.std.specs.Prelude.{◌≡◌, ◌++◌, ◌∷◌, ◌<◌, IfSome};
 ghost use Rattle.hq_cert.specs.View.{cited, rule_of, line_of, fences_of, pair_of};
-ghost use Rattle.hq_cert.specs.OnePass.{digits_on, EndsWord, NumberAhead, CitationAhead, TwoNumbers, CitedBelow, RuleAhead, FencesAhead};
+ghost use Rattle.hq_cert.specs.OnePass.{DigitsAhead, NumberAhead, BelowAhead, CitationAhead, RuleAhead, LineAhead, FencesAhead, PairAhead};
 
 use crate::certificate::{Fences, Line, Pair, Rule};
 use crate::citation::Citation;
 
-/// The number that digits are, up to a space or the end, and what stands behind the space.
-fn digits(text: &[u8]) -> Option<(u32, Option<&[u8]>)>
-    ensures { IfSome result (λ t. digits_on 0 text.now ≡ Some (t.0, option_map (λ r. r.now) t.1)) }
+/// The number of the digits that a text begins with, and how many these are: at most eight, with ten bytes in all.
+#[inline(always)]
+fn digits(text: &[u8]) -> Option<(u32, usize)>
+    ensures { IfSome result (λ t. DigitsAhead text.now t.0 t.1) }
 {
-    let mut number: u32 = 0;
-    for (i, digit) in text.iter().enumerate() {
-        if *digit == b' ' {
-            return Some((number, Some(text.split_at(i + 1).1)));
-        }
-        if *digit < b'0' || *digit > b'9' || number > 400_000_000 {
-            return None;
-        }
-        number = number * 10 + (*digit - b'0') as u32;
-    }
-    Some((number, None))
-}
-
-/// What stands behind a space, where a text begins with one or is empty.
-fn behind_word(text: &[u8]) -> Option<Option<&[u8]>>
-    ensures { IfSome result (λ b. EndsWord text.now (option_map (λ r. r.now) b)) }
-{
-    match text.split_first() {
-        None => Some(None),
-        Some((first, behind)) if *first == b' ' => Some(Some(behind)),
-        Some(_) => None,
-    }
-}
-
-/// The number that a text begins with, and what stands behind its space.
-fn number(text: &[u8]) -> Option<(u32, Option<&[u8]>)>
-    ensures { IfSome result (λ t. NumberAhead text.now t.0 (option_map (λ r. r.now) t.1)) }
-{
-    let (first, behind) = text.split_first()?;
-    if *first == b'0' {
-        return Some((0, behind_word(behind)?));
-    }
-    if *first == b' ' {
+    if text.len() < 10 {
         return None;
     }
-    digits(text)
-}
-
-/// The citation that a text begins with, None for `=`, and what stands behind its space.
-fn citation(text: &[u8]) -> Option<(Option<u32>, Option<&[u8]>)>
-    ensures { IfSome result (λ t. CitationAhead text.now t.0 (option_map (λ r. r.now) t.1)) }
-{
-    let (first, behind) = text.split_first()?;
-    if *first == b'=' {
-        return Some((None, behind_word(behind)?));
+    if text[0] == b'0' {
+        return Some((0, 1));
     }
-    let (number, behind) = number(text)?;
-    Some((Some(number), behind))
-}
-
-/// The number that a whole text is.
-fn whole_number(text: &[u8]) -> Option<u32>
-    ensures { IfSome result (λ n. NumberAhead text.now n None) }
-{
-    match number(text)? {
-        (number, None) => Some(number),
-        (_, Some(_)) => None,
+    let mut number: u32 = 0;
+    for i in 0..9 {
+        let digit = text[i].wrapping_sub(b'0');
+        if digit > 9 {
+            return if i == 0 { None } else { Some((number, i)) };
+        }
+        number = number * 10 + digit as u32;
     }
+    None
 }
 
-/// The numbers of two words with nothing behind them.
-fn two_numbers(text: &[u8]) -> Option<(u32, u32)>
-    ensures { IfSome result (λ t. TwoNumbers text.now t.0 t.1) }
+/// The number that a text begins with, and what stands behind it and the byte that ends it.
+#[inline(always)]
+fn number(text: &[u8], stop: u8) -> Option<(u32, &[u8])>
+    ensures { IfSome result (λ t. NumberAhead text.now t.0 stop t.1.now) }
 {
-    let (first, behind) = number(text)?;
-    let second = whole_number(behind?)?;
-    Some((first, second))
-}
-
-/// The rule of what stands behind `bit`.
-#[tactic(auto, using(crate::proofs::OnePass::bit_ahead))]
-fn bit(text: &[u8]) -> Option<Rule>
-    ensures { IfSome result (λ rule. bit_said (words_of text.now) ≡ Ok (rule_of rule)) }
-{
-    Some(Rule::Bit(whole_number(text)?))
-}
-
-/// The rule of what stands behind `and`.
-#[tactic(auto, using(crate::proofs::OnePass::and_ahead))]
-fn and(text: &[u8]) -> Option<Rule>
-    ensures { IfSome result (λ rule. and_said (words_of text.now) ≡ Ok (rule_of rule)) }
-{
-    Some(Rule::And(whole_number(text)?))
-}
-
-/// The rule of line k, by what stands behind `through`.
-#[tactic(auto, using(crate::proofs::OnePass::through_ahead))]
-fn through(k: u32, text: &[u8]) -> Option<Rule>
-    ensures { IfSome result (λ rule. through_said k (words_of text.now) ≡ Ok (rule_of rule)) }
-{
-    let (first, second) = two_numbers(text)?;
-    if first < k && second < k {
-        Some(Rule::Through(first, second))
+    let (number, count) = digits(text)?;
+    if text[count] == stop {
+        Some((number, text.split_at(count + 1).1))
     } else {
         None
     }
 }
 
-/// The rule `queue`, of line k.
-fn queue(k: u32, text: &[u8]) -> Option<Rule>
-    ensures { IfSome result (λ rule. RuleAhead k text.now (rule_of rule)) }
+/// The same of a number below the limit.
+#[inline(always)]
+fn below(limit: u32, text: &[u8], stop: u8) -> Option<(u32, &[u8])>
+    ensures { IfSome result (λ t. BelowAhead limit text.now t.0 stop t.1.now) }
 {
-    if text == b"queue".as_slice() {
-        Some(Rule::Queue)
+    let (number, rest) = number(text, stop)?;
+    if number < limit {
+        Some((number, rest))
     } else {
         None
     }
 }
 
-/// What stands behind a name and its space.
-pub fn behind<'a>(text: &'a [u8], name: &[u8]) -> Option<&'a [u8]>
+/// The same of a citation of a line below the limit.
+#[inline(always)]
+fn citation(limit: u32, text: &[u8], stop: u8) -> Option<(Citation, &[u8])>
+    ensures { IfSome result (λ t. CitationAhead limit text.now (cited t.0) stop t.1.now) }
+{
+    let (first, rest) = text.split_first()?;
+    if *first != b'=' {
+        let (number, rest) = below(limit, text, stop)?;
+        return Some((Citation::line(number), rest));
+    }
+    let (next, rest) = rest.split_first()?;
+    if *next == stop {
+        Some((Citation::same(), rest))
+    } else {
+        None
+    }
+}
+
+/// What stands behind a name.
+#[inline(always)]
+fn behind<'a>(text: &'a [u8], name: &[u8]) -> Option<&'a [u8]>
     ensures { IfSome result (λ rest. text.now ≡ name.now ++ rest.now) }
 {
     text.strip_prefix(name)
 }
 
-/// The rule of line k that a text is.
-#[tactic(auto, using(crate::proofs::OnePass::bit_rule, crate::proofs::OnePass::and_rule, crate::proofs::OnePass::through_rule))]
-fn rule(k: u32, text: &[u8]) -> Option<Rule>
-    ensures { IfSome result (λ rule. RuleAhead k text.now (rule_of rule)) }
+/// The rule `bit` of line k, and what stands behind its line.
+#[inline(always)]
+#[tactic(auto, using(crate::proofs::OnePass::bit_ahead))]
+fn bit(k: u32, text: &[u8]) -> Option<(Rule, &[u8])>
+    ensures { IfSome result (λ t. RuleAhead k text.now (rule_of t.0) t.1.now) }
+{
+    let rest = behind(text, b"bit ")?;
+    let (packet, rest) = number(rest, b'\n')?;
+    Some((Rule::Bit(packet), rest))
+}
+
+/// The same of `through`.
+#[inline(always)]
+#[tactic(auto, using(crate::proofs::OnePass::through_ahead))]
+fn through(k: u32, text: &[u8]) -> Option<(Rule, &[u8])>
+    ensures { IfSome result (λ t. RuleAhead k text.now (rule_of t.0) t.1.now) }
+{
+    let rest = behind(text, b"through ")?;
+    let (first, rest) = below(k, rest, b' ')?;
+    let (second, rest) = below(k, rest, b'\n')?;
+    Some((Rule::Through(first, second), rest))
+}
+
+/// The same of `and`.
+#[inline(always)]
+#[tactic(auto, using(crate::proofs::OnePass::and_ahead))]
+fn and(k: u32, text: &[u8]) -> Option<(Rule, &[u8])>
+    ensures { IfSome result (λ t. RuleAhead k text.now (rule_of t.0) t.1.now) }
+{
+    let rest = behind(text, b"and ")?;
+    let (slot, rest) = number(rest, b'\n')?;
+    Some((Rule::And(slot), rest))
+}
+
+/// The same of `queue`.
+#[inline(always)]
+#[tactic(auto, using(crate::proofs::OnePass::queue_ahead))]
+fn queue(k: u32, text: &[u8]) -> Option<(Rule, &[u8])>
+    ensures { IfSome result (λ t. RuleAhead k text.now (rule_of t.0) t.1.now) }
+{
+    Some((Rule::Queue, behind(text, b"queue\n")?))
+}
+
+/// A rule of line k that isn't `or`, and what stands behind its line.
+#[inline(always)]
+fn rule(k: u32, text: &[u8]) -> Option<(Rule, &[u8])>
+    ensures { IfSome result (λ t. RuleAhead k text.now (rule_of t.0) t.1.now) }
 {
     match text.first()? {
-        b'b' => bit(behind(text, b"bit ".as_slice())?),
-        b't' => through(k, behind(text, b"through ".as_slice())?),
-        b'a' => and(behind(text, b"and ".as_slice())?),
-        b'q' => queue(k, text),
-        _ => None,
+        b't' => through(k, text),
+        b'b' => bit(k, text),
+        b'a' => and(k, text),
+        _ => queue(k, text),
     }
 }
 
-/// Line k, by the text behind `line`, where it is in one of the common forms.
+/// Line k, and what stands behind it.
+#[inline(always)]
 #[tactic(auto, using(crate::proofs::OnePass::line_ahead))]
-pub fn line(k: u32, text: &[u8]) -> Option<Line>
-    ensures { IfSome result (λ l. line_said k (words_of text.now) ≡ Ok (line_of l)) }
+pub fn line(k: u32, text: &[u8]) -> Option<(Line, &[u8])>
+    ensures { IfSome result (λ t. LineAhead k text.now (line_of t.0) t.1.now) }
 {
-    let (own, behind) = number(text)?;
+    let rest = behind(text, b"line ")?;
+    let (own, rest) = number(rest, b' ')?;
     if own != k {
         return None;
     }
-    let (p, behind) = number(behind?)?;
-    let (r, behind) = number(behind?)?;
-    let rule = rule(k, behind?)?;
-    Some(Line { p, r, rule })
+    let (p, rest) = number(rest, b' ')?;
+    let (r, rest) = number(rest, b' ')?;
+    let (rule, rest) = rule(k, rest)?;
+    Some((Line { p, r, rule }, rest))
 }
 
-/// The citation, if it is below the limit.
-fn cited(limit: u32, number: Option<u32>) -> Option<Citation>
-    ensures { IfSome result (λ c. (cited c ≡ number) × CitedBelow limit number) }
-{
-    match number {
-        None => Some(Citation::same()),
-        Some(number) if number < limit => Some(Citation::line(number)),
-        Some(_) => None,
-    }
-}
-
-/// What a whole text cites, below the limit.
-fn whole_citation(limit: u32, text: &[u8]) -> Option<Citation>
-    ensures { IfSome result (λ c. CitationAhead text.now (cited c) None × CitedBelow limit (cited c)) }
-{
-    match citation(text)? {
-        (number, None) => cited(limit, number),
-        (_, Some(_)) => None,
-    }
-}
-
-/// The number of a line below the limit that a whole text is.
-fn whole_line(limit: u32, text: &[u8]) -> Option<u32>
-    ensures { IfSome result (λ n. NumberAhead text.now n None × (n < limit)) }
-{
-    let number = whole_number(text)?;
-    if number < limit { Some(number) } else { None }
-}
-
-/// The fences of what stands behind `rw`.
+/// The fences `rw` of a pair line behind so many lines, and what stands behind that line.
+#[inline(always)]
 #[tactic(auto, using(crate::proofs::OnePass::read_write_ahead))]
-fn read_write(count: u32, text: &[u8]) -> Option<Fences>
-    ensures { IfSome result (λ f. read_write_said count (words_of text.now) ≡ Ok (fences_of f)) }
+fn read_write(count: u32, text: &[u8]) -> Option<(Fences, &[u8])>
+    ensures { IfSome result (λ t. FencesAhead count text.now (fences_of t.0) t.1.now) }
 {
-    Some(Fences::ReadWrite(whole_line(count, text)?))
+    let rest = behind(text, b"rw ")?;
+    let (line, rest) = below(count, rest, b'\n')?;
+    Some((Fences::ReadWrite(line), rest))
 }
 
-/// The fences of what stands behind `ww`.
+/// The same of `ww`.
+#[inline(always)]
 #[tactic(auto, using(crate::proofs::OnePass::write_write_ahead))]
-fn write_write(count: u32, text: &[u8]) -> Option<Fences>
-    ensures { IfSome result (λ f. write_write_said count (words_of text.now) ≡ Ok (fences_of f)) }
+fn write_write(count: u32, text: &[u8]) -> Option<(Fences, &[u8])>
+    ensures { IfSome result (λ t. FencesAhead count text.now (fences_of t.0) t.1.now) }
 {
-    let (x, behind) = number(text)?;
-    let (from, behind) = citation(behind?)?;
-    let from = cited(count, from)?;
-    let on = whole_line(count, behind?)?;
-    Some(Fences::WriteWrite { x, from, on })
+    let rest = behind(text, b"ww ")?;
+    let (x, rest) = number(rest, b' ')?;
+    let (from, rest) = citation(count, rest, b' ')?;
+    let (on, rest) = below(count, rest, b'\n')?;
+    Some((Fences::WriteWrite { x, from, on }, rest))
 }
 
-/// The fences of what stands behind `wr`.
+/// The same of `wr`.
+#[inline(always)]
 #[tactic(auto, using(crate::proofs::OnePass::write_read_ahead))]
-fn write_read(count: u32, text: &[u8]) -> Option<Fences>
-    ensures { IfSome result (λ f. write_read_said count (words_of text.now) ≡ Ok (fences_of f)) }
+fn write_read(count: u32, text: &[u8]) -> Option<(Fences, &[u8])>
+    ensures { IfSome result (λ t. FencesAhead count text.now (fences_of t.0) t.1.now) }
 {
-    let (x, behind) = number(text)?;
-    let (y, behind) = number(behind?)?;
-    let (from, behind) = citation(behind?)?;
-    let from = cited(count, from)?;
-    let (between, behind) = number(behind?)?;
-    if between >= count {
-        return None;
-    }
-    let to = whole_citation(count, behind?)?;
-    Some(Fences::WriteRead {
-        x,
-        y,
-        from,
-        between,
-        to,
-    })
+    let rest = behind(text, b"wr ")?;
+    let (x, rest) = number(rest, b' ')?;
+    let (y, rest) = number(rest, b' ')?;
+    let (from, rest) = citation(count, rest, b' ')?;
+    let (between, rest) = below(count, rest, b' ')?;
+    let (to, rest) = citation(count, rest, b'\n')?;
+    Some((
+        Fences::WriteRead {
+            x,
+            y,
+            from,
+            between,
+            to,
+        },
+        rest,
+    ))
 }
 
-/// The fences that a text is.
-#[tactic(auto, using(crate::proofs::OnePass::read_write_fences, crate::proofs::OnePass::write_write_fences, crate::proofs::OnePass::write_read_fences))]
-fn fences(count: u32, text: &[u8]) -> Option<Fences>
-    ensures { IfSome result (λ f. FencesAhead count text.now (fences_of f)) }
+/// Fences without a chain, and what stands behind their line.
+#[inline(always)]
+fn fences(count: u32, text: &[u8]) -> Option<(Fences, &[u8])>
+    ensures { IfSome result (λ t. FencesAhead count text.now (fences_of t.0) t.1.now) }
 {
-    if let Some(text) = behind(text, b"ww ".as_slice()) {
-        return write_write(count, text);
+    if let Some(found) = write_write(count, text) {
+        return Some(found);
     }
-    if let Some(text) = behind(text, b"wr ".as_slice()) {
-        return write_read(count, text);
+    if let Some(found) = write_read(count, text) {
+        return Some(found);
     }
-    read_write(count, behind(text, b"rw ".as_slice())?)
+    read_write(count, text)
 }
 
-/// A pair line behind so many lines, by the text behind `pair`, where it is in one of the common forms.
-#[tactic(auto, using(crate::proofs::OnePass::pair_ahead))]
-pub fn pair(count: u32, text: &[u8]) -> Option<Pair>
-    ensures { IfSome result (λ p. (chained : Bool) → pair_said chained count (words_of text.now) ≡ Ok (pair_of p)) }
+/// A pair line behind so many lines, and what stands behind it.
+#[inline(always)]
+pub fn pair(count: u32, text: &[u8]) -> Option<(Pair, &[u8])>
+    ensures { IfSome result (λ t. PairAhead count text.now (pair_of t.0) t.1.now) }
 {
-    let (p, behind) = number(text)?;
-    let (r, behind) = number(behind?)?;
-    let fences = fences(count, behind?)?;
-    Some(Pair { p, r, fences })
+    let rest = behind(text, b"pair ")?;
+    let (p, rest) = number(rest, b' ')?;
+    let (r, rest) = number(rest, b' ')?;
+    let (fences, rest) = fences(count, rest)?;
+    Some((Pair { p, r, fences }, rest))
 }

@@ -1,20 +1,29 @@
 //! Certificates to texts.
 
-ghost use Rattle.std.specs.Prelude.{◌≡◌, map, IfOk, OnOk, Err, [], ◌++◌};
+ghost use Rattle.std.specs.Prelude.{◌≡◌, ◌+◌, ◌≤◌, ◌∷◌, [], ◌++◌, map, IfOk, OnOk, Err, length, take, codes};
+ghost use Rattle.std.specs.Fmt.{decimal};
 ghost use Rattle.std.specs.List.{list_any};
-ghost use Rattle.std.specs.Io.KnownBytes.{Appends, append_known};
-ghost use Rattle.hq_cert.specs.Grammar.{head_words, order_words, lines_words, pair_words};
-ghost use Rattle.hq_cert.specs.Printed.{is_chain, has_chain, line_text, lines_text, text_of};
-ghost use Rattle.hq_cert.specs.View.{fences_of, line_of, pair_of};
+ghost use Rattle.std.specs.Io.KnownBytes.{Appends};
+ghost use Rattle.hq_cert.specs.Grammar.{citation_word, rule_words, line_words, head_words, order_words, lines_words, pair_words};
+ghost use Rattle.hq_cert.specs.Printed.{is_chain, has_chain, spaced, line_text, lines_text, text_of};
+ghost use Rattle.hq_cert.specs.Gains.{Gains};
+ghost use Rattle.hq_cert.specs.View.{cited, fences_of, rule_of, line_of, pair_of};
 
-use crate::certificate::{Certificate, Fences, Line, Pair};
-use crate::pen::Pen;
+use crate::certificate::{Certificate, Fences, Line, Pair, Rule};
+use crate::citation::Citation;
+use crate::placing::{
+    put, put_citation, put_head, put_line, put_named, put_number, put_pair, put_through,
+};
+use crate::rows::Rows;
 use std::alloc::{AllocError, Global};
-use std::io::{self, Write};
+use std::io::Write;
 use thiserror::Error;
 
 /// How many bytes are gathered before they are written.
-const ROOM: usize = 65_536;
+const ROOM: usize = 32_768;
+
+/// How many bytes a line takes at most, apart from an order and from branches.
+const LINE: usize = 256;
 
 fn is_chain(fences: &Fences) -> bool
     ensures { result ≡ is_chain (fences_of fences.now) }
@@ -31,35 +40,205 @@ fn has_chain(pairs: &[Pair]) -> bool
     pairs.iter().any(|pair| is_chain(&pair.fences))
 }
 
-/// Writes what was put, where that is much.
-fn spill<W: Write>(pen: &mut Pen, writer: &mut W) -> io::Result<()>
-    ensures { OnOk result (Appends (append_known (W.contents writer.old) pen.old.bytes.items) (append_known (W.contents writer.new) pen.new.bytes.items) []) }
+/// The writer failed.
+#[derive(Clone, Copy)]
+struct WriterFailed;
+
+/// Writes what was put. Answers where the next text goes.
+#[cold]
+#[inline(never)]
+fn spill<W: Write>(bytes: &[u8], at: usize, writer: &mut W) -> Result<usize, WriterFailed>
+    requires { at ≤ length bytes.now }
+    ensures written { IfOk result (λ next. Gains (W.contents writer.old) bytes.now at (W.contents writer.new) bytes.now next []) }
+    ensures front { IfOk result (λ next. next ≡ 0) }
 {
-    if pen.bytes().len() >= ROOM {
-        writer.write_all(pen.bytes())?;
-        pen.clear();
+    match writer.write_all(&bytes[..at]) {
+        Ok(()) => Ok(0),
+        Err(_) => Err(WriterFailed),
     }
-    Ok(())
 }
 
-fn write_lines<W: Write>(pen: &mut Pen, lines: &[Line], writer: &mut W) -> io::Result<()>
-    ensures { OnOk result (Appends (append_known (W.contents writer.old) pen.old.bytes.items) (append_known (W.contents writer.new) pen.new.bytes.items) (lines_text (lines_words 0 (map line_of lines.now)))) }
+/// Writes what was put, where there is no room for a line. Answers where the next text goes.
+#[inline(always)]
+fn make_room<W: Write>(bytes: &[u8], at: usize, writer: &mut W) -> Result<usize, WriterFailed>
+    requires within { at ≤ length bytes.now }
+    requires long { 256 ≤ length bytes.now }
+    ensures written { IfOk result (λ next. Gains (W.contents writer.old) bytes.now at (W.contents writer.new) bytes.now next []) }
+    ensures room { IfOk result (λ next. next + 256 ≤ length bytes.now) }
 {
+    if at + LINE <= bytes.len() {
+        Ok(at)
+    } else {
+        spill(bytes, at, writer)
+    }
+}
+
+/// Numbers, each behind a space.
+fn write_numbers<W: Write>(
+    bytes: &mut [u8],
+    start: usize,
+    rows: &Rows,
+    numbers: &[u32],
+    writer: &mut W,
+) -> Result<usize, WriterFailed>
+    requires within { start ≤ length bytes.old }
+    requires long { 256 ≤ length bytes.old }
+    ensures written { IfOk result (λ end. Gains (W.contents writer.old) bytes.old start (W.contents writer.new) bytes.new end (spaced (map decimal numbers.now))) }
+    ensures within { IfOk result (λ end. end ≤ length bytes.new) }
+{
+    let mut at = start;
+    for number in numbers {
+        at = make_room(bytes, at, writer)?;
+        at = put_number(bytes, at, rows, *number as u64);
+    }
+    Ok(at)
+}
+
+/// Citations, each behind a space.
+#[inline(never)]
+fn write_citations<W: Write>(
+    bytes: &mut [u8],
+    start: usize,
+    rows: &Rows,
+    citations: &[Citation],
+    writer: &mut W,
+) -> Result<usize, WriterFailed>
+    requires within { start ≤ length bytes.old }
+    requires long { 256 ≤ length bytes.old }
+    ensures written { IfOk result (λ end. Gains (W.contents writer.old) bytes.old start (W.contents writer.new) bytes.new end (spaced (map citation_word (map cited citations.now)))) }
+    ensures within { IfOk result (λ end. end ≤ length bytes.new) }
+{
+    let mut at = start;
+    for citation in citations {
+        at = make_room(bytes, at, writer)?;
+        at = put_citation(bytes, at, rows, *citation);
+    }
+    Ok(at)
+}
+
+/// The rule of a barrier-OR, which is followed by room for a line feed.
+#[inline(never)]
+fn write_or<W: Write>(
+    bytes: &mut [u8],
+    at: usize,
+    rows: &Rows,
+    citations: &[Citation],
+    writer: &mut W,
+) -> Result<usize, WriterFailed>
+    requires room { at + 128 ≤ length bytes.old }
+    requires long { 256 ≤ length bytes.old }
+    ensures written { IfOk result (λ end. Gains (W.contents writer.old) bytes.old at (W.contents writer.new) bytes.new end (spaced (codes "or" ∷ map citation_word (map cited citations.now)))) }
+    ensures room { IfOk result (λ end. end + 1 ≤ length bytes.new) }
+{
+    let at = put(bytes, at, b" or");
+    let at = write_citations(bytes, at, rows, citations, writer)?;
+    make_room(bytes, at, writer)
+}
+
+/// A rule, which is followed by room for a line feed.
+#[inline(always)]
+fn write_rule<W: Write>(
+    bytes: &mut [u8],
+    at: usize,
+    rows: &Rows,
+    rule: &Rule,
+    writer: &mut W,
+) -> Result<usize, WriterFailed>
+    requires room { at + 128 ≤ length bytes.old }
+    requires long { 256 ≤ length bytes.old }
+    ensures written { IfOk result (λ end. Gains (W.contents writer.old) bytes.old at (W.contents writer.new) bytes.new end (spaced (rule_words (rule_of rule.now)))) }
+    ensures room { IfOk result (λ end. end + 1 ≤ length bytes.new) }
+{
+    match rule {
+        Rule::Bit(packet) => Ok(put_named(bytes, at, rows, b" bit", *packet)),
+        Rule::Queue => Ok(put(bytes, at, b" queue")),
+        Rule::And(slot) => Ok(put_named(bytes, at, rows, b" and", *slot)),
+        Rule::Or(branches) => write_or(bytes, at, rows, &branches.citations, writer),
+        Rule::Through(first, second) => Ok(put_through(bytes, at, rows, *first, *second)),
+    }
+}
+
+fn write_lines<W: Write>(
+    bytes: &mut [u8],
+    start: usize,
+    rows: &Rows,
+    lines: &[Line],
+    writer: &mut W,
+) -> Result<usize, WriterFailed>
+    requires within { start ≤ length bytes.old }
+    requires long { 256 ≤ length bytes.old }
+    ensures written { IfOk result (λ end. Gains (W.contents writer.old) bytes.old start (W.contents writer.new) bytes.new end (lines_text (lines_words 0 (map line_of lines.now)))) }
+    ensures within { IfOk result (λ end. end ≤ length bytes.new) }
+{
+    let mut at = start;
     for (k, line) in lines.iter().enumerate() {
-        pen.put_line(k, line)?;
-        spill(pen, writer)?;
+        at = make_room(bytes, at, writer)?;
+        at = put_line(bytes, at, rows, k, line);
+        at = write_rule(bytes, at, rows, &line.rule, writer)?;
+        at = put(bytes, at, b"\n");
     }
-    Ok(())
+    Ok(at)
 }
 
-fn write_pairs<W: Write>(pen: &mut Pen, pairs: &[Pair], writer: &mut W) -> io::Result<()>
-    ensures { OnOk result (Appends (append_known (W.contents writer.old) pen.old.bytes.items) (append_known (W.contents writer.new) pen.new.bytes.items) (lines_text (map pair_words (map pair_of pairs.now)))) }
+fn write_pairs<W: Write>(
+    bytes: &mut [u8],
+    start: usize,
+    rows: &Rows,
+    pairs: &[Pair],
+    writer: &mut W,
+) -> Result<usize, WriterFailed>
+    requires within { start ≤ length bytes.old }
+    requires long { 256 ≤ length bytes.old }
+    ensures written { IfOk result (λ end. Gains (W.contents writer.old) bytes.old start (W.contents writer.new) bytes.new end (lines_text (map pair_words (map pair_of pairs.now)))) }
+    ensures within { IfOk result (λ end. end ≤ length bytes.new) }
 {
+    let mut at = start;
     for pair in pairs {
-        pen.put_pair(pair)?;
-        spill(pen, writer)?;
+        at = make_room(bytes, at, writer)?;
+        at = put_pair(bytes, at, rows, pair);
     }
-    Ok(())
+    Ok(at)
+}
+
+/// The first line and the order.
+fn write_order<W: Write>(
+    bytes: &mut [u8],
+    rows: &Rows,
+    chained: bool,
+    order: &[u32],
+    writer: &mut W,
+) -> Result<usize, WriterFailed>
+    requires { 256 ≤ length bytes.old }
+    ensures written { IfOk result (λ end. Gains (W.contents writer.old) bytes.old 0 (W.contents writer.new) bytes.new end (line_text (head_words chained) ++ line_text (order_words order.now))) }
+    ensures within { IfOk result (λ end. end ≤ length bytes.new) }
+{
+    let at = put_head(bytes, 0, chained);
+    let at = put(bytes, at, b"order");
+    let at = write_numbers(bytes, at, rows, order, writer)?;
+    let at = make_room(bytes, at, writer)?;
+    Ok(put(bytes, at, b"\n"))
+}
+
+/// Writes the text of a certificate, by way of a buffer.
+fn write_text<W: Write>(
+    bytes: &mut [u8],
+    rows: &Rows,
+    certificate: &Certificate,
+    writer: &mut W,
+) -> Result<(), WriterFailed>
+    requires { 256 ≤ length bytes.old }
+    ensures { OnOk result (Appends (W.contents writer.old) (W.contents writer.new) (text_of certificate.now)) }
+{
+    let chained = has_chain(certificate.pairs());
+    let at = write_order(bytes, rows, chained, certificate.order(), writer)?;
+    let at = write_lines(bytes, at, rows, certificate.lines(), writer)?;
+    let at = write_pairs(bytes, at, rows, certificate.pairs(), writer)?;
+    let at = make_room(bytes, at, writer)?;
+    let at = put(bytes, at, b"end\n");
+    match writer.write_all(&bytes[..at]) {
+        Ok(()) => Ok(()),
+        Err(_) => Err(WriterFailed),
+    }
 }
 
 /// Why a certificate wasn't printed: there was no memory, and nothing was written; or the writer failed.
@@ -71,25 +250,12 @@ pub enum PrintFault {
     Writer,
 }
 
-/// The head and the order of a certificate, put into a buffer.
-fn begun(alloc: Global, certificate: &Certificate) -> Result<Pen, AllocError>
-    ensures { IfOk result (λ pen. pen.bytes.items ≡ line_text (head_words (has_chain certificate.now)) ++ line_text (order_words certificate.now.order)) }
+/// All memory that printing takes: a buffer, and the texts of small numbers.
+fn taken(alloc: Global) -> Result<(Vec<u8>, Rows), AllocError>
+    ensures { IfOk result (λ t. length t.0.items ≡ 32768) }
 {
-    let mut pen = Pen::new(alloc, 2 * ROOM)?;
-    pen.put_head(has_chain(certificate.pairs()))?;
-    pen.put_order(certificate.order())?;
-    Ok(pen)
-}
-
-/// Writes what was put, and the rest of a certificate.
-fn finish<W: Write>(pen: &mut Pen, certificate: &Certificate, writer: &mut W) -> io::Result<()>
-    requires { pen.old.bytes.items ≡ line_text (head_words (has_chain certificate.now)) ++ line_text (order_words certificate.now.order) }
-    ensures { OnOk result (Appends (W.contents writer.old) (W.contents writer.new) (text_of certificate.now)) }
-{
-    write_lines(pen, certificate.lines(), writer)?;
-    write_pairs(pen, certificate.pairs(), writer)?;
-    pen.put_end()?;
-    writer.write_all(pen.bytes())
+    let bytes = vec![in alloc; 0; ROOM]?;
+    Ok((bytes, Rows::new(alloc)?))
 }
 
 /// Writes the text of a certificate, which begins `hsac 2` exactly where a chained pair line is there. All memory is taken before
@@ -102,12 +268,12 @@ pub fn print<W: Write>(
     ensures written { OnOk result (Appends (W.contents writer.old) (W.contents writer.new) (text_of certificate.now)) }
     ensures unwritten { result ≡ Err PrintFault.Memory → writer.new ≡ writer.old }
 {
-    let mut pen = match begun(alloc, certificate) {
-        Ok(pen) => pen,
+    let (mut bytes, rows) = match taken(alloc) {
+        Ok(taken) => taken,
         Err(_) => return Err(PrintFault::Memory),
     };
-    match finish(&mut pen, certificate, writer) {
+    match write_text(&mut bytes, &rows, certificate, writer) {
         Ok(()) => Ok(()),
-        Err(_) => Err(PrintFault::Writer),
+        Err(WriterFailed) => Err(PrintFault::Writer),
     }
 }

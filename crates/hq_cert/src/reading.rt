@@ -53,7 +53,7 @@ fn split_words<'a>(words: &mut Vec<&'a [u8]>, line: &'a [u8]) -> Result<(), Allo
     words.extend(line.split(|b| *b == b' '))
 }
 
-/// Takes in the next line by its words.
+/// Takes in the next line, by its words.
 fn take_words<'a>(
     draft: &mut Draft,
     alloc: Global,
@@ -66,22 +66,6 @@ fn take_words<'a>(
     draft.add(alloc, words)
 }
 
-/// Takes in the next line.
-fn take_line<'a>(
-    draft: &mut Draft,
-    alloc: Global,
-    words: &mut Vec<&'a [u8]>,
-    line: &'a [u8],
-) -> Result<(), CertReason>
-    ensures { Gives (λ u. state_of draft.new) result (added (state_of draft.old) (words_of line.now)) }
-{
-    if draft.take(line)? {
-        Ok(())
-    } else {
-        take_words(draft, alloc, words, line)
-    }
-}
-
 /// Takes in all lines of a text.
 fn take_lines(draft: &mut Draft, alloc: Global, text: &[u8]) -> Result<usize, CertFault>
     requires { state_of draft.old ≡ start }
@@ -92,9 +76,17 @@ fn take_lines(draft: &mut Draft, alloc: Global, text: &[u8]) -> Result<usize, Ce
     let mut rest = text;
     let mut count = 0;
     while !rest.is_empty() {
-        let (line, behind) = first_line(rest);
+        let (taken, left) = match draft.take(rest) {
+            Ok(found) => found,
+            Err(reason) => return Err(fault_at(count, reason)),
+        };
+        count += taken;
+        if left.is_empty() {
+            return Ok(count);
+        }
+        let (line, behind) = first_line(left);
         count += 1;
-        if let Err(reason) = take_line(draft, alloc, &mut words, line) {
+        if let Err(reason) = take_words(draft, alloc, &mut words, line) {
             return Err(fault_at(count, reason));
         }
         rest = behind;

@@ -7,3 +7,7 @@ pub mod Flags
 pub mod Refusing
 pub mod Counting
 pub mod Leasts
+pub mod Places
+pub mod Lasts
+pub mod Bounds
+pub mod Counts

@@ -2,11 +2,12 @@
 use Rattle.std.proofs.Common.{◌≡◌, ℕ, ◌+◌, ◌<◌, ◌≤◌, ◌↔◌, inl, inr, List, length, sym, ◌∙◌, ap, subst, arith, slice_index, All}
 use Rattle.std.proofs.lemmas.Bool.{cases_lt, cases_eq}
 use Rattle.std.proofs.lemmas.List.{get_or_default}
+use Rattle.hq_job.specs.Access.{AreOfQueue}
 use Rattle.hq_model.specs.Job.{Job, IsPacket, Earlier}
 use Rattle.hq_model.specs.Order.{place, Ahead, EachOnce, OrderList}
 use Rattle.hq_model.specs.Theorems.{Valid}
 use Rattle.hq_model.proofs.Places.{at_place, place_once}
-use Rattle.hq_certcheck.specs.Placed.{ArePlaces, StandsAhead, KeepsOrder}
+use Rattle.hq_certcheck.specs.Placed.{ArePlaces, StandsAhead, RisesOn, KeepsQueue, KeepsOrder}
 
 -- ---- every packet once
 
@@ -38,6 +39,19 @@ ahead_by job list places table p r p_is r_is = (λ h. omega (arith, h, table.at 
 
 first_is : (job : Job) (p r : ℕ) → Earlier job p r → IsPacket job p
 first_is job p r e = let a : p < r = e.ahead in let b : r < length job.packets = e.is_packet in omega arith
+
+-- where these are the packets of a queue, their places rise exactly where the queue's order is kept
+pub queue_kept : (job : Job) (places : List ℕ) (queue start stop : ℕ) → AreOfQueue job queue start stop → RisesOn places start stop ↔ KeepsQueue job places queue
+queue_kept job places queue start stop a = (
+  λ h p r e same.
+      let p_in = a.within p (first_is job p r e) (e.same_queue ∙ same) in
+      let r_in = a.within r e.is_packet same in
+      h p r p_in.0 e.ahead r_in.1,
+  λ h p r low ahead high.
+      let p_of = a.of_queue p low (omega (arith, ahead, high)) in
+      let r_of = a.of_queue r (omega (arith, low, ahead)) high in
+      h p r (record { ahead = ahead; is_packet = r_of.0; same_queue = p_of.1 ∙ sym r_of.1 }) r_of.1,
+)
 
 module _ (job : Job) (list places turns : List ℕ) (valid : Valid job) (table : ArePlaces job list places) (submitted : ArePlaces job job.submissions turns) where
   pub order_of : EachOnce job list → KeepsOrder job turns places → OrderList job list

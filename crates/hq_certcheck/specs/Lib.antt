@@ -1,5 +1,6 @@
 pub mod Brief
 pub mod Covering
+pub mod Extents
 pub mod Listed
 pub mod Placed
 pub mod Refusals

@@ -1,5 +1,5 @@
 -- Order lists by tables: each packet's place in a list.
-use Rattle.std.specs.Prelude.{◌≡◌, ℕ, ◌<◌, ◌≤◌, List, length, slice_index}
+use Rattle.std.specs.Prelude.{◌≡◌, ℕ, ◌<◌, ◌≤◌, ◌↔◌, List, length, slice_index, slice_index_or, Option, None, Some, IfSome}
 use Rattle.hq_model.specs.Job.{Job, packet, IsPacket, Earlier, Dependency, Decrements, Frees}
 use Rattle.hq_model.specs.Job.Kind.{BarrierAnd, BarrierOr}
 use Rattle.hq_model.specs.Order.{place}
@@ -16,6 +16,25 @@ ArePlaces job list table = IsTable (length job.packets) (place list) table
 -- By the table, p stands ahead of r.
 abbrev pub StandsAhead : List ℕ → ℕ → ℕ → Type 0
 StandsAhead places p r = slice_index places p < slice_index places r
+
+-- From one packet to another the places rise.
+abbrev pub RisesOn : List ℕ → ℕ → ℕ → Type 0
+RisesOn places start stop = (p r : ℕ) → start ≤ p → p < r → r < stop → StandsAhead places p r
+
+-- The packets of a queue stand in its order.
+abbrev pub KeepsQueue : Job → List ℕ → ℕ → Type 0
+KeepsQueue job places queue = (p r : ℕ) → Earlier job p r → (packet job r).queue ≡ queue → StandsAhead places p r
+
+-- For each signal, the last place at which a packet completes on it, if one does.
+pub record AreLasts (job : Job) (places : List ℕ) (count : ℕ) (lasts : List (Option ℕ)) : Type 0 where
+  pub len : length lasts ≡ count
+  pub last : (s b : ℕ) → IfSome (slice_index_or lasts s None) (λ l. l < b) ↔ ((d : ℕ) → Decrements job d s → slice_index places d < b)
+
+-- The place is noted for the signal, if there is one.
+pub record IsNoted (old new : List (Option ℕ)) (done : Option ℕ) (place : ℕ) : Type 0 where
+  pub len : length new ≡ length old
+  pub here : (s b : ℕ) → done ≡ Some s → IfSome (slice_index_or new s None) (λ l. l < b) ↔ (IfSome (slice_index_or old s None) (λ l. l < b) × (place < b))
+  pub elsewhere : (s : ℕ) → (done ≡ Some s → ⊥) → slice_index_or new s None ≡ slice_index_or old s None
 
 -- Whatever completes on the signal stands ahead of r.
 abbrev pub IsOverBefore : Job → List ℕ → ℕ → ℕ → Type 0

@@ -7,7 +7,9 @@ ghost use Rattle.hq_model.specs.Job.{IsPacket};
 ghost use Rattle.hq_model.specs.Fence.{Conflict, Conflicts};
 ghost use Rattle.hq_model.specs.Certificate.{kind_of};
 ghost use Rattle.hq_certcheck.specs.Covering.{Covered, FirstMissing, has_kind, cell, AreListed, IsMarked, AreFlagged, IsFlagged, AllFlagged, FirstUnflaggedAfter, FirstUnflagged, NoneMissing};
+ghost use Rattle.hq_certcheck.specs.Extents.{AreExtents};
 
+use crate::extents::{Extent, are_apart, extents};
 use hq_cert::{Certificate, Fences, Pair};
 use hq_footprint::Kinds;
 use hq_job::Job;
@@ -126,14 +128,26 @@ fn is_flagged(job: &Job, cells: &[Kinds], p: usize, r: usize) -> bool
     are_flagged(job, cells, p, r) || are_flagged(job, cells, r, p)
 }
 
+/// Whether each conflict of p with r has its flags, where the extents don't tell that there is none.
+fn lacks_none(job: &Job, extents: &[Extent], cells: &[Kinds], p: usize, r: usize) -> bool
+    requires extents { AreExtents (plan job.now) extents.now }
+    requires len { length cells.now ≡ length job.now.packets * length job.now.packets }
+    requires p_is { p < length job.now.packets }
+    requires r_is { r < length job.now.packets }
+    ensures { IsTrue result ↔ IsFlagged (plan job.now) cells.now (length job.now.packets) p r }
+{
+    are_apart(extents, p, r) || is_flagged(job, cells, p, r)
+}
+
 /// The least packet after p whose conflicts with p lack flags.
-fn first_unflagged_after(job: &Job, cells: &[Kinds], p: usize) -> Option<usize>
+fn first_unflagged_after(job: &Job, extents: &[Extent], cells: &[Kinds], p: usize) -> Option<usize>
+    requires extents { AreExtents (plan job.now) extents.now }
     requires len { length cells.now ≡ length job.now.packets * length job.now.packets }
     requires p_is { p < length job.now.packets }
     ensures { MatchOption result (AllFlagged (plan job.now) cells.now (length job.now.packets) p (length job.now.packets)) (λ r. FirstUnflaggedAfter (plan job.now) cells.now (length job.now.packets) p r) }
 {
     for r in p + 1..job.packets().len() {
-        if !is_flagged(job, cells, p, r) {
+        if !lacks_none(job, extents, cells, p, r) {
             return Some(r);
         }
     }
@@ -141,13 +155,14 @@ fn first_unflagged_after(job: &Job, cells: &[Kinds], p: usize) -> Option<usize>
 }
 
 /// The first packets in number order whose conflicts lack flags.
-fn first_unflagged(job: &Job, cells: &[Kinds]) -> Option<(u16, u16)>
-    requires { length cells.now ≡ length job.now.packets * length job.now.packets }
+fn first_unflagged(job: &Job, extents: &[Extent], cells: &[Kinds]) -> Option<(u16, u16)>
+    requires extents { AreExtents (plan job.now) extents.now }
+    requires len { length cells.now ≡ length job.now.packets * length job.now.packets }
     ensures { MatchOption result ((p : ℕ) → p < length job.now.packets → AllFlagged (plan job.now) cells.now (length job.now.packets) p (length job.now.packets)) (λ found. FirstUnflagged (plan job.now) cells.now (length job.now.packets) found.0 found.1) }
 {
     job.valid();
     for p in 0..job.packets().len() {
-        if let Some(r) = first_unflagged_after(job, cells, p) {
+        if let Some(r) = first_unflagged_after(job, extents, cells, p) {
             return Some((p as u16, r as u16));
         }
     }
@@ -155,11 +170,17 @@ fn first_unflagged(job: &Job, cells: &[Kinds]) -> Option<(u16, u16)>
 }
 
 /// The first packets in number order whose conflicts lack pair lines, by the table.
-fn missing_by(job: &Job, certificate: &Certificate, cells: &[Kinds]) -> Option<(u16, u16)>
-    requires { AreListed certificate.now.pairs (length certificate.now.pairs) (length job.now.packets) cells.now }
+fn missing_by(
+    job: &Job,
+    certificate: &Certificate,
+    extents: &[Extent],
+    cells: &[Kinds],
+) -> Option<(u16, u16)>
+    requires extents { AreExtents (plan job.now) extents.now }
+    requires listed { AreListed certificate.now.pairs (length certificate.now.pairs) (length job.now.packets) cells.now }
     ensures { MatchOption result (NoneMissing (plan job.now) certificate.now) (λ pair. FirstMissing (plan job.now) certificate.now pair.0 pair.1) }
 {
-    first_unflagged(job, cells)
+    first_unflagged(job, extents, cells)
 }
 
 /// The first packets in number order whose conflicts lack pair lines, in both directions.
@@ -171,6 +192,7 @@ pub fn first_missing(
     ensures { IfOk result (λ found. MatchOption found (NoneMissing (plan job.now) certificate.now) (λ pair. FirstMissing (plan job.now) certificate.now pair.0 pair.1)) }
 {
     job.valid();
+    let extents = extents(alloc, job)?;
     let cells = listed(alloc, job.packets().len(), certificate.pairs())?;
-    Ok(missing_by(job, certificate, &cells))
+    Ok(missing_by(job, certificate, &extents, &cells))
 }

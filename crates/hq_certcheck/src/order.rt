@@ -1,40 +1,39 @@
 //! Order lists.
 
-ghost use Rattle.std.specs.Prelude.{◌≡◌, ℕ, ◌<◌, ◌↔◌, IsTrue, IfOk, All, length};
+ghost use Rattle.std.specs.Prelude.{◌≡◌, ℕ, ◌<◌, ◌≤◌, ◌↔◌, IsTrue, IfOk, All, length};
 ghost use Rattle.hq_job.specs.Plan.{plan};
 ghost use Rattle.hq_model.specs.Job.{IsPacket, Earlier, place_in_queue};
 ghost use Rattle.hq_model.specs.Order.{OrderList};
-ghost use Rattle.hq_certcheck.specs.Placed.{IsTable, ArePlaces, StandsAhead, KeepsOrder};
+ghost use Rattle.hq_certcheck.specs.Placed.{IsTable, ArePlaces, StandsAhead, RisesOn, KeepsQueue, AreLasts, KeepsOrder};
 
-use crate::packets::is_earlier;
 use crate::placing::{each_once, places};
 use crate::rings::{all_have_slots, queue_places};
-use crate::waits::all_have_waited;
+use crate::waits::{all_have_waited, last_places};
 use hq_job::Job;
 use std::alloc::{AllocError, Global};
+use std::ops::Range;
 
-/// Whether p stands before r in one queue, and not ahead of it in the order.
-fn is_overtaken(job: &Job, places: &[usize], p: usize, r: usize) -> bool
-    requires count { length places.now ≡ length job.now.packets }
-    requires p_is { p < length job.now.packets }
-    requires r_is { r < length job.now.packets }
-    ensures { IsTrue result ↔ (Earlier (plan job.now) p r × ¬ StandsAhead places.now p r) }
+/// Whether the places of these packets rise.
+fn rise(places: &[usize], span: Range<usize>) -> bool
+    requires { (p : ℕ) → span.start ≤ p → p < span.end → p < length places.now }
+    ensures { IsTrue result ↔ RisesOn places.now span.start span.end }
 {
-    is_earlier(job, p, r) && places[p] >= places[r]
-}
-
-/// Whether all that stand before r in its queue stand ahead of it in the order.
-fn keeps_queue(job: &Job, places: &[usize], r: usize) -> bool
-    requires count { length places.now ≡ length job.now.packets }
-    requires r_is { r < length job.now.packets }
-    ensures { IsTrue result ↔ ((p : ℕ) → Earlier (plan job.now) p r → StandsAhead places.now p r) }
-{
-    for p in 0..r {
-        if is_overtaken(job, places, p, r) {
+    let start = span.start;
+    for r in start..span.end {
+        if r > start && places[r - 1] >= places[r] {
             return false;
         }
     }
     true
+}
+
+/// Whether the order keeps that of a queue.
+fn keeps_queue(job: &Job, places: &[usize], queue: usize) -> bool
+    requires count { length places.now ≡ length job.now.packets }
+    requires queue_is { queue < length job.now.queues }
+    ensures { IsTrue result ↔ KeepsQueue (plan job.now) places.now queue }
+{
+    rise(places, job.of_queue(queue))
 }
 
 /// Whether the order keeps that of each queue.
@@ -42,8 +41,9 @@ fn all_keep_queues(job: &Job, places: &[usize]) -> bool
     requires { length places.now ≡ length job.now.packets }
     ensures { IsTrue result ↔ ((p r : ℕ) → Earlier (plan job.now) p r → StandsAhead places.now p r) }
 {
-    for r in 0..job.packets().len() {
-        if !keeps_queue(job, places, r) {
+    job.valid();
+    for queue in 0..job.queues().len() {
+        if !keeps_queue(job, places, queue) {
             return false;
         }
     }
@@ -51,14 +51,21 @@ fn all_keep_queues(job: &Job, places: &[usize]) -> bool
 }
 
 /// Whether the places keep the order of the queues, of what is waited for, and of slots.
-fn keeps_order(job: &Job, queue_places: &[usize], turns: &[usize], places: &[usize]) -> bool
+fn keeps_order(
+    job: &Job,
+    queue_places: &[usize],
+    turns: &[usize],
+    places: &[usize],
+    lasts: &[Option<usize>],
+) -> bool
+    requires lasts { AreLasts (plan job.now) places.now (length job.now.signals) lasts.now }
     requires queue_places { IsTable (length job.now.packets) (place_in_queue (plan job.now)) queue_places.now }
     requires turns { length turns.now ≡ length job.now.packets }
     requires count { length places.now ≡ length job.now.packets }
     ensures { IsTrue result ↔ KeepsOrder (plan job.now) turns.now places.now }
 {
     all_keep_queues(job, places)
-        && all_have_waited(job, places)
+        && all_have_waited(job, places, lasts)
         && all_have_slots(job, queue_places, turns, places)
 }
 
@@ -69,7 +76,9 @@ fn is_kept(
     turns: &[usize],
     list: &[u16],
     places: &[usize],
+    lasts: &[Option<usize>],
 ) -> bool
+    requires lasts { AreLasts (plan job.now) places.now (length job.now.signals) lasts.now }
     requires queue_places { IsTable (length job.now.packets) (place_in_queue (plan job.now)) queue_places.now }
     requires turns { ArePlaces (plan job.now) job.now.submissions turns.now }
     requires packets { All (IsPacket (plan job.now)) list.now }
@@ -77,7 +86,7 @@ fn is_kept(
     ensures { IsTrue result ↔ OrderList (plan job.now) list.now }
 {
     job.valid();
-    each_once(job, list, places) && keeps_order(job, queue_places, turns, places)
+    each_once(job, list, places) && keeps_order(job, queue_places, turns, places, lasts)
 }
 
 /// Whether a list of packets is an order list of the job.
@@ -88,5 +97,6 @@ pub fn is_order_list(alloc: Global, job: &Job, list: &[u16]) -> Result<bool, All
     let queue_places = queue_places(alloc, job)?;
     let turns = places(alloc, job, job.submissions())?;
     let places = places(alloc, job, list)?;
-    Ok(is_kept(job, &queue_places, &turns, list, &places))
+    let lasts = last_places(alloc, job, &places)?;
+    Ok(is_kept(job, &queue_places, &turns, list, &places, &lasts))
 }

@@ -25,27 +25,25 @@ pub fn numbers(alloc: Global, job: &Job, list: &[u32]) -> Result<Option<Vec<u16>
     Ok(Some(numbers))
 }
 
-/// The first place of the number in the list, or the list's length.
-fn place_of(list: &[u16], number: usize) -> usize
-    ensures { result ≡ place list.now number }
+/// Sets the place of each number of the list, the last place first.
+fn set_places(places: &mut [usize], list: &[u16])
+    requires { (p : ℕ) → p < length places.old → slice_index places.old p ≡ length list.now }
+    ensures { IsTable (length places.old) (place list.now) places.new }
 {
-    for (place, other) in list.iter().enumerate() {
-        if *other as usize == number {
-            return place;
+    for at in (0..list.len()).rev() {
+        let number = list[at] as usize;
+        if number < places.len() {
+            places[number] = at;
         }
     }
-    list.len()
 }
 
 /// The place of each packet in the list.
 pub fn places(alloc: Global, job: &Job, list: &[u16]) -> Result<Vec<usize>, AllocError>
     ensures { IfOk result (λ places. ArePlaces (plan job.now) list.now places.items) }
 {
-    let count = job.packets().len();
-    let mut places = Vec::with_capacity(alloc, count)?;
-    for number in 0..count {
-        places.push(place_of(list, number))?;
-    }
+    let mut places = vec![in alloc; list.len(); job.packets().len()]?;
+    set_places(&mut places, list);
     Ok(places)
 }
 

@@ -1,36 +1,47 @@
 //! Whether what frees a packet's slot stands ahead of it, where queues are rings.
 
-ghost use Rattle.std.specs.Prelude.{◌≡◌, ℕ, ◌<◌, ◌≤◌, ◌↔◌, IsTrue, IfOk, length, slice_index};
+ghost use Rattle.std.specs.Prelude.{◌≡◌, ℕ, ◌<◌, ◌≤◌, ◌↔◌, IsTrue, IfOk, OnOk, [], length, slice_index};
 ghost use Rattle.hq_job.specs.Plan.{plan};
-ghost use Rattle.hq_model.specs.Job.{IsPacket, place_in_queue, Frees};
+ghost use Rattle.hq_model.specs.Job.{packet, IsPacket, place_in_queue, Frees};
 ghost use Rattle.hq_certcheck.specs.Placed.{IsTable, StandsAhead, HasSlot};
 
 use crate::packets::same_queue;
 use hq_job::Job;
 use std::alloc::{AllocError, Global};
 
-/// How many packets of its queue stand before a packet.
-fn place_in_queue(job: &Job, number: usize) -> usize
+/// The queue of a packet.
+fn queue_of(job: &Job, number: usize) -> usize
     requires { number < length job.now.packets }
-    ensures { result ≡ place_in_queue (plan job.now) number }
+    ensures queue { result ≡ (packet (plan job.now) number).queue }
+    ensures there { result < length job.now.queues }
 {
-    let packets = job.packets();
-    let queue = packets[number].queue;
-    packets[..number]
-        .iter()
-        .filter(|packet| packet.queue == queue)
-        .count()
+    job.valid();
+    job.packet(number).queue as usize
+}
+
+/// Appends the place of each packet in its queue, where `next` has no packet counted.
+fn count_places(table: &mut Vec<usize>, next: &mut [usize], job: &Job) -> Result<(), AllocError>
+    requires empty { table.old.items ≡ [] }
+    requires queues { length next.old ≡ length job.now.queues }
+    requires none { (q : ℕ) → q < length next.old → slice_index next.old q ≡ 0 }
+    ensures { OnOk result (IsTable (length job.now.packets) (place_in_queue (plan job.now)) table.new.items) }
+{
+    job.valid();
+    for number in 0..job.packets().len() {
+        let queue = queue_of(job, number);
+        table.push(next[queue])?;
+        next[queue] += 1;
+    }
+    Ok(())
 }
 
 /// The place of each packet in its queue.
 pub fn queue_places(alloc: Global, job: &Job) -> Result<Vec<usize>, AllocError>
     ensures { IfOk result (λ table. IsTable (length job.now.packets) (place_in_queue (plan job.now)) table.items) }
 {
-    let count = job.packets().len();
-    let mut table = Vec::with_capacity(alloc, count)?;
-    for number in 0..count {
-        table.push(place_in_queue(job, number))?;
-    }
+    let mut table = Vec::with_capacity(alloc, job.packets().len())?;
+    let mut next = vec![in alloc; 0; job.queues().len()]?;
+    count_places(&mut table, &mut next, job)?;
     Ok(table)
 }
 
@@ -94,6 +105,9 @@ pub fn all_have_slots(job: &Job, queue_places: &[usize], turns: &[usize], places
     requires count { length places.now ≡ length job.now.packets }
     ensures { IsTrue result ↔ ((m : ℕ) → IsPacket (plan job.now) m → HasSlot (plan job.now) turns.now places.now m) }
 {
+    if !job.rings() {
+        return true;
+    }
     for m in 0..job.packets().len() {
         if !has_slot(job, queue_places, turns, places, m) {
             return false;

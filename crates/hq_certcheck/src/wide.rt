@@ -19,6 +19,9 @@ use rayon::prelude::*;
 use std::alloc::Global;
 use std::thread::Threads;
 
+/// How many lines are worth a thread of their own.
+const LEAST_LINES: usize = 8192;
+
 /// Whether line k doesn't hold.
 fn is_bad(job: &Job, lines: &[Line], k: usize) -> bool
     requires { k < length lines.now }
@@ -31,7 +34,8 @@ fn is_bad(job: &Job, lines: &[Line], k: usize) -> bool
 fn first_bad_line(rt: &(impl Threads + Sync), job: &Job, lines: &[Line]) -> Option<usize>
     ensures { MatchOption result ((k : ℕ) → LineFollows (plan job.now) (map line_of lines.now) k) (FirstBadLine (plan job.now) (map line_of lines.now)) }
 {
-    (0..lines.len()).into_par_iter().position_first(
+    let places = (0..lines.len()).into_par_iter().with_min_len(LEAST_LINES);
+    places.position_first(
         rt,
         |k: usize| -> bool
             requires { k < length lines.now }

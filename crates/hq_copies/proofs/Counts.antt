@@ -156,7 +156,7 @@ pub at_false : (test : ℕ → Bool) (bytes : List ℕ) (n : ℕ) → test n ≡
 at_false test bytes n h = cond-false (test n) (Some (get_or bytes (count_below test n) 0)) None h
 
 -- the test decides at a number that isn't b alike, and the byte's place gives the same byte
-at_other : (f g : ℕ → Bool) (old new : List ℕ) (n : ℕ) → g n ≡ f n → (f n ≡ true → get_or new (count_below g n) 0 ≡ get_or old (count_below f n) 0) → byte_at g new n ≡ byte_at f old n
+pub at_other : (f g : ℕ → Bool) (old new : List ℕ) (n : ℕ) → g n ≡ f n → (f n ≡ true → get_or new (count_below g n) 0 ≡ get_or old (count_below f n) 0) → byte_at g new n ≡ byte_at f old n
 at_other f g old new n same there = elim (cases_Bool (f n)) [
   | inl h ↦ at_true g new n (same ∙ h) ∙ ap Some (there h) ∙ sym (at_true f old n h)
   | inr h ↦ at_false g new n (same ∙ h) ∙ sym (at_false f old n h)

@@ -4,7 +4,7 @@ use Rattle.std.proofs.lemmas.Bool.{cases_lt, cases_order, cond-true, cond-false,
 use Rattle.std.specs.List.{insert, remove}
 use Rattle.hq_copies.specs.Edges.{has, IsRising, is_odd, toggled, ceiling}
 
-not_not : (b : Bool) → not (not b) ≡ b
+pub not_not : (b : Bool) → not (not b) ≡ b
 not_not true = refl
 not_not false = refl
 

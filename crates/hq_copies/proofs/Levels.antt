@@ -1,146 +1,161 @@
--- The finite map that clean bytes and dirty ones are, and what changes of either make of it.
-use Rattle.std.proofs.Common.{◌≡◌, ℕ, ◌≤◌, ◌≢◌, true, false, inl, inr, List, refl, sym, ◌∙◌, ap, ap₂, cond, max, arith, subst, Option, Some, None, is_some}
-use Rattle.std.proofs.lemmas.Bool.{cases_eq, true≢false}
+-- The finite map that lower bytes and upper ones are, and what changes of either make of it.
+use Rattle.std.proofs.Common.{◌≡◌, ℕ, zero, suc, ◌-◌, ◌≤◌, ◌≢◌, Bool, true, false, not, inl, inr, List, refl, sym, ◌∙◌, ap, ap₂, cond, max, arith, Option, Some, None, is_some, Result, Ok, Err, OnErr}
+use Rattle.std.proofs.lemmas.Bool.{cases_lt, cases_eq, cond-false}
 use Rattle.std.specs.FinMap as finite
-use Rattle.std.specs.Ordering.{nat_cmp}
 use Rattle.std.specs.Cmp.{nat_cmp_total}
+use Rattle.std.specs.Bool.{beq}
 use Rattle.hq_model.specs.Machine.{Copy, is_dirty}
-use Rattle.hq_copies.specs.Copies.{a_copy, dirty_only, NoneDirty, IsFirstDirty, IsClean}
-use Rattle.hq_copies.specs.Edges.{has, byte_at, ceiling, IsRuns, marked, copy_at, level}
-use Rattle.hq_copies.specs.Levels.{IsLevel}
-use Rattle.hq_copies.specs.declared.runs.Runs.{Runs}
-use Rattle.hq_copies.specs.Marks.{IsFirst, SameRuns, AreRuns, byte_of}
+use Rattle.hq_model.specs.View.{Held}
+use Rattle.hq_copies.specs.declared.level.Level.TheInside.{Inside}
+use Rattle.hq_copies.specs.Copies.{a_copy, dirty_only, cleaned, taken, written, count_below, begins, begins_run, IsRunCount}
+use Rattle.hq_copies.specs.Edges.{has, byte_at, ceiling, IsRuns, layered, copy_at, level}
+use Rattle.hq_copies.specs.Levels.{IsLevel, level_of, IsLevelOf}
+use Rattle.hq_copies.specs.Marks.{byte_of}
+use Rattle.hq_copies.specs.Overlays.{or_lower, dirty_over, byte_over, has_mark}
 use Rattle.hq_copies.proofs.Edges.{has_beyond}
-use Rattle.hq_copies.proofs.Counts.{at_false}
+use Rattle.hq_copies.proofs.Counts.{at_false, step_false}
 use Rattle.hq_copies.proofs.Gathered.{get_gathered, same_held, get_inserted_same, get_inserted_other, get_removed_same, get_removed_other}
-use Rattle.hq_copies.proofs.Marks.{Changed}
 
 beyond : (edges bytes : List ℕ) (n : ℕ) → IsRuns edges bytes → ceiling edges ≤ n → byte_at (has edges) bytes n ≡ None
 beyond edges bytes n runs l = at_false (has edges) bytes n (has_beyond edges n l ∙ runs.ends)
 
 -- what the map gives
-pub get_level : (clean cb dirty db : List ℕ) (n : ℕ) → IsLevel clean cb dirty db → finite.get (level clean cb dirty db) n ≡ copy_at clean cb dirty db n
-get_level clean cb dirty db n is = get_gathered (copy_at clean cb dirty db) (max (ceiling clean) (ceiling dirty)) n (λ k l. ap₂ marked (beyond clean cb k is.clean_runs (omega arith)) (beyond dirty db k is.dirty_runs (omega arith)))
+get_level : (lower lb upper ub : List ℕ) (dirty : Bool) (n : ℕ) → IsLevel lower lb upper ub → finite.get (level lower lb upper ub dirty) n ≡ copy_at lower lb upper ub dirty n
+get_level lower lb upper ub dirty n is = get_gathered (copy_at lower lb upper ub dirty) (max (ceiling lower) (ceiling upper)) n (λ k l. ap₂ (layered dirty) (beyond upper ub k is.upper_runs (omega arith)) (beyond lower lb k is.lower_runs (omega arith)))
 
-marked_dirty : (clean : Option ℕ) (value : ℕ) → marked clean (Some value) ≡ Some (a_copy value true)
-marked_dirty None value = refl
-marked_dirty (Some other) value = refl
+-- the map that a level is gives its layers' copies, and a map that does is that one
+pub got : (l : Inside) (m : Held) → IsLevelOf l → level_of l ≡ m → (n : ℕ) → finite.get m n ≡ layered l.dirty (byte_of l.upper n) (byte_of l.lower n)
+got l m is e n = ap (λ t. finite.get t n) (sym e) ∙ get_level l.lower.edges.items l.lower.bytes.items l.upper.edges.items l.upper.bytes.items l.dirty n is
+
+pub given : (l : Inside) (m : Held) → IsLevelOf l → ((n : ℕ) → layered l.dirty (byte_of l.upper n) (byte_of l.lower n) ≡ finite.get m n) → level_of l ≡ m
+given l m is at = same_held (level_of l) m (λ n. get_level l.lower.edges.items l.lower.bytes.items l.upper.edges.items l.upper.bytes.items l.dirty n is ∙ at n)
 
 -- ---- changes of one number
 
-pub dirty_set : (clean cb dirty db c2 cb2 d2 db2 : List ℕ) (b v : ℕ) → IsLevel clean cb dirty db → Changed clean cb b None c2 cb2 → Changed dirty db b (Some v) d2 db2 → IsLevel c2 cb2 d2 db2
-dirty_set clean cb dirty db c2 cb2 d2 db2 b v is c d = record {
-  clean_runs = c.runs;
-  dirty_runs = d.runs;
-  apart = λ n. elim (cases_eq n b) [
-    | inl same ↦ inl (ap (byte_at (has c2) cb2) same ∙ c.same)
-    | inr o ↦ elim (is.apart n) [ inl none ↦ inl (c.others n o ∙ none) | inr none ↦ inr (d.others n o ∙ none) ]
-  ];
-}
+pub inserted : (m : Held) (b : ℕ) (copy : Copy) (f : ℕ → Option Copy) → f b ≡ Some copy → ((n : ℕ) → n ≢ b → f n ≡ finite.get m n) → (n : ℕ) → f n ≡ finite.get (finite.insert m b copy) n
+inserted m b copy f same others n = elim (cases_eq n b) [
+  | inl e ↦ ap f e ∙ same ∙ sym (ap (finite.get (finite.insert m b copy)) e ∙ get_inserted_same m b copy)
+  | inr d ↦ others n d ∙ sym (get_inserted_other m b copy n d)
+]
 
-pub clean_set : (clean cb dirty db c2 cb2 d2 db2 : List ℕ) (b v : ℕ) → IsLevel clean cb dirty db → Changed clean cb b (Some v) c2 cb2 → Changed dirty db b None d2 db2 → IsLevel c2 cb2 d2 db2
-clean_set clean cb dirty db c2 cb2 d2 db2 b v is c d = record {
-  clean_runs = c.runs;
-  dirty_runs = d.runs;
-  apart = λ n. elim (cases_eq n b) [
-    | inl same ↦ inr (ap (byte_at (has d2) db2) same ∙ d.same)
-    | inr o ↦ elim (is.apart n) [ inl none ↦ inl (c.others n o ∙ none) | inr none ↦ inr (d.others n o ∙ none) ]
-  ];
-}
+pub removed : (m : Held) (b : ℕ) (f : ℕ → Option Copy) → f b ≡ None → ((n : ℕ) → n ≢ b → f n ≡ finite.get m n) → (n : ℕ) → f n ≡ finite.get (finite.remove m b) n
+removed m b f same others n = elim (cases_eq n b) [
+  | inl e ↦ ap f e ∙ same ∙ sym (ap (finite.get (finite.remove m b)) e ∙ get_removed_same m b)
+  | inr d ↦ others n d ∙ sym (get_removed_other m b n d)
+]
 
-pub clean_gone : (clean cb dirty db c2 cb2 : List ℕ) (b : ℕ) → IsLevel clean cb dirty db → Changed clean cb b None c2 cb2 → IsLevel c2 cb2 dirty db
-clean_gone clean cb dirty db c2 cb2 b is c = record {
-  clean_runs = c.runs;
-  dirty_runs = is.dirty_runs;
-  apart = λ n. elim (cases_eq n b) [
-    | inl same ↦ inl (ap (byte_at (has c2) cb2) same ∙ c.same)
-    | inr o ↦ elim (is.apart n) [ inl none ↦ inl (c.others n o ∙ none) | inr none ↦ inr none ]
-  ];
-}
+-- ---- layers
 
--- one number's copy is set
-put_copy : (clean cb dirty db c2 cb2 d2 db2 : List ℕ) (b : ℕ) (copy : Copy) → IsLevel clean cb dirty db → IsLevel c2 cb2 d2 db2 → copy_at c2 cb2 d2 db2 b ≡ Some copy → ((n : ℕ) → n ≢ b → copy_at c2 cb2 d2 db2 n ≡ copy_at clean cb dirty db n) → level c2 cb2 d2 db2 ≡ finite.insert (level clean cb dirty db) b copy
-put_copy clean cb dirty db c2 cb2 d2 db2 b copy is new at others = same_held (level c2 cb2 d2 db2) (finite.insert (level clean cb dirty db) b copy) (λ n. elim (cases_eq n b) [
-  | inl same ↦ ap (finite.get (level c2 cb2 d2 db2)) same ∙ get_level c2 cb2 d2 db2 b new ∙ at ∙ sym (ap (finite.get (finite.insert (level clean cb dirty db) b copy)) same ∙ get_inserted_same (level clean cb dirty db) b copy)
-  | inr o ↦ get_level c2 cb2 d2 db2 n new ∙ others n o ∙ sym (get_inserted_other (level clean cb dirty db) b copy n o ∙ get_level clean cb dirty db n is)
-])
+pub settled : (upper lower : Option ℕ) → layered true None (or_lower upper lower) ≡ layered false upper lower
+settled None lower = refl
+settled (Some value) lower = refl
 
-pub level_dirty : (clean cb dirty db c2 cb2 d2 db2 : List ℕ) (b v : ℕ) → IsLevel clean cb dirty db → Changed clean cb b None c2 cb2 → Changed dirty db b (Some v) d2 db2 → level c2 cb2 d2 db2 ≡ finite.insert (level clean cb dirty db) b (a_copy v true)
-level_dirty clean cb dirty db c2 cb2 d2 db2 b v is c d = put_copy clean cb dirty db c2 cb2 d2 db2 b (a_copy v true) is (dirty_set clean cb dirty db c2 cb2 d2 db2 b v is c d) (ap₂ marked c.same d.same) (λ n o. ap₂ marked (c.others n o) (d.others n o))
+pub over_layers : (run upper lower : Option ℕ) → layered true (or_lower run upper) lower ≡ dirty_over run (layered true upper lower)
+over_layers None upper lower = refl
+over_layers (Some value) upper lower = refl
 
-pub level_clean : (clean cb dirty db c2 cb2 d2 db2 : List ℕ) (b v : ℕ) → IsLevel clean cb dirty db → Changed clean cb b (Some v) c2 cb2 → Changed dirty db b None d2 db2 → level c2 cb2 d2 db2 ≡ finite.insert (level clean cb dirty db) b (a_copy v false)
-level_clean clean cb dirty db c2 cb2 d2 db2 b v is c d = put_copy clean cb dirty db c2 cb2 d2 db2 b (a_copy v false) is (clean_set clean cb dirty db c2 cb2 d2 db2 b v is c d) (ap₂ marked c.same d.same) (λ n o. ap₂ marked (c.others n o) (d.others n o))
+pub clean_layers : (dirty : Bool) (upper lower : Option ℕ) → layered false upper lower ≡ cleaned (layered dirty upper lower)
+clean_layers dirty None None = refl
+clean_layers dirty None (Some value) = refl
+clean_layers dirty (Some value) lower = refl
 
--- a number with a clean copy has no dirty byte
-none_dirty : (clean dirty : Option ℕ) (v : ℕ) → marked clean dirty ≡ Some (a_copy v false) → dirty ≡ None
-none_dirty clean None v e = refl
-none_dirty None (Some w) v e = absurd (true≢false (ap is_dirty e))
-none_dirty (Some x) (Some w) v e = absurd (true≢false (ap is_dirty e))
+pub only_dirty : (upper lower : Option ℕ) → layered true upper None ≡ cond (is_dirty (layered true upper lower)) (layered true upper lower) None
+only_dirty None None = refl
+only_dirty None (Some value) = refl
+only_dirty (Some value) lower = refl
 
-pub level_gone : (clean cb dirty db c2 cb2 : List ℕ) (b : ℕ) → IsLevel clean cb dirty db → Changed clean cb b None c2 cb2 → IsClean (finite.get (level clean cb dirty db) b) → level c2 cb2 dirty db ≡ finite.remove (level clean cb dirty db) b
-level_gone clean cb dirty db c2 cb2 b is c clean_there = same_held (level c2 cb2 dirty db) (finite.remove (level clean cb dirty db) b) (λ n. elim (cases_eq n b) [
-  | inl same ↦
-      let gone : byte_at (has dirty) db b ≡ None = none_dirty (byte_at (has clean) cb b) (byte_at (has dirty) db b) clean_there.0 (sym (get_level clean cb dirty db b is) ∙ clean_there.1) in
-      ap (finite.get (level c2 cb2 dirty db)) same ∙ get_level c2 cb2 dirty db b new ∙ ap₂ marked c.same gone ∙ sym (ap (finite.get (finite.remove (level clean cb dirty db) b)) same ∙ get_removed_same (level clean cb dirty db) b)
-  | inr o ↦ get_level c2 cb2 dirty db n new ∙ ap (λ t. marked t (byte_at (has dirty) db n)) (c.others n o) ∙ sym (get_removed_other (level clean cb dirty db) b n o ∙ get_level clean cb dirty db n is)
-])
+pub none_dirty : (upper lower : Option ℕ) → is_dirty (layered false upper lower) ≡ false
+none_dirty None None = refl
+none_dirty None (Some value) = refl
+none_dirty (Some value) lower = refl
+
+pub dirty_upper : (upper lower : Option ℕ) → is_dirty (layered true upper lower) ≡ is_some upper
+dirty_upper None None = refl
+dirty_upper None (Some value) = refl
+dirty_upper (Some value) lower = refl
+
+pub get_only : (m : Held) (n : ℕ) → finite.get (dirty_only m) n ≡ cond (is_dirty (finite.get m n)) (finite.get m n) None
+get_only m n = finite.get-retain_keys m (λ k. is_dirty (finite.get m k)) n (λ x t. ap (λ r. is_dirty r) (finite.get_tied nat_cmp_total m n x t))
+
+no_dirty : (copy : Option Copy) → is_dirty copy ≡ false → cond (is_dirty copy) copy None ≡ None
+no_dirty copy e = cond-false (is_dirty copy) copy None e
+
+pub nothing_kept : (upper lower : Option ℕ) → None ≡ cond (is_dirty (layered false upper lower)) (layered false upper lower) None
+nothing_kept upper lower = sym (no_dirty (layered false upper lower) (none_dirty upper lower))
+
+-- what dirty bytes do below
+pub feeds : (upper lower : Option ℕ) (below : Option Copy) → dirty_over upper below ≡ taken (layered true upper lower) below
+feeds None None below = refl
+feeds None (Some value) below = refl
+feeds (Some value) lower below = refl
+
+pub feeds_none : (upper lower : Option ℕ) (below : Option Copy) → below ≡ taken (layered false upper lower) below
+feeds_none None None below = refl
+feeds_none None (Some value) below = refl
+feeds_none (Some value) lower below = refl
+
+pub writes : (upper lower : Option ℕ) (byte : ℕ) → byte_over upper byte ≡ written (layered true upper lower) byte
+writes None None byte = refl
+writes None (Some value) byte = refl
+writes (Some value) lower byte = refl
+
+pub writes_none : (upper lower : Option ℕ) (byte : ℕ) → byte ≡ written (layered false upper lower) byte
+writes_none None None byte = refl
+writes_none None (Some value) byte = refl
+writes_none (Some value) lower byte = refl
+
+-- one run over those behind it, where they change copies or bytes below
+pub run_feeds : (run behind : Option ℕ) (below : Option Copy) → ((byte : ℕ) → run ≡ Some byte → behind ≡ None) → dirty_over behind (dirty_over run below) ≡ dirty_over (or_lower run behind) below
+run_feeds None behind below apart = refl
+run_feeds (Some byte) behind below apart = ap (λ t. dirty_over t (Some (a_copy byte true))) (apart byte refl)
+
+pub run_writes : (run behind : Option ℕ) (below : ℕ) → ((byte : ℕ) → run ≡ Some byte → behind ≡ None) → byte_over behind (byte_over run below) ≡ byte_over (or_lower run behind) below
+run_writes None behind below apart = refl
+run_writes (Some byte) behind below apart = ap (λ t. byte_over t byte) (apart byte refl)
+
+-- ---- runs
+
+-- a number begins a run: it is held, and it is the first or the one before isn't held with its mark
+pub begins_first : (m : Held) (n : ℕ) (value : ℕ) (dirty : Bool) → finite.get m n ≡ Some (a_copy value dirty) → n ≡ 0 → true ≡ begins_run m n
+begins_first m zero value dirty e z = sym (ap (λ t. begins t None) e)
+begins_first m (suc n) value dirty e z = absurd (omega arith)
+
+begins_not : (value : ℕ) (dirty : Bool) (before : Option Copy) → begins (Some (a_copy value dirty)) before ≡ not (has_mark before dirty)
+begins_not value dirty None = refl
+begins_not value true (Some copy) = flip copy.dirty
   where
-    new : IsLevel c2 cb2 dirty db
-    new = clean_gone clean cb dirty db c2 cb2 b is c
+    flip : (b : Bool) → not (beq true b) ≡ not (beq b true)
+    flip true = refl
+    flip false = refl
+begins_not value false (Some copy) = flip copy.dirty
+  where
+    flip : (b : Bool) → not (beq false b) ≡ not (beq b false)
+    flip true = refl
+    flip false = refl
 
--- ---- nothing, and dirty copies alone
+pub begins_later : (m : Held) (n : ℕ) (value : ℕ) (dirty : Bool) → finite.get m n ≡ Some (a_copy value dirty) → (n ≡ 0 → ⊥) → not (has_mark (finite.get m (n - 1)) dirty) ≡ begins_run m n
+begins_later m zero value dirty e z = absurd (z refl)
+begins_later m (suc n) value dirty e z =
+    let p : suc n - 1 ≡ n = omega arith in
+    ap (λ k. not (has_mark (finite.get m k) dirty)) p ∙ sym (begins_not value dirty (finite.get m n)) ∙ ap (λ t. begins t (finite.get m n)) (sym e)
 
-pub level_fresh : (clean cb dirty db : List ℕ) → IsRuns clean cb → IsRuns dirty db → ((n : ℕ) → byte_at (has clean) cb n ≡ None) → IsLevel clean cb dirty db
-level_fresh clean cb dirty db c d none = record { clean_runs = c; dirty_runs = d; apart = λ n. inl (none n) }
+pub begins_none : (m : Held) (n : ℕ) → finite.get m n ≡ None → false ≡ begins_run m n
+begins_none m zero e = sym (ap (λ t. begins t None) e)
+begins_none m (suc n) e = sym (ap (λ t. begins t (finite.get m n)) e)
 
-pub level_empty : (clean cb dirty db : List ℕ) → IsRuns clean cb → IsRuns dirty db → ((n : ℕ) → byte_at (has clean) cb n ≡ None) → ((n : ℕ) → byte_at (has dirty) db n ≡ None) → level clean cb dirty db ≡ finite.empty
-level_empty clean cb dirty db c d no_clean no_dirty =
-    same_held (level clean cb dirty db) finite.empty (λ n. get_level clean cb dirty db n (level_fresh clean cb dirty db c d no_clean) ∙ ap₂ marked (no_clean n) (no_dirty n) ∙ sym (finite.get-empty nat_cmp n))
+count_past : (test : ℕ → Bool) (end n : ℕ) → ((b : ℕ) → end ≤ b → test b ≡ false) → end ≤ n → count_below test n ≡ count_below test end
+count_past test end zero none l = let e : end ≡ 0 = omega arith in ap (count_below test) (sym e)
+count_past test end (suc n) none l = elim (cases_lt n end) [
+  | inl at ↦ let e : suc n ≡ end = omega arith in ap (count_below test) e
+  | inr past ↦ step_false test n (none n past) ∙ count_past test end n none past
+]
 
-without : (clean dirty : Option ℕ) → marked None dirty ≡ cond (is_dirty (marked clean dirty)) (marked clean dirty) None
-without None None = refl
-without (Some x) None = refl
-without None (Some w) = refl
-without (Some x) (Some w) = refl
+pub runs_counted : (m : Held) (end count : ℕ) → ((n : ℕ) → end ≤ n → finite.get m n ≡ None) → count ≡ count_below (begins_run m) end → IsRunCount m count
+runs_counted m end count none e other others = elim (cases_lt end other) [
+  | inl below ↦ e ∙ sym (count_past (begins_run m) end other (λ b l. sym (begins_none m b (none b l))) (omega arith))
+  | inr above ↦ e ∙ count_past (begins_run m) other end (λ b l. sym (begins_none m b (others b l))) above
+]
 
-pub level_only : (clean cb dirty db c2 cb2 : List ℕ) → IsLevel clean cb dirty db → IsRuns c2 cb2 → ((n : ℕ) → byte_at (has c2) cb2 n ≡ None) → level c2 cb2 dirty db ≡ dirty_only (level clean cb dirty db)
-level_only clean cb dirty db c2 cb2 is runs none = same_held (level c2 cb2 dirty db) (dirty_only (level clean cb dirty db)) (λ n.
-    get_level c2 cb2 dirty db n (level_fresh c2 cb2 dirty db runs is.dirty_runs none)
-    ∙ ap (λ t. marked t (byte_at (has dirty) db n)) (none n)
-    ∙ without (byte_at (has clean) cb n) (byte_at (has dirty) db n)
-    ∙ ap (λ t. cond (is_dirty t) t None) (sym (get_level clean cb dirty db n is))
-    ∙ sym (finite.get-retain_keys (level clean cb dirty db) (λ k. is_dirty (finite.get (level clean cb dirty db) k)) n (λ x t. ap (λ r. is_dirty r) (finite.get_tied nat_cmp_total (level clean cb dirty db) n x t))))
-
--- ---- what is asked
-
-pub held_dirty : (clean cb dirty db : List ℕ) (n v : ℕ) → IsLevel clean cb dirty db → byte_at (has dirty) db n ≡ Some v → finite.get (level clean cb dirty db) n ≡ Some (a_copy v true)
-held_dirty clean cb dirty db n v is e = get_level clean cb dirty db n is ∙ ap (marked (byte_at (has clean) cb n)) e ∙ marked_dirty (byte_at (has clean) cb n) v
-
-pub held_below : (clean cb dirty db : List ℕ) (n : ℕ) (byte : Option ℕ) → IsLevel clean cb dirty db → byte_at (has dirty) db n ≡ None → byte_at (has clean) cb n ≡ byte → finite.get (level clean cb dirty db) n ≡ marked byte None
-held_below clean cb dirty db n byte is e f = get_level clean cb dirty db n is ∙ ap₂ marked f e
-
-dirty_some : (clean dirty : Option ℕ) → is_dirty (marked clean dirty) ≡ is_some dirty
-dirty_some None None = refl
-dirty_some (Some x) None = refl
-dirty_some None (Some w) = refl
-dirty_some (Some x) (Some w) = refl
-
-level_dirty_at : (clean cb dirty db : List ℕ) (n : ℕ) → IsLevel clean cb dirty db → is_dirty (finite.get (level clean cb dirty db) n) ≡ is_some (byte_at (has dirty) db n)
-level_dirty_at clean cb dirty db n is = ap is_dirty (get_level clean cb dirty db n is) ∙ dirty_some (byte_at (has clean) cb n) (byte_at (has dirty) db n)
-
-pub none_is_dirty : (clean cb dirty db : List ℕ) → IsLevel clean cb dirty db → ((n : ℕ) → byte_at (has dirty) db n ≡ None) → NoneDirty (level clean cb dirty db)
-none_is_dirty clean cb dirty db is none = λ n. level_dirty_at clean cb dirty db n is ∙ ap is_some (none n)
-
-pub first_is_dirty : (clean cb dirty db : List ℕ) (n : ℕ) → IsLevel clean cb dirty db → IsFirst (byte_at (has dirty) db) n → IsFirstDirty (level clean cb dirty db) n
-first_is_dirty clean cb dirty db n is first = record {
-  dirty = level_dirty_at clean cb dirty db n is ∙ first.some;
-  least = λ m l. level_dirty_at clean cb dirty db m is ∙ ap is_some (first.none m l);
-}
-
--- ---- runs as the code holds them
-
-pub changed_of : (old mid new : Runs) (b : ℕ) (byte : Option ℕ) → SameRuns old mid → AreRuns new → byte_of new b ≡ byte → ((n : ℕ) → n ≢ b → byte_of new n ≡ byte_of mid n) → Changed old.edges.items old.bytes.items b byte new.edges.items new.bytes.items
-changed_of old mid new b byte same runs at others = record { runs = runs; same = at; others = λ n d. others n d ∙ ap₂ (λ es bs. byte_at (has es) bs n) same.0 same.1 }
-
-pub same_runs : (old mid : Runs) → SameRuns old mid → AreRuns old → AreRuns mid
-same_runs old mid same runs = subst (λ es. IsRuns es mid.bytes.items) (sym same.0) (subst (λ bs. IsRuns old.edges.items bs) (sym same.1) runs)
+pub on_err : {A E : Type 0} (r : Result A E) (P : Type 0) → P → OnErr r P
+on_err (Ok x) P p = tt
+on_err (Err e) P p = p

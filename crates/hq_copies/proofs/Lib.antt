@@ -1,8 +1,10 @@
 pub mod Edges
 pub mod Counts
-pub mod Gathered
-pub mod Marks
 pub mod Finds
+pub mod Marks
+pub mod Overlays
+pub mod Leftovers
+pub mod Gathered
 pub mod Levels
 pub mod Within
-pub mod Rises
+pub mod StoredRuns

@@ -1,8 +1,6 @@
 -- Runs stay runs where a number is put in, written or taken out.
-use Rattle.std.proofs.Common.{◌≡◌, ℕ, zero, suc, ◌+◌, ◌<◌, ◌≤◌, ◌≢◌, true, ◌∷◌, MatchOption, is_some, slice_get, false, inl, inr, List, [], length, refl, sym, ◌∙◌, ap, not, set, arith, length-set, subst, get_or, Option, Some, None, Result, Ok, Err, OnOk}
-use Rattle.std.specs.Result.{is_err}
-use Rattle.std.specs.Option.{OnSome}
-use Rattle.std.proofs.lemmas.Bool.{cases_lt, not_from_true, not_from_false, true≢false}
+use Rattle.std.proofs.Common.{◌≡◌, ℕ, zero, suc, ◌+◌, ◌<◌, ◌≤◌, ◌≢◌, true, ◌∷◌, MatchOption, is_some, slice_get, false, inl, inr, List, [], length, refl, sym, ◌∙◌, ap, not, set, arith, length-set, subst, get_or, Option, Some, None}
+use Rattle.std.proofs.lemmas.Bool.{cases_lt, not_from_true, not_from_false}
 use Rattle.std.specs.List.{insert, remove}
 use Rattle.std.proofs.lemmas.List.Edits.{length-insert, length-remove}
 use Rattle.hq_copies.specs.Edges.{has, toggled, IsRuns, byte_at}
@@ -100,12 +98,3 @@ first_edge (e ∷ edges) bytes runs = record {
   some = ap is_some (at_true (has (e ∷ edges)) bytes e (has_from e edges e (omega arith) ∙ ap not (none_before (suc e) edges e runs.rising.1 (omega arith))));
   none = λ m l. at_false (has (e ∷ edges)) bytes m (has_before e edges m l ∙ none_before (suc e) edges m runs.rising.1 (omega arith));
 }
-
--- what a clause says of a call that succeeded
-pub on_some : (o : Option ℕ) (x : ℕ) (P : Type 0) → o ≡ Some x → OnSome o P → P
-on_some None x P e h = absurd (true≢false (ap is_some (sym e)))
-on_some (Some y) x P e h = h
-
-pub on_ok : {A E : Type 0} (r : Result A E) (P : Type 0) → is_err r ≡ false → OnOk r P → P
-on_ok (Ok x) P e h = h
-on_ok (Err y) P e h = absurd (true≢false e)

@@ -1,5 +1,6 @@
 -- A part of a list of maps, of which the clean copies go one after another; what a fence asks; and a level by its place.
-use Rattle.std.proofs.Common.{◌≡◌, ℕ, zero, suc, ◌<◌, ◌≤◌, List, [], ◌∷◌, length, set, get_or, sym, ap, ap₂, ◌∙◌, arith, Bool, true, false, IsTrue, ◌↔◌, ◌⊎◌, inr, Result, Ok, Err, IfErr}
+use Rattle.std.proofs.Common.{◌≡◌, ℕ, zero, suc, ◌<◌, ◌≤◌, List, [], ◌∷◌, length, take, ◌++◌, set, get_or, refl, ◌≢◌, ◌-◌, length-set, get_or-set_same, get_or-set_other, sym, ap, ap₂, ◌∙◌, arith, Bool, true, false, IsTrue, ◌↔◌, ◌⊎◌, inr, Result, Ok, Err, IfErr}
+use Rattle.std.proofs.Math.Seq.{take-append_seam}
 use Rattle.std.specs.Result.{IsErrAnd}
 use Rattle.hq_copies.specs.declared.fault.CopiesFault.{CopiesFault}
 use Rattle.hq_copies.specs.declared.fault.CopiesFault.TheVariants.{Memory, NotClean}
@@ -9,7 +10,7 @@ use Rattle.hq_packet.specs.declared.packet.Scope.TheVariants as scope
 use Rattle.hq_model.specs.Job.{reaches}
 use Rattle.hq_model.specs.Machine.{is_dirty}
 use Rattle.hq_model.specs.View.{Held, copies_of}
-use Rattle.hq_copies.specs.Copies.{CopiesValue, dirty_only, dirty_within, held, IsClean, IsReleased, NoneDirty}
+use Rattle.hq_copies.specs.Copies.{CopiesValue, dirty_only, dirty_within, held, IsClean, IsReleased, NoneDirty, cleaned, written, fed, LanesReleased, AgentReleased}
 
 pub within_step : (xs : List Held) (start i : ℕ) (x : Held) → start ≤ i → i < length xs → x ≡ get_or (dirty_within start i xs) i x → set (dirty_within start i xs) i (dirty_only x) ≡ dirty_within start (suc i) xs
 within_step [] start i x l h e = absurd (omega arith)
@@ -40,3 +41,41 @@ released_by c start end a fence r m lanes same iff far = (
 pub no_memory : (r : Result (Unit {0}) CopiesFault) (P : Type 0) → P → IsErrAnd r (λ e. e ≡ Memory) → IfErr r (λ e. (e ≡ NotClean) ⊎ ((e ≡ Memory) × P))
 no_memory (Ok x) P p e = absurd e
 no_memory (Err x) P p e = inr (e, p)
+
+-- ---- a level in its place, and what a release fence writes back
+
+-- a whole list that was lent
+pub lent : {X : Type 0} (n : ℕ) (ys zs : List X) → n ≡ length ys → take n (ys ++ zs) ≡ ys
+lent n ys zs e = ap (λ k. take k (ys ++ zs)) e ∙ take-append_seam ys zs
+
+set_here : (xs : List Held) (a : ℕ) (m : Held) (b : ℕ) → a < length xs → copies_of (set xs a m) a b ≡ finite.get m b
+set_here xs a m b l = ap (λ t. finite.get t b) (get_or-set_same xs a m finite.empty l)
+
+set_there : (xs : List Held) (a q : ℕ) (m : Held) (b : ℕ) → q ≢ a → copies_of (set xs a m) q b ≡ copies_of xs q b
+set_there xs a q m b d = ap (λ t. finite.get t b) (get_or-set_other xs a q m finite.empty d)
+
+pub lanes_done : (old : CopiesValue) (start end a : ℕ) (lanes : List Held) (below : Held) → a < length old.agents → length lanes ≡ length old.lanes
+    → ((l b : ℕ) → start ≤ l → l < end → copies_of lanes l b ≡ cleaned (copies_of old.lanes l b)) → ((l b : ℕ) → (l < start) ⊎ (end ≤ l) → copies_of lanes l b ≡ copies_of old.lanes l b)
+    → ((b : ℕ) → finite.get below b ≡ fed old.lanes start (end - start) b (copies_of old.agents a b)) → LanesReleased old start end a (record old { lanes = lanes; agents = set old.agents a below })
+lanes_done old start end a lanes below there count inside outside fed_below = record {
+  memory = refl;
+  lane_agents = refl;
+  lane_count = count;
+  agent_count = length-set old.agents a below;
+  inside = inside;
+  outside = outside;
+  agent = λ b. set_here old.agents a below b there ∙ fed_below b;
+  others = λ q b d. set_there old.agents a q below b d;
+}
+
+pub agent_done : (old : CopiesValue) (a : ℕ) (memory : List ℕ) (level : Held) → a < length old.agents → length memory ≡ length old.memory
+    → ((b : ℕ) → b < length old.memory → get_or memory b 0 ≡ written (copies_of old.agents a b) (get_or old.memory b 0)) → ((b : ℕ) → finite.get level b ≡ cleaned (copies_of old.agents a b)) → AgentReleased old a (record old { memory = memory; agents = set old.agents a level })
+agent_done old a memory level there count bytes clean = record {
+  lanes = refl;
+  lane_agents = refl;
+  agent_count = length-set old.agents a level;
+  byte_count = count;
+  memory = bytes;
+  agent = λ b. set_here old.agents a level b there ∙ clean b;
+  others = λ q b d. set_there old.agents a q level b d;
+}

@@ -1,6 +1,6 @@
 -- Memory, the copies that agents hold of it, those that lanes hold, and the one change that each call makes. A lane is a
 -- packet's; it stands on its queue's agent. This project's own.
-use Rattle.std.specs.Prelude.{◌≡◌, ℕ, zero, suc, not, ◌+◌, ◌<◌, ◌≤◌, Bool, true, false, List, length, take, drop, map, ◌++◌, replicate, slice_index, slice_index_or, All, Option, Some, None, set, if◌then◌else◌, refl}
+use Rattle.std.specs.Prelude.{◌≡◌, ◌≢◌, ◌⊎◌, ℕ, zero, suc, not, ◌+◌, ◌-◌, ◌<◌, ◌≤◌, Bool, true, false, List, [], ◌∷◌, length, take, drop, map, ◌++◌, replicate, slice_index, slice_index_or, All, Option, Some, None, set, if◌then◌else◌, refl}
 use Rattle.std.specs.Bool.{beq}
 use Rattle.std.specs.Coded.{Coded, code_by, coded×, coded_ℕ, coded_bool, coded_list}
 use Rattle.std.specs.FinMap as finite
@@ -61,6 +61,11 @@ opened memory agents lane_agents =
 abbrev pub stored : CopiesValue → ℕ → ℕ → ℕ → CopiesValue
 stored c p b value = record c { lanes = with_copy c.lanes p b (a_copy value true) }
 
+-- the bytes are stored one behind the other, from byte b on
+abbrev pub stored_run : CopiesValue → ℕ → ℕ → List ℕ → CopiesValue
+stored_run c p b [] = c
+stored_run c p b (value ∷ values) = stored_run (stored c p b value) p (b + 1) values
+
 -- The lane's dirty byte is written into its agent's map, dirty there, and stays in the lane, clean.
 abbrev pub lane_pushed : CopiesValue → ℕ → ℕ → ℕ → CopiesValue
 lane_pushed c p b value =
@@ -99,6 +104,53 @@ fenced c start end a fence =
       lanes = if reaches fence scope.Agent then dirty_within start end c.lanes else c.lanes;
       agents = if reaches fence scope.System then set c.agents a (dirty_only (held c.agents a)) else c.agents;
     }
+
+-- ---- write-backs of all dirty bytes
+
+-- the same copy, clean
+abbrev pub cleaned : Option Copy → Option Copy
+cleaned None = None
+cleaned (Some copy) = Some (a_copy copy.value false)
+
+-- the upper copy where it is dirty, otherwise the lower one
+abbrev pub taken : Option Copy → Option Copy → Option Copy
+taken upper lower = if is_dirty upper then upper else lower
+
+-- the copy's byte where it is dirty, otherwise this one
+abbrev pub written : Option Copy → ℕ → ℕ
+written copy byte = if is_dirty copy then value_or copy byte else byte
+
+-- what stands below a byte where so many lanes from start on have written their dirty bytes back, one behind the other
+abbrev pub fed : List Held → ℕ → ℕ → ℕ → Option Copy → Option Copy
+fed lanes start zero b below = below
+fed lanes start (suc count) b below = taken (copies_of lanes (start + count) b) (fed lanes start count b below)
+
+-- All dirty bytes of the lanes from start on and before end are written back to agent a, and are clean.
+pub record LanesReleased (old : CopiesValue) (start end a : ℕ) (new : CopiesValue) : Type 0 where
+  pub memory : new.memory ≡ old.memory
+  pub lane_agents : new.lane_agents ≡ old.lane_agents
+  pub lane_count : length new.lanes ≡ length old.lanes
+  pub agent_count : length new.agents ≡ length old.agents
+  pub inside : (l b : ℕ) → start ≤ l → l < end → copies_of new.lanes l b ≡ cleaned (copies_of old.lanes l b)
+  pub outside : (l b : ℕ) → (l < start) ⊎ (end ≤ l) → copies_of new.lanes l b ≡ copies_of old.lanes l b
+  pub agent : (b : ℕ) → copies_of new.agents a b ≡ fed old.lanes start (end - start) b (copies_of old.agents a b)
+  pub others : (q b : ℕ) → q ≢ a → copies_of new.agents q b ≡ copies_of old.agents q b
+
+-- All dirty bytes of agent a are written back to memory, and are clean.
+pub record AgentReleased (old : CopiesValue) (a : ℕ) (new : CopiesValue) : Type 0 where
+  pub lanes : new.lanes ≡ old.lanes
+  pub lane_agents : new.lane_agents ≡ old.lane_agents
+  pub agent_count : length new.agents ≡ length old.agents
+  pub byte_count : length new.memory ≡ length old.memory
+  pub memory : (b : ℕ) → b < length old.memory → slice_index new.memory b ≡ written (copies_of old.agents a b) (slice_index old.memory b)
+  pub agent : (b : ℕ) → copies_of new.agents a b ≡ cleaned (copies_of old.agents a b)
+  pub others : (q b : ℕ) → q ≢ a → copies_of new.agents q b ≡ copies_of old.agents q b
+
+-- What a release fence writes back: by scope agent or system the dirty bytes of the lanes, by system then those of the agent.
+abbrev pub Released : CopiesValue → ℕ → ℕ → ℕ → Scope → CopiesValue → Type 0
+Released old start end a scope.None new = new ≡ old
+Released old start end a scope.Agent new = LanesReleased old start end a new
+Released old start end a scope.System new = (mid : CopiesValue) × LanesReleased old start end a mid × AgentReleased mid a new
 
 -- ---- what is asked
 

@@ -1,6 +1,6 @@
 -- Sets of numbers as rising lists of edges, and bytes by their numbers. An edge is a number at which the set begins or ends.
 -- This project's own.
-use Rattle.std.specs.Prelude.{◌≡◌, ℕ, zero, suc, ◌+◌, ◌-◌, ◌≤◌, Bool, true, false, not, List, [], ◌∷◌, length, nat_lt, ◌==◌, slice_index, if◌then◌else◌, Option, Some, None, max}
+use Rattle.std.specs.Prelude.{◌≡◌, ℕ, zero, suc, ◌+◌, ◌-◌, ◌≤◌, Bool, false, not, List, [], ◌∷◌, length, nat_lt, ◌==◌, slice_index, if◌then◌else◌, Option, Some, None, max}
 use Rattle.std.specs.FinMap as finite
 use Rattle.hq_model.specs.View.{Held}
 use Rattle.hq_model.specs.Machine.{Copy}
@@ -45,13 +45,16 @@ pub record IsRuns (edges bytes : List ℕ) : Type 0 where
   pub ends : is_odd edges ≡ false
   pub enough : (n : ℕ) → count_below (has edges) n ≤ length bytes
 
--- ---- clean bytes and dirty ones together
+-- ---- lower bytes and upper ones together
 
--- the copy of a number, of its byte among the clean ones and its byte among the dirty ones
-abbrev pub marked : Option ℕ → Option ℕ → Option Copy
-marked None None = None
-marked (Some value) None = Some (a_copy value false)
-marked clean (Some value) = Some (a_copy value true)
+abbrev pub clean_copy : Option ℕ → Option Copy
+clean_copy None = None
+clean_copy (Some value) = Some (a_copy value false)
+
+-- the copy of a number: of its upper byte, with their mark, or where it has none, a clean one of its lower byte
+abbrev pub layered : Bool → Option ℕ → Option ℕ → Option Copy
+layered dirty None lower = clean_copy lower
+layered dirty (Some value) lower = Some (a_copy value dirty)
 
 abbrev pub with_one : ℕ → Option Copy → Held → Held
 with_one n None held = held
@@ -62,9 +65,9 @@ unfoldable pub gathered : (ℕ → Option Copy) → ℕ → Held
 gathered f zero = finite.empty
 gathered f (suc n) = with_one n (f n) (gathered f n)
 
--- the copies that two sets of bytes are, the clean ones and the dirty ones
-abbrev pub copy_at : List ℕ → List ℕ → List ℕ → List ℕ → ℕ → Option Copy
-copy_at clean clean_bytes dirty dirty_bytes n = marked (byte_at (has clean) clean_bytes n) (byte_at (has dirty) dirty_bytes n)
+-- the copies that two sets of bytes are, the lower ones and the upper ones with their mark
+abbrev pub copy_at : List ℕ → List ℕ → List ℕ → List ℕ → Bool → ℕ → Option Copy
+copy_at lower lower_bytes upper upper_bytes dirty n = layered dirty (byte_at (has upper) upper_bytes n) (byte_at (has lower) lower_bytes n)
 
-abbrev pub level : List ℕ → List ℕ → List ℕ → List ℕ → Held
-level clean clean_bytes dirty dirty_bytes = gathered (copy_at clean clean_bytes dirty dirty_bytes) (max (ceiling clean) (ceiling dirty))
+abbrev pub level : List ℕ → List ℕ → List ℕ → List ℕ → Bool → Held
+level lower lower_bytes upper upper_bytes dirty = gathered (copy_at lower lower_bytes upper upper_bytes dirty) (max (ceiling lower) (ceiling upper))

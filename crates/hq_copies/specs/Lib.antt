@@ -1,4 +1,6 @@
 pub mod Copies
 pub mod Edges
 pub mod Marks
+pub mod Overlays
+pub mod Leftovers
 pub mod Levels

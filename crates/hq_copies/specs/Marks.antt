@@ -1,6 +1,5 @@
 -- The bytes of one mark, as the code holds them.
 use Rattle.std.specs.Prelude.{◌≡◌, ℕ, ◌+◌, ◌<◌, ◌≤◌, Option, None, IsSome, vec_len, vec_capacity}
-use Rattle.std.specs.VecDeque.{deque_len, deque_capacity}
 use Rattle.hq_copies.specs.declared.runs.Runs.{Runs}
 use Rattle.hq_copies.specs.Edges.{has, byte_at, IsRuns}
 
@@ -16,7 +15,7 @@ HasRunRoom runs = vec_len runs.edges + 2 ≤ vec_capacity runs.edges
 
 -- room for a run more and a byte more
 abbrev pub HasRoom : Runs → Type 0
-HasRoom runs = HasRunRoom runs × (deque_len runs.bytes + 1 ≤ deque_capacity runs.bytes)
+HasRoom runs = HasRunRoom runs × (vec_len runs.bytes + 1 ≤ vec_capacity runs.bytes)
 
 abbrev pub SameRuns : Runs → Runs → Type 0
 SameRuns old new = (new.edges.items ≡ old.edges.items) × (new.bytes.items ≡ old.bytes.items)

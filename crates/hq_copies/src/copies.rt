@@ -1,11 +1,11 @@
 //! Memory and the maps of copies.
 
-ghost use Rattle.std.specs.Prelude.{◌≡◌, ◌↔◌, ◌<◌, ◌≤◌, ◌+◌, ◌^◌, ℕ, Some, length, All, IsTrue, IfOk, IfErr, OnOk, OnErr, MatchOption, IsOk, slice_index, ◌⊎◌, replicate, false};
+ghost use Rattle.std.specs.Prelude.{◌≡◌, ◌↔◌, ◌<◌, ◌≤◌, ◌+◌, ◌^◌, ℕ, ◌-◌, Some, length, All, IsTrue, IfOk, IfErr, OnOk, OnErr, MatchOption, IsOk, slice_index, ◌⊎◌, replicate, false};
 ghost use Rattle.std.specs.FinMap as finite;
 ghost use Rattle.hq_model.specs.Job.{reaches};
 ghost use Rattle.hq_model.specs.Machine.{is_dirty};
 ghost use Rattle.hq_model.specs.View.{copies_of};
-ghost use Rattle.hq_copies.specs.Copies.{opened, stored, lane_pushed, agent_pushed, lane_filled, agent_filled, lane_dropped, agent_dropped, fenced, lane_byte, lane_bytes, IsLaneByte, IsAgentByte, IsDirty, IsClean, IsReleased, IsFirstDirty, NoneDirty, held, a_copy, PushedLane, PushedAgent, IsAbsent, agent_byte, dirty_within, IsRunCount};
+ghost use Rattle.hq_copies.specs.Copies.{opened, stored, lane_pushed, agent_pushed, lane_filled, agent_filled, lane_dropped, agent_dropped, fenced, lane_byte, lane_bytes, IsLaneByte, IsAgentByte, IsDirty, IsClean, IsReleased, IsFirstDirty, NoneDirty, held, a_copy, PushedLane, PushedAgent, IsAbsent, agent_byte, dirty_within, IsRunCount, LanesReleased, AgentReleased, Released, fed, cleaned, stored_run};
 
 use crate::fault::CopiesFault;
 use crate::level::Level;
@@ -92,9 +92,9 @@ impl Copies {
 
     // A byte's number, as levels take it.
     fn number(&self, byte: usize) -> u32
-        requires { byte < length self.now.memory }
+        requires { byte ≤ length self.now.memory }
         ensures number { result ≡ byte }
-        ensures small { result < 65536 }
+        ensures small { result ≤ 65536 }
     {
         let _ = self.memory.len();
         byte as u32
@@ -138,6 +138,19 @@ impl Copies {
     {
         let number = self.number(byte);
         self.lanes[lane].set_dirty(number, value)?;
+        Ok(())
+    }
+
+    /// The writes of bytes through a lane, from a byte on: all of them or none.
+    pub fn store_run(&mut self, lane: usize, byte: usize, bytes: &[u8]) -> Result<(), CopiesFault>
+        requires lane { lane < length self.old.lanes }
+        requires bytes { byte + length bytes.now ≤ length self.old.memory }
+        ensures ok { OnOk result (self.new ≡ stored_run self.old lane byte bytes.now) }
+        ensures err { OnErr result (self.new ≡ self.old) }
+        ensures memory { IfErr result (λ e. e ≡ CopiesFault.Memory) }
+    {
+        let start = self.number(byte);
+        self.lanes[lane].set_run(start, bytes)?;
         Ok(())
     }
 
@@ -274,6 +287,59 @@ impl Copies {
         !reaches(scope, Scope::System) || self.agents[agent].has_no_dirty()
     }
 
+    // Writes all dirty bytes of these lanes back to this agent: all of them or none.
+    fn release_lanes(&mut self, lanes: Range<usize>, agent: usize) -> Result<(), AllocError>
+        requires agent { agent < length self.old.agents }
+        requires rising { lanes.start ≤ lanes.end }
+        requires lanes { lanes.end ≤ length self.old.lanes }
+        ensures ok { OnOk result (LanesReleased self.old lanes.start lanes.end agent self.new) }
+        ensures err { OnErr result (self.new ≡ self.old) }
+    {
+        let mut below = self.agents[agent].copy()?;
+        feed_each(&self.lanes, lanes.start, lanes.end, &mut below)?;
+        self.agents[agent] = below;
+        mark_clean(&mut self.lanes, lanes.start, lanes.end);
+        Ok(())
+    }
+
+    // Writes all dirty bytes of this agent back to memory.
+    fn release_agent(&mut self, agent: usize)
+        requires { agent < length self.old.agents }
+        ensures { AgentReleased self.old agent self.new }
+    {
+        let level = &mut self.agents[agent];
+        level.write_to(&mut self.memory);
+        level.mark_clean();
+    }
+
+    /// The write-backs that a release fence over these lanes and this agent waits for: all of them or none.
+    pub fn release(
+        &mut self,
+        lanes: Range<usize>,
+        agent: usize,
+        scope: Scope,
+    ) -> Result<(), CopiesFault>
+        requires agent { agent < length self.old.agents }
+        requires rising { lanes.start ≤ lanes.end }
+        requires lanes { lanes.end ≤ length self.old.lanes }
+        ensures ok { OnOk result (Released self.old lanes.start lanes.end agent scope self.new) }
+        ensures err { OnErr result (self.new ≡ self.old) }
+        ensures memory { IfErr result (λ e. e ≡ CopiesFault.Memory) }
+    {
+        match scope {
+            Scope::None => Ok(()),
+            Scope::Agent => {
+                self.release_lanes(lanes, agent)?;
+                Ok(())
+            }
+            Scope::System => {
+                self.release_lanes(lanes, agent)?;
+                self.release_agent(agent);
+                Ok(())
+            }
+        }
+    }
+
     /// The first dirty byte of a lane.
     pub fn first_dirty_lane(&self, lane: usize) -> Option<u32>
         requires { lane < length self.now.lanes }
@@ -376,4 +442,28 @@ fn have_no_dirty(levels: &[Level], start: usize, end: usize) -> bool
         }
     }
     true
+}
+
+// Lets a level take in the dirty bytes of those from start on and before end, one behind the other.
+fn feed_each(lanes: &[Level], start: usize, end: usize, below: &mut Level) -> Result<(), AllocError>
+    requires rising { start ≤ end }
+    requires within { end ≤ length lanes.now }
+    ensures { OnOk result ((b : ℕ) → finite.get below.new b ≡ fed lanes.now start (end - start) b (finite.get below.old b)) }
+{
+    for i in start..end {
+        lanes[i].feed(below)?;
+    }
+    Ok(())
+}
+
+// Makes all dirty bytes clean of those from start on and before end.
+fn mark_clean(levels: &mut [Level], start: usize, end: usize)
+    requires rising { start ≤ end }
+    requires within { end ≤ length levels.old }
+    ensures inside { (k b : ℕ) → start ≤ k → k < end → copies_of levels.new k b ≡ cleaned (copies_of levels.old k b) }
+    ensures outside { (k b : ℕ) → (k < start) ⊎ (end ≤ k) → copies_of levels.new k b ≡ copies_of levels.old k b }
+{
+    for i in start..end {
+        levels[i].mark_clean();
+    }
 }

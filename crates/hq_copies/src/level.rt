@@ -1,9 +1,12 @@
 //! What one agent or one lane holds.
 
-ghost use Rattle.std.specs.Prelude.{◌≡◌, ◌+◌, ◌<◌, ◌^◌, ◌↔◌, true, false, Some, None, IsTrue, IfOk, OnOk, OnErr, MatchOption};
+ghost use Rattle.std.specs.Prelude.{◌≡◌, ◌≢◌, ℕ, ◌+◌, ◌<◌, ◌≤◌, ◌^◌, ◌↔◌, if◌then◌else◌, true, false, Some, None, IsTrue, IfOk, OnOk, OnErr, MatchOption, length, slice_index};
 ghost use Rattle.std.specs.FinMap as finite;
 ghost use Rattle.hq_model.specs.Machine.{value_or};
-ghost use Rattle.hq_copies.specs.Copies.{a_copy, dirty_only, IsClean, IsDirty, IsAbsent, NoneDirty, IsFirstDirty, IsRunCount};
+ghost use Rattle.hq_copies.specs.Copies.{a_copy, dirty_only, IsClean, IsDirty, IsAbsent, NoneDirty, IsFirstDirty, IsRunCount, begins_run, cleaned, taken, written};
+ghost use Rattle.hq_copies.specs.Edges.{layered};
+ghost use Rattle.hq_copies.specs.Marks.{AreRuns, byte_of};
+ghost use Rattle.hq_copies.specs.Overlays.{run_at, dirty_over, byte_over, has_mark};
 
 use crate::runs::Runs;
 use std::alloc::{AllocError, Global};
@@ -21,8 +24,11 @@ pub struct Byte {
 /// The bytes that one agent or one lane holds: a map from their numbers to copies.
 #[derive(Drop)]
 pub struct Level {
-    clean: Runs,
-    dirty: Runs,
+    // Clean bytes, of numbers that the upper ones may have too: then the upper ones count.
+    lower: Runs,
+    upper: Runs,
+    // Whether the upper bytes are dirty ones.
+    dirty: bool,
 }
 
 impl Model for Level {
@@ -46,8 +52,9 @@ impl Level {
         ensures { result ≡ finite.empty }
     {
         Level {
-            clean: Runs::new(alloc),
-            dirty: Runs::new(alloc),
+            lower: Runs::new(alloc),
+            upper: Runs::new(alloc),
+            dirty: false,
         }
     }
 
@@ -55,10 +62,13 @@ impl Level {
     pub fn get(&self, number: u32) -> Option<Byte>
         ensures { MatchOption result (finite.get self.now number ≡ None) (λ b. finite.get self.now number ≡ Some (a_copy b.value b.dirty)) }
     {
-        match self.dirty.get(number) {
-            Some(value) => Some(Byte { value, dirty: true }),
+        match self.upper.get(number) {
+            Some(value) => Some(Byte {
+                value,
+                dirty: self.dirty,
+            }),
             None => {
-                let value = self.clean.get(number)?;
+                let value = self.lower.get(number)?;
                 Some(Byte {
                     value,
                     dirty: false,
@@ -118,10 +128,22 @@ impl Level {
         ensures ok { OnOk result (self.new ≡ finite.insert self.old number (a_copy byte true)) }
         ensures err { OnErr result (self.new ≡ self.old) }
     {
-        self.clean.reserve_run()?;
-        self.dirty.reserve()?;
-        self.clean.remove(number);
-        self.dirty.set(number, byte);
+        settle(&mut self.lower, &mut self.upper, self.dirty)?;
+        self.dirty = true;
+        self.upper.reserve()?;
+        self.upper.set(number, byte);
+        Ok(())
+    }
+
+    /// Holds the bytes of the numbers from start on as dirty ones: all of them or none.
+    pub fn set_run(&mut self, start: u32, bytes: &[u8]) -> Result<(), AllocError>
+        requires { start + length bytes.now < 2 ^ 32 }
+        ensures ok { OnOk result ((n : ℕ) → finite.get self.new n ≡ dirty_over (run_at start bytes.now n) (finite.get self.old n)) }
+        ensures err { OnErr result (self.new ≡ self.old) }
+    {
+        settle(&mut self.lower, &mut self.upper, self.dirty)?;
+        self.dirty = true;
+        self.upper.put(start, bytes)?;
         Ok(())
     }
 
@@ -131,10 +153,10 @@ impl Level {
         ensures ok { OnOk result (self.new ≡ finite.insert self.old number (a_copy byte false)) }
         ensures err { OnErr result (self.new ≡ self.old) }
     {
-        self.dirty.reserve_run()?;
-        self.clean.reserve()?;
-        self.dirty.remove(number);
-        self.clean.set(number, byte);
+        self.upper.reserve_run()?;
+        self.lower.reserve()?;
+        self.upper.remove(number);
+        self.lower.set(number, byte);
         Ok(())
     }
 
@@ -146,23 +168,24 @@ impl Level {
         ensures err { OnErr result (self.new ≡ self.old) }
         ensures below_err { OnErr result (below.new ≡ below.old) }
     {
-        self.dirty.reserve_run()?;
-        self.clean.reserve()?;
+        self.upper.reserve_run()?;
+        self.lower.reserve()?;
         below.set_dirty(number, byte)?;
-        self.dirty.remove(number);
-        self.clean.set(number, byte);
+        self.upper.remove(number);
+        self.lower.set(number, byte);
         Ok(())
     }
 
     /// Lets a clean byte go.
     pub fn drop_clean(&mut self, number: u32) -> Result<(), AllocError>
-        requires fits { number + 1 < 2 ^ 32 }
-        requires clean { IsClean (finite.get self.old number) }
+        requires { number + 1 < 2 ^ 32 }
         ensures ok { OnOk result (self.new ≡ finite.remove self.old number) }
         ensures err { OnErr result (self.new ≡ self.old) }
     {
-        self.clean.reserve_run()?;
-        self.clean.remove(number);
+        self.upper.reserve_run()?;
+        self.lower.reserve_run()?;
+        self.upper.remove(number);
+        self.lower.remove(number);
         Ok(())
     }
 
@@ -170,21 +193,97 @@ impl Level {
     pub fn keep_dirty(&mut self)
         ensures { self.new ≡ dirty_only self.old }
     {
-        self.clean.clear();
+        self.lower.clear();
+        if self.dirty {
+            return;
+        }
+        self.upper.clear();
+    }
+
+    /// All dirty bytes become clean.
+    pub fn mark_clean(&mut self)
+        ensures { (n : ℕ) → finite.get self.new n ≡ cleaned (finite.get self.old n) }
+    {
+        self.dirty = false;
+    }
+
+    /// The level below takes all dirty bytes in.
+    pub fn feed(&self, below: &mut Level) -> Result<(), AllocError>
+        ensures { OnOk result ((n : ℕ) → finite.get below.new n ≡ taken (finite.get self.now n) (finite.get below.old n)) }
+    {
+        if !self.dirty {
+            return Ok(());
+        }
+        let mut left = self.upper.all();
+        'runs: while let Some(run) = left.first_run() {
+            below.set_run(run.start, run.bytes)?;
+            left = run.behind;
+        }
+        Ok(())
+    }
+
+    /// Writes all dirty bytes into memory, where it has so many bytes.
+    pub fn write_to(&self, memory: &mut [u8])
+        ensures { (n : ℕ) → n < length memory.old → slice_index memory.new n ≡ written (finite.get self.now n) (slice_index memory.old n) }
+    {
+        if !self.dirty {
+            return;
+        }
+        let mut left = self.upper.all();
+        'runs: while let Some(run) = left.first_run() {
+            write(memory, run.start as usize, run.bytes);
+            left = run.behind;
+        }
     }
 
     /// The first dirty byte's number.
     pub fn first_dirty(&self) -> Option<u32>
         ensures { MatchOption result (NoneDirty self.now) (λ b. IsFirstDirty self.now b) }
     {
-        self.dirty.first()
+        if !self.dirty {
+            return None;
+        }
+        self.upper.first()
+    }
+
+    /// A number from which on nothing is held.
+    fn end(&self) -> u32
+        ensures { (n : ℕ) → result ≤ n → finite.get self.now n ≡ None }
+    {
+        let lower = self.lower.end();
+        let upper = self.upper.end();
+        if lower < upper { upper } else { lower }
+    }
+
+    /// Whether a number's byte is held with this mark.
+    fn is_marked(&self, number: u32, dirty: bool) -> bool
+        ensures { result ≡ has_mark (finite.get self.now number) dirty }
+    {
+        match self.get(number) {
+            Some(byte) => byte.dirty == dirty,
+            None => false,
+        }
+    }
+
+    /// Whether a number begins a run.
+    fn begins(&self, number: u32) -> bool
+        ensures { result ≡ begins_run self.now number }
+    {
+        match self.get(number) {
+            Some(byte) => number == 0 || !self.is_marked(number - 1, byte.dirty),
+            None => false,
+        }
     }
 
     /// How many runs the bytes stand in.
     pub fn runs(&self) -> usize
         ensures { IsRunCount self.now result }
     {
-        self.clean.count() + self.dirty.count()
+        let mut count = 0;
+        for number in 0..self.end() {
+            count = with_one(count, self.begins(number));
+        }
+        count
     }
 
     /// An equal value.
@@ -192,8 +291,58 @@ impl Level {
         ensures { IfOk result (λ level. level ≡ self.now) }
     {
         Ok(Level {
-            clean: self.clean.copy()?,
-            dirty: self.dirty.copy()?,
+            lower: self.lower.copy()?,
+            upper: self.upper.copy()?,
+            dirty: self.dirty,
         })
     }
+}
+
+// Makes upper bytes that are clean lower ones, so that dirty ones can be put among them.
+fn settle(lower: &mut Runs, upper: &mut Runs, dirty: bool) -> Result<(), AllocError>
+    requires lower { AreRuns lower.old }
+    requires upper { AreRuns upper.old }
+    ensures lower { AreRuns lower.new }
+    ensures upper { AreRuns upper.new }
+    ensures ok { OnOk result ((n : ℕ) → layered true (byte_of upper.new n) (byte_of lower.new n) ≡ layered dirty (byte_of upper.old n) (byte_of lower.old n)) }
+    ensures err { OnErr result ((n : ℕ) → layered dirty (byte_of upper.new n) (byte_of lower.new n) ≡ layered dirty (byte_of upper.old n) (byte_of lower.old n)) }
+{
+    if dirty || upper.is_empty() {
+        return Ok(());
+    }
+    let mut below = lower.copy()?;
+    below.put_all(upper)?;
+    *lower = below;
+    upper.clear();
+    Ok(())
+}
+
+// Writes bytes into memory from a place on, where it has so many.
+fn write(memory: &mut [u8], start: usize, bytes: &[u8])
+    requires { start + length bytes.now < 2 ^ 32 }
+    ensures { (n : ℕ) → n < length memory.old → slice_index memory.new n ≡ byte_over (run_at start bytes.now n) (slice_index memory.old n) }
+{
+    for (i, byte) in bytes.iter().enumerate() {
+        write_byte(memory, start + i, *byte);
+    }
+}
+
+// Writes a byte into memory, if it has so many.
+fn write_byte(memory: &mut [u8], at: usize, byte: u8)
+    ensures same { at < length memory.old → slice_index memory.new at ≡ byte }
+    ensures others { (n : ℕ) → n ≢ at → slice_index memory.new n ≡ slice_index memory.old n }
+{
+    if at >= memory.len() {
+        return;
+    }
+    memory[at] = byte;
+}
+
+// The count, and one more if there is one.
+fn with_one(count: usize, one: bool) -> usize
+    requires { count < 2 ^ 32 }
+    ensures exact { result ≡ count + (if one then 1 else 0) }
+    ensures small { result ≤ count + 1 }
+{
+    if one { count + 1 } else { count }
 }

@@ -1,20 +1,21 @@
 //! The bytes of one mark, in runs.
 
-ghost use Rattle.std.specs.Prelude.{◌≡◌, ◌≢◌, ℕ, ◌+◌, ◌-◌, ◌/◌, ◌<◌, ◌≤◌, ◌^◌, length, slice_index, Some, None, OnOk, IfOk, MatchOption, if◌then◌else◌, vec_len, vec_capacity, true, false};
+ghost use Rattle.std.specs.Prelude.{◌≡◌, ◌≢◌, ℕ, ◌+◌, ◌-◌, ◌<◌, ◌≤◌, ◌^◌, length, slice_index, Some, None, IsTrue, OnOk, OnErr, IfOk, MatchOption, if◌then◌else◌, vec_len, vec_capacity, true, false};
 ghost use Rattle.hq_copies.specs.Edges.{has, IsRising, toggled};
 ghost use Rattle.hq_copies.specs.Copies.{count_below};
 ghost use Rattle.hq_copies.specs.Marks.{byte_of, AreRuns, HasRoom, HasRunRoom, SameRuns, IsNowhere, IsFirst};
+ghost use Rattle.hq_copies.specs.Overlays.{run_at, Over};
+ghost use Rattle.hq_copies.specs.Leftovers.{AreLeft, left_of, IsFirstRun};
 
 use std::alloc::{AllocError, Global};
-use std::collections::VecDeque;
 
 /// Bytes by their numbers, all of one mark. They stand in runs of numbers that follow each other.
 #[derive(Drop)]
 pub struct Runs {
     // The first number of each run and the number past its last, in rising order.
     edges: Vec<u32>,
-    // In the order of their numbers. Write-backs take them from the front.
-    bytes: VecDeque<u8>,
+    // In the order of their numbers.
+    bytes: Vec<u8>,
 }
 
 impl Runs {
@@ -25,7 +26,7 @@ impl Runs {
     {
         Runs {
             edges: Vec::new(alloc),
-            bytes: VecDeque::new(alloc),
+            bytes: Vec::new(alloc),
         }
     }
 
@@ -58,12 +59,23 @@ impl Runs {
         })
     }
 
-    /// How many runs there are.
-    pub fn count(&self) -> usize
-        ensures count { result ≡ length self.now.edges.items / 2 }
-        ensures small { result < 2 ^ 62 }
+    /// Whether there is no byte.
+    pub fn is_empty(&self) -> bool
+        requires { AreRuns self.now }
+        ensures { IsTrue result → IsNowhere self.now }
     {
-        self.edges.len() / 2
+        self.first().is_none()
+    }
+
+    /// A number from which on there is no byte.
+    pub fn end(&self) -> u32
+        requires { AreRuns self.now }
+        ensures { (n : ℕ) → result ≤ n → byte_of self.now n ≡ None }
+    {
+        match self.edges.last() {
+            Some(edge) => *edge,
+            None => 0,
+        }
     }
 
     /// The first number that has a byte.
@@ -106,7 +118,7 @@ impl Runs {
             self.bytes[index] = byte;
             return;
         }
-        turn(&mut self.edges, number);
+        turn(&mut self.edges, number, number + 1);
         if self.bytes.insert(index, byte).is_err() {
             unreachable!();
         }
@@ -123,9 +135,137 @@ impl Runs {
     {
         let (held, index) = find(&self.edges, number);
         if held {
-            turn(&mut self.edges, number);
-            let _ = self.bytes.remove(index);
+            turn(&mut self.edges, number, number + 1);
+            self.bytes.remove(index);
         }
+    }
+
+    // Whether no number from this one on has a byte.
+    fn ends_by(&self, number: u32) -> bool
+        requires { AreRuns self.now }
+        ensures { IsTrue result → (n : ℕ) → number ≤ n → has self.now.edges.items n ≡ false }
+    {
+        match self.edges.last() {
+            Some(edge) => *edge <= number,
+            None => true,
+        }
+    }
+
+    // Gives the numbers from start on these bytes, where no number from start on has one.
+    fn append(&mut self, start: u32, bytes: &[u8]) -> Result<(), AllocError>
+        requires runs { AreRuns self.old }
+        requires fits { start + length bytes.now < 2 ^ 32 }
+        requires some { 0 < length bytes.now }
+        requires beyond { (n : ℕ) → start ≤ n → has self.old.edges.items n ≡ false }
+        ensures runs { AreRuns self.new }
+        ensures ok { OnOk result (Over (run_at start bytes.now) (byte_of self.old) (byte_of self.new)) }
+        ensures err { OnErr result ((n : ℕ) → byte_of self.new n ≡ byte_of self.old n) }
+    {
+        let (_, index) = find(&self.edges, start);
+        self.edges.reserve(2)?;
+        self.bytes.reserve(bytes.len())?;
+        self.bytes.truncate(index);
+        if self.bytes.extend_from_slice(bytes).is_err() {
+            unreachable!();
+        }
+        turn(&mut self.edges, start, start + bytes.len() as u32);
+        Ok(())
+    }
+
+    // Gives the numbers from start on these bytes, one after another.
+    fn put_each(&mut self, start: u32, bytes: &[u8]) -> Result<(), AllocError>
+        requires runs { AreRuns self.old }
+        requires fits { start + length bytes.now < 2 ^ 32 }
+        ensures runs { AreRuns self.new }
+        ensures ok { OnOk result (Over (run_at start bytes.now) (byte_of self.old) (byte_of self.new)) }
+    {
+        for (i, byte) in bytes.iter().enumerate() {
+            self.reserve()?;
+            self.set(start + i as u32, *byte);
+        }
+        Ok(())
+    }
+
+    /// Gives the numbers from start on these bytes: all of them or none.
+    pub fn put(&mut self, start: u32, bytes: &[u8]) -> Result<(), AllocError>
+        requires runs { AreRuns self.old }
+        requires fits { start + length bytes.now < 2 ^ 32 }
+        ensures runs { AreRuns self.new }
+        ensures ok { OnOk result (Over (run_at start bytes.now) (byte_of self.old) (byte_of self.new)) }
+        ensures err { OnErr result ((n : ℕ) → byte_of self.new n ≡ byte_of self.old n) }
+    {
+        if !bytes.is_empty() && self.ends_by(start) {
+            return self.append(start, bytes);
+        }
+        let mut next = self.copy()?;
+        next.put_each(start, bytes)?;
+        *self = next;
+        Ok(())
+    }
+
+    /// All bytes, from the first run on.
+    pub fn all(&self) -> RunsLeft<'_>
+        requires { AreRuns self.now }
+        ensures are { AreLeft result }
+        ensures bytes { left_of result ≡ byte_of self.now }
+    {
+        RunsLeft {
+            edges: &self.edges,
+            bytes: &self.bytes,
+        }
+    }
+
+    /// Gives the numbers that another has bytes of those.
+    pub fn put_all(&mut self, other: &Runs) -> Result<(), AllocError>
+        requires runs { AreRuns self.old }
+        requires other { AreRuns other.now }
+        ensures runs { AreRuns self.new }
+        ensures ok { OnOk result (Over (byte_of other.now) (byte_of self.old) (byte_of self.new)) }
+    {
+        let mut left = other.all();
+        'runs: while let Some(run) = left.first_run() {
+            self.put(run.start, run.bytes)?;
+            left = run.behind;
+        }
+        Ok(())
+    }
+}
+
+/// The bytes of one mark from some run on.
+#[derive(Clone, Copy)]
+pub struct RunsLeft<'a> {
+    edges: &'a [u32],
+    bytes: &'a [u8],
+}
+
+/// A run, and those behind it.
+#[derive(Clone, Copy)]
+pub struct Run<'a> {
+    /// Its first number.
+    pub start: u32,
+    /// The bytes of the numbers from there on.
+    pub bytes: &'a [u8],
+    /// What stands behind it.
+    pub behind: RunsLeft<'a>,
+}
+
+impl<'a> RunsLeft<'a> {
+    /// The first run, if there is one.
+    pub fn first_run(self) -> Option<Run<'a>>
+        requires { AreLeft self }
+        ensures { MatchOption result ((n : ℕ) → left_of self.entry n ≡ None) (λ run. IsFirstRun self.entry run) }
+    {
+        let (start, edges) = self.edges.split_first()?;
+        let (end, edges) = edges.split_first()?;
+        let (bytes, behind) = self.bytes.split_at(width(*start, *end));
+        Some(Run {
+            start: *start,
+            bytes,
+            behind: RunsLeft {
+                edges,
+                bytes: behind,
+            },
+        })
     }
 }
 
@@ -160,14 +300,13 @@ fn toggle(edges: &mut Vec<u32>, edge: u32)
     }
 }
 
-// Puts a number in, or takes it out if it is there.
-fn turn(edges: &mut Vec<u32>, number: u32)
-    requires room { vec_len edges.old + 2 ≤ vec_capacity edges.old }
-    requires fits { number + 1 < 2 ^ 32 }
-    ensures { edges.new.items ≡ toggled (number + 1) (toggled number edges.old.items) }
+// Puts the numbers from start on and before end in, or takes them out if they are there.
+fn turn(edges: &mut Vec<u32>, start: u32, end: u32)
+    requires { vec_len edges.old + 2 ≤ vec_capacity edges.old }
+    ensures { edges.new.items ≡ toggled end (toggled start edges.old.items) }
 {
-    toggle(edges, number);
-    toggle(edges, number + 1);
+    toggle(edges, start);
+    toggle(edges, end);
 }
 
 // So many numbers lie between the two, if they are inside.
@@ -177,6 +316,15 @@ fn span(inside: bool, from: u32, end: u32) -> usize
     ensures small { result ≤ end - from }
 {
     if inside { (end - from) as usize } else { 0 }
+}
+
+// How many numbers there are from start on and before end.
+fn width(start: u32, end: u32) -> usize
+    requires { start ≤ end }
+    ensures exact { result ≡ end - start }
+    ensures fits { end < 2 ^ 32 }
+{
+    (end - start) as usize
 }
 
 // Whether a number is in the set, and how many below it are.

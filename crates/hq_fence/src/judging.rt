@@ -8,17 +8,23 @@ ghost use Rattle.hq_model.specs.Fence as model;
 ghost use Rattle.hq_fence.specs.Judgement.{ReleasesBefore, ReleasesToAcquire, Shows, IsNotShown, flag_of, IsFirstKind};
 ghost use Rattle.hq_fence.specs.declared.shown.Kind as shown;
 
+use crate::fences::{need, releases};
 use crate::search::{Ending, Goal, Search};
 use crate::shown::{Acquire, Kind, NotShown, Release, Shown, Why};
 use hq_footprint::Kinds;
 use hq_order::Before;
 
-/// How p is released before r.
+/// How p, which is before r, is released before r. Mostly its own fence does that.
 fn released(before: &Before, p: usize, r: usize) -> Option<Release>
     requires p_is { IsPacket before.now p }
     requires r_is { IsPacket before.now r }
+    requires ordered { order.Before before.now p r }
     ensures { MatchOption result (¬ model.ReleasedBefore before.now p r) (ReleasesBefore before.now p r) }
 {
+    before.job().valid();
+    if releases(before, p, p, need(before, p, r)) {
+        return Some(Release::Alone(p as u16));
+    }
     match Search::new(before, p, r, Goal::Second).find() {
         Some((release, _)) => Some(release),
         None => None,

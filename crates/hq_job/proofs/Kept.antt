@@ -36,6 +36,8 @@ fits_empty rings =
       handles_apart = λ i j d l m. absurd (omega arith);
       handles_some = λ k d l. absurd (omega arith);
       packets = λ k d l. absurd (omega arith);
+      last = λ e. tt;
+      rises = λ e i j d l m. absurd (omega arith);
       signals = λ k s e. absurd (cc);
     }
 
@@ -60,6 +62,8 @@ wider ts agents buffers arguments kernels fits w more bytes =
       handles_apart = fits.handles_apart;
       handles_some = fits.handles_some;
       packets = All-weaker (PacketFits ts) (PacketFits us) (grown ts us (omega arith) bytes (omega arith)) ts.placed fits.packets;
+      last = fits.last;
+      rises = fits.rises;
       signals = λ k s e. let h = fits.signals k s e in record { decrementers = h.decrementers; waited = h.waited };
     }
 
@@ -150,6 +154,8 @@ signal_kept ts name handle start some fits none =
       handles_apart = apart_more ts.signals handle start fits.handles_apart none.1.1.0;
       handles_some = All-push (λ (t : OpenSignal). 0 < t.handle) ts.signals s fits.handles_some some;
       packets = All-weaker (PacketFits ts) (PacketFits us) (grown ts us (omega arith) (omega arith) (omega arith)) ts.placed fits.packets;
+      last = fits.last;
+      rises = fits.rises;
       signals = each_push (SignalFits us) ts.signals s (λ k t e. let h = fits.signals k t e in record { decrementers = h.decrementers; waited = h.waited }) (opened_fits ts us handle start refl fits);
     }
 
@@ -183,11 +189,13 @@ queue_kept ts name agent size some fits none =
       handles_apart = fits.handles_apart;
       handles_some = fits.handles_some;
       packets = All-weaker (PacketFits ts) (PacketFits us) (grown ts us (omega arith) (omega arith) (omega arith)) ts.placed fits.packets;
+      last = λ e. omega (arith, count);
+      rises = fits.rises;
       signals = λ k s e. let h = fits.signals k s e in record { decrementers = h.decrementers; waited = h.waited };
     }
 
-to_kept : (ts : Tables) (name : Name) → TablesFit ts → TablesFit (added ts (says.To name))
-to_kept ts name fits =
+to_kept : (ts : Tables) (name : Name) → TablesFit ts → NoneApplies (tests ts (says.To name)) → TablesFit (added ts (says.To name))
+to_kept ts name fits none =
     let w = fits.within in
     let us : Tables = added ts (says.To name) in
     record {
@@ -198,6 +206,8 @@ to_kept ts name fits =
       handles_apart = fits.handles_apart;
       handles_some = fits.handles_some;
       packets = All-weaker (PacketFits ts) (PacketFits us) (grown ts us (omega arith) (omega arith) (omega arith)) ts.placed fits.packets;
+      last = λ e. absurd (none.0 e);
+      rises = fits.rises;
       signals = λ k s e. let h = fits.signals k s e in record { decrementers = h.decrementers; waited = h.waited };
     }
 
@@ -213,7 +223,7 @@ kept ts (says.Args name at bytes) in_range fits none = args_kept ts name at byte
 kept ts (says.Signal name handle start) in_range fits none = signal_kept ts name handle start (omega (arith, in_range.1.from)) fits none
 kept ts (says.Kernel name object code) in_range fits none = kernel_kept ts name object code fits none
 kept ts (says.Queue name agent size) in_range fits none = queue_kept ts name agent size (omega (arith, in_range.2.from)) fits none
-kept ts (says.To name) in_range fits none = to_kept ts name fits
+kept ts (says.To name) in_range fits none = to_kept ts name fits none
 kept ts (says.Packet p) in_range fits none = packet_kept ts p fits none
 kept ts says.End in_range fits none = fits
 

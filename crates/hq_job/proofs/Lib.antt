@@ -2,6 +2,7 @@ pub mod Grouped
 pub mod Submitted
 pub mod Counted
 pub mod Found
+pub mod Tail
 pub mod Texts
 pub mod Kept
 pub mod Lines

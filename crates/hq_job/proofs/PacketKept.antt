@@ -3,6 +3,7 @@ use Rattle.std.proofs.Common.{◌≡◌, ℕ, zero, suc, ◌+◌, ◌<◌, ◌�
 use Rattle.std.specs.List.{list_any}
 use Rattle.std.proofs.lemmas.Bool.{cases_eq, or_left, or_right, eq-eqb}
 use Rattle.std.proofs.lemmas.List.{length-map}
+use Rattle.std.proofs.lemmas.List.Quantifiers.{all_pairs_push}
 use Rattle.std.proofs.lemmas.List.Elements.{All-cons, All-nil, All-map, All-push, All-weaker}
 use Rattle.std.proofs.lemmas.Option.{slice_get-map, get_or_from_slice_get}
 use Rattle.hq_packet.specs.declared.packet.Packet as packet
@@ -87,6 +88,10 @@ not_null ts q (format.Or b) some declared kind =
 current_low : (o : Option ℕ) (n : ℕ) → ¬ IsNone o → IfSome o (λ q. q < n) → unwrap_or o 0 < n
 current_low None n some low = absurd (some refl)
 current_low (Some q) n some low = low
+
+current_last : (o : Option ℕ) (n : ℕ) → ¬ IsNone o → IfSome o (λ q. q + 1 ≡ n) → unwrap_or o 0 + 1 ≡ n
+current_last None n some is = absurd (some refl)
+current_last (Some q) n some is = is
 
 slots_low : (signals : List OpenSignal) (hs : List ℕ) → All (λ o. IfSome o (λ k. k < length signals)) (map (signal_number signals) hs)
 slots_low signals hs = All-map (λ o. IfSome o (λ k. k < length signals)) (signal_number signals) hs (λ k d l. number_low signals (slice_index_or hs k d))
@@ -188,6 +193,8 @@ packet_kept ts p fits none =
       handles_apart = subst (AllPairs (λ h g. h ≢ g)) (sym (handles_kept p ts.signals)) fits.handles_apart;
       handles_some = All-map (λ s. 0 < s.handle) (noted p) ts.signals fits.handles_some;
       packets = All-push (PacketFits (with_packet ts p)) ts.placed new (All-weaker (PacketFits ts) (PacketFits (with_packet ts p)) wider ts.placed fits.packets) (wider new (packet_fits ts p fits none));
+      last = fits.last;
+      rises = λ e. all_pairs_push (λ (q r : Placed). q.queue ≤ r.queue) ts.placed new (fits.rises e) (λ k d l. omega (arith, (fits.packets k d l).queue, current_last ts.current (length ts.queues) none.1.0 (fits.last e)));
       signals = noted_fits ts p fits;
     }
   where

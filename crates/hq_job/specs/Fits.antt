@@ -1,5 +1,5 @@
 -- What the tables keep while lines are added.
-use Rattle.std.specs.Prelude.{◌≡◌, ◌≢◌, ℕ, ◌<◌, ◌≤◌, length, All, AllPairs, Some, IsTrue, IfSome, slice_get, count_by}
+use Rattle.std.specs.Prelude.{◌≡◌, ◌≢◌, ℕ, ◌+◌, ◌<◌, ◌≤◌, false, length, All, AllPairs, Some, IsTrue, IfSome, slice_get, count_by}
 use Rattle.hq_footprint.specs.Bytes.{read_entries, written_bytes}
 use Rattle.hq_footprint.specs.Tasks.{Suits}
 use Rattle.hq_signals.specs.Table.{OpenSignal, handles}
@@ -44,4 +44,7 @@ pub record TablesFit (ts : Tables) : Type 0 where
   pub handles_apart : AllPairs (λ h g. h ≢ g) (handles ts.signals)
   pub handles_some : All (λ s. 0 < s.handle) ts.signals
   pub packets : All (PacketFits ts) ts.placed
+  -- where queues are no rings, packets go to the last queue, and stand queue by queue
+  pub last : ts.rings ≡ false → IfSome ts.current (λ q. q + 1 ≡ length ts.queues)
+  pub rises : ts.rings ≡ false → AllPairs (λ p r. p.queue ≤ r.queue) ts.placed
   pub signals : (k : ℕ) (s : OpenSignal) → slice_get ts.signals k ≡ Some s → SignalFits ts k s

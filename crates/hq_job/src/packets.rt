@@ -1,6 +1,6 @@
 //! Packets taken in.
 
-ghost use Rattle.std.specs.Prelude.{◌≡◌, ◌+◌, ◌^◌, ◌<◌, ◌≤◌, ◌↔◌, ◌⊎◌, ◌==◌, ◌∷◌, false, map, length, count_by, slice_index, All, Any, IfOk, IsNone, IsTrue};
+ghost use Rattle.std.specs.Prelude.{◌≡◌, ◌+◌, ◌^◌, ◌<◌, ◌≤◌, ◌↔◌, ◌⊎◌, ◌==◌, ◌∷◌, false, map, length, count_by, slice_index, All, AllPairs, Any, IfOk, IsNone, IsTrue};
 ghost use Rattle.hq_footprint.specs.Bytes.{Fits, IsOutside, ranges_of};
 ghost use Rattle.hq_footprint.specs.Table.{no_work};
 ghost use Rattle.hq_lines.specs.Meaning as says;
@@ -140,23 +140,31 @@ fn note(signals: &mut SignalTable, packet: &Packet)
     note_dependencies(signals, deps_of(packet));
 }
 
-impl Tables {
-    /// How many packets a queue has.
-    fn packet_count(&self, queue: u16) -> usize
-        ensures { result ≡ count_by (λ p. p.queue == queue) self.now.placed.items }
-    {
-        self.placed
-            .iter()
-            .filter(|packet| packet.queue == queue)
-            .count()
+/// Whether the last queue has so many packets, where packets stand queue by queue.
+fn has_last(placed: &[Placed], queue: u16, count: usize) -> bool
+    requires some { 0 < count }
+    requires rises { AllPairs (λ p r. p.queue ≤ r.queue) placed.now }
+    requires most { All (λ p. p.queue ≤ queue) placed.now }
+    ensures { IsTrue result ↔ (count ≤ count_by (λ p. p.queue == queue) placed.now) }
+{
+    match placed.len().checked_sub(count) {
+        Some(place) => placed[place].queue == queue,
+        None => false,
     }
+}
 
-    /// Whether a queue that is no ring has no slot left.
+impl Tables {
+    /// Whether the queue that packets go to is no ring and has no slot left.
     fn is_full(&self, queue: u16) -> bool
-        requires { queue < length self.now.queues.items }
+        requires fit { TablesFit (tables_of self.now) }
+        requires current { self.now.current ≡ Some queue }
         ensures { IsTrue result ↔ ((self.now.rings ≡ false) × (slice_index (map (λ e. e.size) self.now.queues.items) queue ≤ count_by (λ p. p.queue == queue) self.now.placed.items)) }
     {
-        !self.rings && self.packet_count(queue) >= self.queues[queue as usize].size as usize
+        if self.rings {
+            return false;
+        }
+        let size = self.queues[queue as usize].size as usize;
+        has_last(&self.placed, queue, size)
     }
 
     /// The queue that the next packet goes to.

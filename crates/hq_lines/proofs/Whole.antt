@@ -1,12 +1,9 @@
 -- Words have one meaning or a first fault, and not both.
-use Rattle.std.proofs.Common.{◌≡◌, ℕ, true, List, Option, Some, None, refl, sym, ap, subst, ◌∙◌, inl, inr}
-use Rattle.std.specs.Prelude.{Result, Ok, Err, is_ok, ◌⊎◌, IfOk, IfErr, MatchResult}
-use Rattle.hex.specs.Hex.{decode_sized}
+use Rattle.std.proofs.Common.{◌≡◌, ℕ, List, Option, Some, None, refl, sym, ap, subst, ◌∙◌, inl, inr}
+use Rattle.std.specs.Prelude.{Result, Ok, Err, ◌⊎◌, IfOk, IfErr, MatchResult}
 use Rattle.hex.specs.declared.error.FromHexError.{FromHexError}
 use Rattle.hex.proofs.HexLemmas.{decode_sized-twice}
-use Rattle.hq_packet.specs.Faults.{first_fault}
 use Rattle.hq_packet.specs.PacketText.{PacketText}
-use Rattle.hq_packet.specs.declared.fault.PacketFault.{PacketFault}
 use Rattle.hq_packet.proofs.Packets.{one_packet, no_fault}
 use Rattle.hq_text.specs.Lines.{words_of}
 use Rattle.hq_lines.specs.declared.fault.LineFault.{LineFault}
@@ -14,7 +11,7 @@ use Rattle.hq_lines.specs.declared.fault.LineFault.TheVariants as fault
 use Rattle.hq_lines.specs.Gives.{Gives, Fails}
 use Rattle.hq_lines.specs.Meaning.{Meaning, Packet}
 use Rattle.hq_lines.specs.Says.{SpellsPacket, Says, SaysLine, agent, zeros, buffer, args, signal, kernel, queue, to, packets, ends}
-use Rattle.hq_lines.specs.Order.{agent_said, to_said, zeros_of, filled_of, buffer_said, args_of, args_said, signal_of, signal_said, kernel_of, kernel_said, queue_of, queue_said, end_said, plain_said, packet_digits, digits_fault, fault_by, words_fault, line_fault, bytes_fault, packet_fault}
+use Rattle.hq_lines.specs.Order.{agent_said, to_said, zeros_of, filled_of, buffer_said, args_of, args_said, signal_of, signal_said, kernel_of, kernel_said, queue_of, queue_said, end_said, plain_said, packet_digits, digits_fault, fault_by, words_fault, line_fault, packet_fault}
 use Rattle.hq_lines.proofs.Parts.{name_is, ranged_is, code_is, sized_is, some_is, short_is, size_is, extent_is, ok_is}
 use Rattle.hq_lines.proofs.Forms.{plain_ok, packet_ok}
 
@@ -82,11 +79,3 @@ only_line v (Err e) line m found faulty h = by faulty where
   by : (e ≡ fault.Memory) ⊎ (line_fault line ≡ Some e) → Fails e (Ok m)
   by (inl is) = memory_fails e (Ok m) is
   by (inr is) = let none = no_line_fault line m h in absurd cc
-
--- a packet line's bytes that are refused
-pub refused : (digits out : List ℕ) (r : Result (Unit {0}) FromHexError) (f : PacketFault) → is_ok r ≡ true → MatchResult (decode_sized digits 64) (λ bytes. (r ≡ Ok tt) × (out ≡ bytes)) (λ e. r ≡ Err e) → first_fault out ≡ Some f → digits_fault digits ≡ Some (fault.Packet f)
-unfolding digits_fault
-refused digits out r f ok h refusal = by (decode_sized digits 64) h where
-  by : (d : Result (List ℕ) FromHexError) → MatchResult d (λ bytes. (r ≡ Ok tt) × (out ≡ bytes)) (λ e. r ≡ Err e) → bytes_fault d ≡ Some (fault.Packet f)
-  by (Ok bytes) h = ap packet_fault (subst (λ (b : List ℕ). first_fault b ≡ Some f) h.1 refusal)
-  by (Err e) h = let no = subst (λ (x : Result (Unit {0}) FromHexError). is_ok x ≡ true) h ok in absurd cc

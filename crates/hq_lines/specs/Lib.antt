@@ -4,3 +4,4 @@ pub mod Says
 pub mod Fits
 pub mod Order
 pub mod Gives
+pub mod Decodes

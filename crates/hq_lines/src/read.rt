@@ -1,25 +1,29 @@
 //! Lines read.
 
-ghost use Rattle.std.specs.Prelude.{◌≡◌, if◌then◌else◌, ◌⊎◌, ◌↔◌, List, length, map, IfOk, IfErr, Ok, Err, Some, None, codes, IsTrue};
+ghost use Rattle.std.specs.Prelude.{◌≡◌, if◌then◌else◌, ◌⊎◌, ◌↔◌, ◌++◌, List, length, map, IfOk, IfErr, IfSome, Ok, Err, Some, None, codes, IsTrue};
 ghost use Rattle.std.specs.List.{list_any};
 ghost use Rattle.hq_text.specs.Lines.{words_of};
 ghost use Rattle.hq_lines.specs.Bytes.{is_outside};
 ghost use Rattle.hq_lines.specs.Meaning.{Meaning, view};
-ghost use Rattle.hq_lines.specs.Says.{SaysLine};
+ghost use Rattle.hq_lines.specs.Says.{Says, SaysLine};
 ghost use Rattle.hq_lines.specs.Order.{line_fault};
 ghost use Rattle.hq_lines.specs.Fits.{Fits};
 ghost use Rattle.hq_lines.specs.Gives.{Gives};
 
 use crate::fault::LineFault;
 use crate::line::{Line, Version};
-use crate::words::words_said;
+use crate::words::{packet_said, words_said};
 use hq_text::words_of;
 use std::alloc::Global;
 
 fn has_outside(line: &[u8]) -> bool
     ensures { result ≡ list_any is_outside line.now }
 {
-    line.iter().any(|b| *b < 32 || *b > 126)
+    let mut found = false;
+    for b in line {
+        found |= *b < 32 || *b > 126;
+    }
+    found
 }
 
 fn check_bytes(line: &[u8]) -> Result<(), LineFault>
@@ -46,11 +50,28 @@ pub fn first_line(line: &[u8]) -> Result<Version, LineFault>
     Err(line_behind_end(line))
 }
 
+/// What stands behind the first bytes of a line.
+fn behind<'a>(line: &'a [u8], first: &[u8]) -> Option<&'a [u8]>
+    ensures { IfSome result (λ rest. line.now ≡ first.now ++ rest.now) }
+{
+    line.strip_prefix(first)
+}
+
+/// The packet that a line says, if it says one.
+fn packet_line(line: &[u8]) -> Option<Line>
+    ensures { IfSome result (λ l. Says (words_of line.now) (view l)) }
+{
+    packet_said(behind(line, b"packet ".as_slice())?).ok()
+}
+
 fn line_said(alloc: Global, line: &[u8]) -> Result<Line, LineFault>
     ensures found { IfOk result (λ l. SaysLine line.now (view l)) }
     ensures fault { IfErr result (λ e. (e ≡ LineFault.Memory) ⊎ (line_fault line.now ≡ Some e)) }
 {
     check_bytes(line)?;
+    if let Some(packet) = packet_line(line) {
+        return Ok(packet);
+    }
     let words = words_of(alloc, line)?;
     words_said(alloc, &words)
 }

@@ -1,8 +1,10 @@
 //! What words say.
 
-ghost use Rattle.std.specs.Prelude.{◌≡◌, ◌+◌, ◌*◌, ◌-◌, ◌^◌, ◌<◌, ◌≤◌, List, length, map, IfOk, IfErr, MatchResult, Some, ◌⊎◌};
+ghost use Rattle.std.specs.Prelude.{◌≡◌, ◌+◌, ◌*◌, ◌-◌, ◌^◌, ◌<◌, ◌≤◌, List, length, map, IfOk, IfErr, IfSome, IfNone, MatchResult, Ok, Some, unwrap_or, nat_lt, ◌&&◌, ◌⊎◌};
 ghost use Rattle.hq_lines.specs.Order.{name_said, ranged, code_said, sized_said, some_said, short_said, size_said, extent_said, agent_said, to_said, zeros_of, filled_of, buffer_said, args_of, args_said, signal_of, signal_said, kernel_of, kernel_said, queue_of, queue_said, end_said, plain_said, is_power, packet_digits, digits_fault, words_fault};
 ghost use Rattle.hq_lines.specs.Says.{Says, SpellsPacket};
+ghost use Rattle.hex.specs.Hex.{decode_of, hex_digit_value};
+ghost use Rattle.hq_lines.specs.Decodes.{Decodes};
 ghost use Rattle.std.specs.Option.{option_map};
 ghost use Rattle.hq_lines.specs.declared.fault.LineFault.TheVariants.{Memory};
 ghost use Rattle.hq_lines.specs.Meaning.{view};
@@ -309,15 +311,62 @@ fn plain_said(alloc: Global, words: &[&[u8]]) -> Result<Line, LineFault>
     }
 }
 
+/// The value of a digit, or 255 where it is none.
+fn digit_value(digit: u8) -> u8
+    ensures { result ≡ unwrap_or (hex_digit_value digit) 255 }
+{
+    match digit {
+        b'0'..=b'9' => digit - b'0',
+        b'a'..=b'f' => digit - b'a' + 10,
+        b'A'..=b'F' => digit - b'A' + 10,
+        _ => 255,
+    }
+}
+
+/// Whether these are the values of digits.
+fn are_digits(high: u8, low: u8) -> bool
+    ensures { result ≡ (nat_lt high 16 && nat_lt low 16) }
+{
+    high < 16 && low < 16
+}
+
+/// Decodes all pairs of digits, and tells whether all are digits. What that leaves of others says nothing.
+fn decode_pairs(digits: &[u8], bytes: &mut [u8]) -> bool
+    requires { length digits.now ≡ 2 * length bytes.old }
+    ensures { Decodes digits.now bytes.new result }
+{
+    let mut fine = true;
+    for i in 0..bytes.len() {
+        let high = digit_value(digits[2 * i]);
+        let low = digit_value(digits[2 * i + 1]);
+        fine &= are_digits(high, low);
+        bytes[i] = high.wrapping_mul(16).wrapping_add(low);
+    }
+    fine
+}
+
+/// The bytes that 128 digits spell.
+fn packet_bytes(digits: &[u8]) -> Option<[u8; 64]>
+    ensures found { IfSome result (λ bytes. (length digits.now ≡ 128) × (decode_of digits.now ≡ Ok bytes)) }
+    ensures none { IfNone result (digits_fault digits.now ≡ Some LineFault.Hex) }
+{
+    if digits.len() != 128 {
+        return None;
+    }
+    let mut bytes = [0; 64];
+    if !decode_pairs(digits, &mut bytes) {
+        return None;
+    }
+    Some(bytes)
+}
+
 /// The packet that 128 digits spell.
-#[tactic(auto, unfolding(crate::specs::Order::digits_fault))]
-fn packet_said(digits: &[u8]) -> Result<Line, LineFault>
+pub fn packet_said(digits: &[u8]) -> Result<Line, LineFault>
     ensures { MatchResult result (λ line. SpellsPacket digits.now (view line)) (λ e. digits_fault digits.now ≡ Some e) }
 {
-    let mut bytes = [0; 64];
-    if hex::decode_to_slice(digits, &mut bytes).is_err() {
+    let Some(bytes) = packet_bytes(digits) else {
         return Err(LineFault::Hex);
-    }
+    };
     match decode(&bytes) {
         Ok(packet) => Ok(Line::Packet(packet)),
         Err(fault) => Err(LineFault::Packet(fault)),

@@ -17,3 +17,6 @@ pub mod Releases
 pub mod Singles
 pub mod EachEntry
 pub mod EachStore
+pub mod Released
+pub mod FenceBacks
+pub mod Delivered

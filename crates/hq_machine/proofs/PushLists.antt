@@ -6,7 +6,7 @@ use Rattle.std.proofs.lemmas.Grind.{flat_map-append}
 use Rattle.hq_model.specs.Machine.{Event, is_dirty, listed}
 use Rattle.hq_model.specs.Journal.{numbers}
 use Rattle.hq_model.specs.View.{copies_of}
-use Rattle.hq_copies.specs.Copies.{CopiesValue, IsFirstDirty, held, lane_pushed, agent_pushed}
+use Rattle.hq_copies.specs.Copies.{CopiesValue, IsFirstDirty, NoneDirty, held, lane_pushed, agent_pushed}
 use Rattle.hq_machine.specs.declared.coarse.Holders.{Holders}
 use Rattle.hq_machine.specs.declared.coarse.Holders.TheVariants as holders
 use Rattle.hq_machine.specs.Pushes.{maps_of, push_of, PushedBy, AllPushed, Within, dirty_of, Cleaned, Swept, WrittenBack, span, pushes_of}
@@ -82,10 +82,12 @@ can_push : (h : Holders) (cur : CopiesValue) (k b : ℕ) → k < length (maps_of
 can_push holders.Lanes cur k b l within d = let (value, e) = dirty_is (copies_of cur.lanes k b) d in (lane_pushed cur k b value, ((l, within.lanes k b d), (value, e, refl)))
 can_push holders.Agents cur k b l within d = let (value, e) = dirty_is (copies_of cur.agents k b) d in (agent_pushed cur k b value, ((l, within.agents k b d), (value, e, refl)))
 
-can_go_on : (h : Holders) (old : CopiesValue) (k : ℕ) → k < length (maps_of h old) → (fuel : ℕ) (cur : CopiesValue) → length (dirty_of h cur k) < fuel → Cleaning h old k cur → (new : CopiesValue) × Cleaned h old k new
+can_go_on : (h : Holders) (old : CopiesValue) (k : ℕ) → k < length (maps_of h old) → (fuel : ℕ) (cur : CopiesValue) → length (dirty_of h cur k) < fuel → Cleaning h old k cur → (new : CopiesValue) × Cleaned h old k new × NoneDirty (held (maps_of h new) k)
 can_go_on h old k l zero cur few c = absurd (omega arith)
 can_go_on h old k l (suc fuel) cur few c = elim (least (λ b. is_dirty (copies_of (maps_of h cur) k b)) (length cur.memory)) [
-  | inl none ↦ (cur, cleaned h old k cur c (λ b. not_true (is_dirty (copies_of (maps_of h cur) k b)) (λ d. true≢false (sym d ∙ none b (dirty_low h cur k c.kept.within b d)))))
+  | inl none ↦
+      let clean : NoneDirty (held (maps_of h cur) k) = λ b. not_true (is_dirty (copies_of (maps_of h cur) k b)) (λ d. true≢false (sym d ∙ none b (dirty_low h cur k c.kept.within b d))) in
+      (cur, cleaned h old k cur c clean, clean)
   | inr found ↦
       let b = found.0 in
       let first : IsFirstDirty (held (maps_of h cur) k) b = record { dirty = found.1; least = found.2 } in
@@ -95,7 +97,7 @@ can_go_on h old k l (suc fuel) cur few c = elim (least (λ b. is_dirty (copies_o
       can_go_on h old k l fuel new (omega arith) (cleaning_pushes h old k b cur new c first pushed)
 ]
 
-pub can_clean : (h : Holders) (old : CopiesValue) (k : ℕ) → k < length (maps_of h old) → Within old → (new : CopiesValue) × Cleaned h old k new
+pub can_clean : (h : Holders) (old : CopiesValue) (k : ℕ) → k < length (maps_of h old) → Within old → (new : CopiesValue) × Cleaned h old k new × NoneDirty (held (maps_of h new) k)
 can_clean h old k l within = can_go_on h old k l (suc (length (dirty_of h old k))) old (omega arith) (cleaning_starts h old k within)
 
 can_sweep_on : (h : Holders) (old : CopiesValue) (start n : ℕ) → Within old → start + n ≤ length (maps_of h old) → (new : CopiesValue) × Swept h old start (start + n) new
@@ -103,7 +105,7 @@ can_sweep_on h old start zero within l = let e : start ≡ start + 0 = omega ari
 can_sweep_on h old start (suc n) within l =
     let (cur, s) = can_sweep_on h old start n within (omega arith) in
     let count = maps_count h old cur s.kept.counts in
-    let (new, c) = can_clean h cur (start + n) (omega (arith, count)) s.kept.within in
+    let (new, c, none) = can_clean h cur (start + n) (omega (arith, count)) s.kept.within in
     let e : (start + n) + 1 ≡ start + suc n = omega arith in
     (new, subst (λ m. Swept h old start m new) e (sweep_more h old start (start + n) cur new (omega arith) s c))
 

@@ -1,6 +1,8 @@
 -- Lists of pushes: of all dirty bytes of one lane or agent, and of some of them in turn. This project's own.
 use Rattle.std.specs.Prelude.{◌≡◌, ◌≢◌, ℕ, ◌+◌, ◌-◌, ◌<◌, ◌≤◌, true, false, List, [], ◌∷◌, length, slice_index, map, filter, flat_map}
-use Rattle.hq_copies.specs.Copies.{CopiesValue, PushedLane, PushedAgent, IsLaneByte, IsAgentByte}
+use Rattle.hq_machine.specs.State.{StateValue}
+use Rattle.hq_machine.specs.View.{recopied}
+use Rattle.hq_copies.specs.Copies.{CopiesValue, Released, PushedLane, PushedAgent, IsLaneByte, IsAgentByte}
 use Rattle.hq_job.specs.Access.{AreOfQueue}
 use Rattle.hq_machine.specs.declared.coarse.Holders.{Holders}
 use Rattle.hq_machine.specs.declared.coarse.Holders.TheVariants as holders
@@ -99,3 +101,9 @@ pub record AgentsOf (job : Job) (p start stop : ℕ) : Type 0 where
   pub within : stop ≤ job.agents
   pub some : reaches (packet job p).release scope.System ≡ true → (start ≡ agent_of job p) × (stop ≡ start + 1)
   pub none : reaches (packet job p).release scope.System ≡ false → start ≡ stop
+
+-- the copies after the write-backs of p's release fence, over the lanes from start up to stop
+pub record WroteBack (job : Job) (old : StateValue) (p start stop : ℕ) (new : StateValue) : Type 0 where
+  pub copies : CopiesValue
+  pub released : Released old.copies start stop (agent_of job p) (packet job p).release copies
+  pub state : new ≡ recopied old copies

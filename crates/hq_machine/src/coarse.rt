@@ -3,7 +3,7 @@
 ghost use Rattle.std.specs.Prelude.{◌≡◌, ◌<◌, ◌≤◌, ◌↔◌, ℕ, IsTrue, length, MatchOption, IfOk, IfErr, OnOk, OnErr};
 ghost use Rattle.hq_copies.specs.Copies.{IsFirstDirty, NoneDirty, held};
 ghost use Rattle.hq_job.specs.Plan.{plan};
-ghost use Rattle.hq_machine.specs.Pushes.{maps_of, push_of, PushedBy, Within, Cleaned, Swept, WrittenBack, IsWorked, LanesOf, AgentsOf};
+ghost use Rattle.hq_machine.specs.Pushes.{maps_of, push_of, PushedBy, Within, Cleaned, Swept, WrittenBack, WroteBack, IsWorked};
 ghost use Rattle.hq_machine.specs.View.{IsStateOf, Applied, NotApplied, recopied, state_of};
 ghost use Rattle.hq_model.specs.Job.{IsPacket};
 ghost use Rattle.hq_model.specs.Journal.Coarse.{Finish, Rest};
@@ -14,7 +14,6 @@ use crate::phase::Phase;
 use crate::state::State;
 use hq_copies::{Copies, CopiesFault};
 use hq_job::Job;
-use hq_packet::Scope;
 use std::ops::Range;
 
 /// Who holds copies.
@@ -101,35 +100,6 @@ fn write_back(
     Ok(())
 }
 
-/// The lanes that the packet's release fence reaches.
-fn lanes_of(job: &Job, number: usize) -> Range<usize>
-    requires { IsPacket (plan job.now) number }
-    ensures { LanesOf (plan job.now) number result.start result.end }
-{
-    match release_of(job, number) {
-        Scope::None => 0..0,
-        Scope::Agent => queue_of(job, number),
-        Scope::System => queue_of(job, number),
-    }
-}
-
-/// The agents that the packet's release fence reaches.
-#[tactic(auto, using(crate::proofs::Jobs::agent_below))]
-fn agents_of(job: &Job, number: usize) -> Range<usize>
-    requires { IsPacket (plan job.now) number }
-    ensures { AgentsOf (plan job.now) number result.start result.end }
-{
-    job.valid();
-    match release_of(job, number) {
-        Scope::None => 0..0,
-        Scope::Agent => 0..0,
-        Scope::System => {
-            let agent = agent_of(job, number);
-            agent..agent + 1
-        }
-    }
-}
-
 impl State {
     /// Copies of which all dirty bytes of these lanes, and then of these agents, are written back.
     fn written_back(&self, lanes: Range<usize>, agents: Range<usize>) -> Result<Copies, CopiesFault>
@@ -151,6 +121,30 @@ impl State {
         ensures { self.new ≡ recopied self.old copies }
     {
         self.copies = copies;
+    }
+
+    /// Writes back what the packet's release fence waits for, of these lanes.
+    fn write_back(
+        &mut self,
+        job: &Job,
+        packet: usize,
+        numbers: Range<usize>,
+    ) -> Result<(), StepFault>
+        requires is { IsStateOf (plan job.now) self.old }
+        requires packet { IsPacket (plan job.now) packet }
+        requires rising { numbers.start ≤ numbers.end }
+        requires numbers { numbers.end ≤ length (plan job.now).packets }
+        ensures ok { OnOk result (WroteBack (plan job.now) self.old packet numbers.start numbers.end self.new) }
+        ensures err { OnErr result (self.new ≡ self.old) }
+        ensures memory { IfErr result (λ e. e ≡ StepFault.Memory) }
+    {
+        job.valid();
+        let agent = agent_of(job, packet);
+        let scope = release_of(job, packet);
+        match self.copies.release(numbers, agent, scope) {
+            Ok(()) => Ok(()),
+            Err(_fault) => Err(StepFault::Memory),
+        }
     }
 
     /// Whether the packet is at its completion, but for its release fence.
@@ -178,17 +172,11 @@ impl State {
             return Err(StepFault::NotEnabled);
         }
         let done = done_of(job, number);
-        let lanes = lanes_of(job, number);
-        let agents = agents_of(job, number);
-        match self.written_back(lanes, agents) {
-            Ok(copies) => {
-                self.set_copies(copies);
-                self.decrement(done);
-                self.set_phase(number, Phase::Complete);
-                Ok(())
-            }
-            Err(_fault) => Err(StepFault::Memory),
-        }
+        let numbers = queue_of(job, number);
+        self.write_back(job, number, numbers)?;
+        self.decrement(done);
+        self.set_phase(number, Phase::Complete);
+        Ok(())
     }
 
     /// All dirty bytes of all lanes are pushed, then those of all agents: whole or not at all.

@@ -1,19 +1,19 @@
 //! All reads of a packet in order, and all its stores.
 
 ghost use Rattle.std.specs.Prelude.{◌≡◌, ◌<◌, ◌↔◌, ℕ, Some, None, IsTrue, length, IfOk, IfErr, OnOk, OnErr, slice_index, slice_index_or, false};
-ghost use Rattle.hq_copies.specs.Copies.{stored};
 ghost use Rattle.hq_job.specs.Plan.{plan};
 ghost use Rattle.hq_model.specs.Job.{IsPacket, packet as packet_of};
 ghost use Rattle.hq_model.specs.Journal.Coarse.{Fetch, Deliver};
-ghost use Rattle.hq_machine.specs.Entries.{MayFetch, FetchedUpTo, MayDeliver, DeliveredUpTo};
-ghost use Rattle.hq_machine.specs.View.{Applied, IsEntry, IsStateOf, NotApplied, rereading, restored, row_of, state_of, stores_of};
+ghost use Rattle.hq_model.specs.Machine.{bytes_stored};
+ghost use Rattle.hq_machine.specs.Entries.{MayFetch, FetchedUpTo, MayDeliver};
+ghost use Rattle.hq_machine.specs.View.{Applied, IsEntry, IsStateOf, NotApplied, Possible, rereading, row_of, state_of, stores_of};
 
 use crate::fault::StepFault;
-use crate::packets::{read_at, read_count, write_at, write_count};
+use crate::packets::{first_write, read_at, read_count, write_count};
 use crate::phase::Phase;
 use crate::rows::{Reads, Stores};
 use crate::state::State;
-use hq_copies::Copies;
+use crate::storing::task_of;
 use hq_job::Job;
 use std::alloc::AllocError;
 
@@ -26,27 +26,6 @@ fn entry_byte(job: &Job, packet: usize, entry: usize) -> usize
     match read_at(job, packet, entry) {
         Some(byte) => byte,
         None => unreachable!(),
-    }
-}
-
-/// Stores one byte into these copies.
-fn store_into(
-    job: &Job,
-    packet: usize,
-    entry: usize,
-    value: u8,
-    copies: &mut Copies,
-) -> Result<(), StepFault>
-    requires packet { IsPacket (plan job.now) packet }
-    requires entry { entry < length (packet_of (plan job.now) packet).writes }
-    requires lanes { length copies.old.lanes ≡ length (plan job.now).packets }
-    requires memory { length copies.old.memory ≡ length (plan job.now).memory }
-    ensures ok { OnOk result (copies.new ≡ stored copies.old packet (slice_index (packet_of (plan job.now) packet).writes entry) value) }
-    ensures memory { IfErr result (λ e. e ≡ StepFault.Memory) }
-{
-    match copies.store(packet, write_at(job, packet, entry), value) {
-        Ok(()) => Ok(()),
-        Err(_) => Err(StepFault::Memory),
     }
 }
 
@@ -149,62 +128,28 @@ impl State {
             && self.has_stored_none(packet)
     }
 
-    /// The bytes that the packet is to store.
-    fn opened_stores(&self, job: &Job, packet: usize) -> Result<Stores, AllocError>
-        requires is { IsStateOf (plan job.now) self.now }
-        requires some { 0 < length (packet_of (plan job.now) packet).writes }
-        requires may { MayDeliver (plan job.now) (state_of (plan job.now) self.now) packet }
-        ensures start { IfOk result (λ stores. DeliveredUpTo (plan job.now) self.now packet 0 stores self.now.copies) }
-        ensures count { IfOk result (λ stores. length stores.bytes ≡ length (packet_of (plan job.now) packet).writes) }
-    {
-        let bytes = self.task_bytes(job, packet)?;
-        let stores = Stores::open(self.allocator(), bytes)?;
-        Ok(stores)
-    }
-
-    /// A copy of the copies.
-    fn copied(&self) -> Result<Copies, StepFault>
-        ensures ok { IfOk result (λ copies. copies ≡ self.now.copies) }
-        ensures memory { IfErr result (λ e. e ≡ StepFault.Memory) }
-    {
-        match self.copies.copy(self.allocator()) {
-            Ok(copies) => Ok(copies),
-            Err(_) => Err(StepFault::Memory),
-        }
-    }
-
-    /// Stores all bytes of the packet, in order, into these copies.
-    fn store_in_order(
-        &self,
-        job: &Job,
-        packet: usize,
-        stores: &mut Stores,
-        copies: &mut Copies,
-    ) -> Result<(), StepFault>
-        requires is { IsStateOf (plan job.now) self.now }
+    /// All stores of a packet that writes something, where these are its bytes.
+    fn deliver_bytes(&mut self, job: &Job, packet: usize, bytes: Vec<u8>) -> Result<(), StepFault>
+        requires is { IsStateOf (plan job.now) self.old }
         requires packet { IsPacket (plan job.now) packet }
-        requires may { MayDeliver (plan job.now) (state_of (plan job.now) self.now) packet }
-        requires start { DeliveredUpTo (plan job.now) self.now packet 0 stores.old copies.old }
-        requires count { length stores.old.bytes ≡ length (packet_of (plan job.now) packet).writes }
-        ensures ok { OnOk result (DeliveredUpTo (plan job.now) self.now packet (length (packet_of (plan job.now) packet).writes) stores.new copies.new) }
+        requires some { 0 < length (packet_of (plan job.now) packet).writes }
+        requires may { MayDeliver (plan job.now) (state_of (plan job.now) self.old) packet }
+        requires bytes { bytes.items ≡ bytes_stored (plan job.now) (state_of (plan job.now) self.old) packet }
+        requires count { length bytes.items ≡ length (packet_of (plan job.now) packet).writes }
+        ensures ok { OnOk result (Applied (plan job.now) self.old (Deliver packet) self.new) }
+        ensures err { OnErr result (self.new ≡ self.old) }
         ensures memory { IfErr result (λ e. e ≡ StepFault.Memory) }
     {
         job.valid();
-        for entry in 0..write_count(job, packet) {
-            let value = stores.byte(entry);
-            store_into(job, packet, entry, value, copies)?;
-            stores.set(entry);
+        let first = first_write(job, packet);
+        let stores = Stores::whole(self.allocator(), bytes)?;
+        match self.copies.store_run(packet, first, stores.bytes()) {
+            Ok(()) => {
+                self.put_stores(packet, stores);
+                Ok(())
+            }
+            Err(_fault) => Err(StepFault::Memory),
         }
-        Ok(())
-    }
-
-    /// The packet has these stores, and the copies are these.
-    fn put_delivered(&mut self, packet: usize, stores: Stores, copies: Copies)
-        requires { packet < length self.old.stores }
-        ensures { self.new ≡ restored self.old packet stores copies }
-    {
-        self.stores[packet] = stores;
-        self.copies = copies;
     }
 
     /// All stores of a packet that writes something.
@@ -220,10 +165,28 @@ impl State {
         if !self.may_deliver(job, packet) {
             return Err(StepFault::NotEnabled);
         }
-        let mut stores = self.opened_stores(job, packet)?;
-        let mut copies = self.copied()?;
-        self.store_in_order(job, packet, &mut stores, &mut copies)?;
-        self.put_delivered(packet, stores, copies);
+        let bytes = self.task_bytes(job, packet)?;
+        self.deliver_bytes(job, packet, bytes)?;
+        Ok(())
+    }
+
+    /// All stores of a packet that writes something, of bytes that are handed in.
+    fn deliver_given(&mut self, job: &Job, packet: usize, bytes: &[u8]) -> Result<(), StepFault>
+        requires is { IsStateOf (plan job.now) self.old }
+        requires packet { IsPacket (plan job.now) packet }
+        requires some { 0 < length (packet_of (plan job.now) packet).writes }
+        requires bytes { MayDeliver (plan job.now) (state_of (plan job.now) self.old) packet → bytes.now ≡ bytes_stored (plan job.now) (state_of (plan job.now) self.old) packet }
+        ensures ok { OnOk result (Applied (plan job.now) self.old (Deliver packet) self.new) }
+        ensures err { OnErr result (self.new ≡ self.old) }
+        ensures fault { IfErr result (λ f. NotApplied (plan job.now) self.old (Deliver packet) f) }
+    {
+        job.valid();
+        if !self.may_deliver(job, packet) {
+            return Err(StepFault::NotEnabled);
+        }
+        let _task = task_of(job, packet);
+        let bytes = Vec::from_slice(self.allocator(), bytes)?;
+        self.deliver_bytes(job, packet, bytes)?;
         Ok(())
     }
 
@@ -242,5 +205,29 @@ impl State {
             return Ok(());
         }
         self.deliver_entries(job, number)
+    }
+
+    /// All stores of a packet, in order, of these bytes, which a kernel that the machine doesn't know has made: whole or not at
+    /// all. Where the event can happen, they have to be the bytes that the packet's task makes.
+    ///
+    /// # Errors
+    ///
+    /// `NotEnabled` exactly where the event can't happen in this state, and `Memory`; the state is then as it was.
+    pub fn deliver(&mut self, job: &Job, packet: u32, bytes: &[u8]) -> Result<(), StepFault>
+        requires is { IsStateOf (plan job.now) self.old }
+        requires bytes { Possible (plan job.now) self.old (Deliver packet) → bytes.now ≡ bytes_stored (plan job.now) (state_of (plan job.now) self.old) packet }
+        ensures ok { OnOk result (Applied (plan job.now) self.old (Deliver packet) self.new) }
+        ensures err { OnErr result (self.new ≡ self.old) }
+        ensures fault { IfErr result (λ f. NotApplied (plan job.now) self.old (Deliver packet) f) }
+    {
+        job.valid();
+        let number = packet as usize;
+        if number >= job.packets().len() {
+            return Err(StepFault::NotEnabled);
+        }
+        if write_count(job, number) == 0 {
+            return Ok(());
+        }
+        self.deliver_given(job, number, bytes)
     }
 }

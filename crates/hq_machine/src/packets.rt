@@ -188,3 +188,14 @@ pub fn write_at(job: &Job, number: usize, entry: usize) -> usize
     job.valid();
     job.packet(number).bytes.write.at as usize + entry
 }
+
+/// The first byte that the packet writes; the others follow it.
+pub fn first_write(job: &Job, number: usize) -> usize
+    requires number { IsPacket (plan job.now) number }
+    requires some { 0 < length (packet (plan job.now) number).writes }
+    ensures at { (entry : ℕ) → entry < length (packet (plan job.now) number).writes → slice_index (packet (plan job.now) number).writes entry ≡ result + entry }
+    ensures within { result + length (packet (plan job.now) number).writes ≤ length (plan job.now).memory }
+{
+    job.valid();
+    job.packet(number).bytes.write.at as usize
+}

@@ -136,6 +136,27 @@ impl Stores {
         })
     }
 
+    /// These bytes, all of them stored.
+    #[tactic(auto, using(crate::proofs::Delivered::all_counted))]
+    pub fn whole(alloc: Global, bytes: Vec<u8>) -> Result<Stores, AllocError>
+        ensures { IfOk result (λ s. s ≡ record { bytes = bytes.items; stored = replicate (length bytes.items) true }) }
+    {
+        let count = bytes.len();
+        let stored = vec![in alloc; true; count]?;
+        Ok(Stores {
+            bytes,
+            stored,
+            count,
+        })
+    }
+
+    /// The bytes.
+    pub fn bytes(&self) -> &[u8]
+        ensures { result.now ≡ self.now.bytes }
+    {
+        &self.bytes
+    }
+
     /// Whether there is no byte yet.
     pub fn is_empty(&self) -> bool
         ensures { IsTrue result ↔ (length self.now.stored ≡ 0) }

@@ -20,7 +20,7 @@ use hq_job::Job;
 use std::alloc::{AllocError, Global};
 
 /// What the packet does with the bytes that it reads.
-fn task_of(job: &Job, packet: usize) -> Task
+pub(crate) fn task_of(job: &Job, packet: usize) -> Task
     requires { IsPacket (plan job.now) packet }
     ensures is { result ≡ (packet_of (plan job.now) packet).task }
     ensures suits { Suits result (length (packet_of (plan job.now) packet).reads) (length (packet_of (plan job.now) packet).writes) }
@@ -110,7 +110,7 @@ impl State {
     }
 
     /// The packet has these stores.
-    fn put_stores(&mut self, packet: usize, stores: Stores)
+    pub(crate) fn put_stores(&mut self, packet: usize, stores: Stores)
         requires { packet < length self.old.stores }
         ensures { self.new ≡ restored self.old packet stores self.old.copies }
     {

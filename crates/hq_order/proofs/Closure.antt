@@ -159,14 +159,12 @@ pushed P rows x new n len e h here r l = subst (λ ys. P r (row ys r)) (sym e) (
 ])
 
 pub square_grown : (n : ℕ) (old new : List (Vec ℕ)) → IsSquare n old → length new ≡ length old → ((r : ℕ) → r < length old → Grown (row old r) (row new r)) → IsSquare n new
-square_grown n old new sq e g = (
-  sq.0,
-  record {
-    height = e ∙ sq.1.height;
-    width = λ r l. (g r (let h = sq.1.height in omega arith)).len ∙ sq.1.width r l;
-    room = sq.1.room;
-  },
-)
+square_grown n old new sq e g = record {
+  height = e ∙ sq.height;
+  width = λ r l. (g r (let h = sq.height in omega arith)).len ∙ sq.width r l;
+  room = sq.room;
+  few = sq.few;
+}
 
 pub matrix_is : (rounds : List (Vec (Vec ℕ))) (k : ℕ) (x : Vec (Vec ℕ)) → k < length rounds → x ≡ slice_index_or rounds k x → matrix rounds k ≡ x.items
 matrix_is [] k x l is = absurd (omega arith)

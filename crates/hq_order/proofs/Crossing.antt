@@ -219,30 +219,3 @@ between_found rows table column other p r (Some m) t e len f lp few h = record {
 
 pub tables_next : (rounds : List (Vec (Vec ℕ))) (tables new : List (Vec ℕ)) (x : Vec ℕ) (rows : List (Vec ℕ)) (n : ℕ) → length tables ≡ n → new ≡ tables ++ x ∷ [] → matrix rounds n ≡ rows → ((k : ℕ) → k < n → Turned (matrix rounds k) (row tables k)) → Turned rows x.items → (k : ℕ) → k < n + 1 → Turned (matrix rounds k) (row new k)
 tables_next rounds tables new x rows n len e m h t = pushed (λ k words. Turned (matrix rounds k) words) tables x new n len e h (subst (λ rs. Turned rs x.items) (sym m) t)
-
--- ---- what is before the known ones, word by word
-
--- p is before a packet of this word
-abbrev pub OfKnown : List (Vec ℕ) → ℕ → ℕ → ℕ → Type 0
-OfKnown rows word first p = (bit : ℕ) × (bit < 64) × (IsTrue (bit_at word bit == 1) × Marks rows p (first + bit))
-
-pub none_known : (rows : List (Vec ℕ)) (first p : ℕ) → OfKnown rows 0 first p → ⊥
-none_known rows first p o =
-    let zeros : (bit_at 0 o.0 == 1) ≡ false = ap (λ b. b == 1) (bit_at-zero o.0) in
-    let is : IsTrue (bit_at 0 o.0 == 1) = o.2.0 in
-    let never : true ≡ false = sym is ∙ zeros in
-    absurd (cc)
-
-pub known_done : (Old A : Type 0) (rows : List (Vec ℕ)) (known : List ℕ) (p i : ℕ) → length rows ≤ 1024 → 16 ≤ i → A ↔ (Old ⊎ ((place : ℕ) × (place < i) × OfKnown rows (slice_index known place) (place * 64) p)) → A ↔ (Old ⊎ ((m : ℕ) × Marks rows p m × IsTrue (has known m)))
-known_done Old A rows known p i few high h = (
-  λ a. elim (h.0 a) [
-    | inl o ↦ inl o
-    | inr w ↦ let o = w.2 in inr (w.0 * 64 + o.0, o.2.1, has_there known w.0 o.0 o.1 (eqb-true (bit_at (slice_index known w.0) o.0) 1 o.2.0))
-  ],
-  λ t. elim t [
-    | inl o ↦ h.1 (inl o)
-    | inr w ↦
-        let low : w.0 < length rows = marked_below rows p w.0 w.1 in
-        h.1 (inr (w.0 / 64, omega arith, (w.0 % 64, omega arith, (w.2, subst (Marks rows p) (whole w.0) w.1))))
-  ],
-)

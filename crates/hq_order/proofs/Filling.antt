@@ -24,9 +24,11 @@ replicated n i = elim (cases_lt i n) [
   | inr high ↦ get_or_past (replicate n 0) i 0 (omega (arith, length-replicate {A = ℕ} n 0))
 ]
 
+pub has_no_bit : (row : List ℕ) (p : ℕ) → slice_index row (p / 64) ≡ 0 → has row p ≡ false
+has_no_bit row p e = ap (λ w. bit_at w (p % 64) == 1) e ∙ ap (λ b. b == 1) (bit_at-zero (p % 64))
+
 pub has_nothing : (row : List ℕ) (n p : ℕ) → row ≡ replicate n 0 → has row p ≡ false
-has_nothing row n p e =
-    ap (λ r. bit_at (slice_index r (p / 64)) (p % 64) == 1) e ∙ ap (λ w. bit_at w (p % 64) == 1) (replicated n (p / 64)) ∙ ap (λ b. b == 1) (bit_at-zero (p % 64))
+has_nothing row n p e = has_no_bit row p (ap (λ r. slice_index r (p / 64)) e ∙ replicated n (p / 64))
 
 pub or_either : (a b : Bool) → (a || b) ≡ true → (a ≡ true) ⊎ (b ≡ true)
 or_either true b h = inl refl
@@ -83,12 +85,6 @@ filled_out P old i row u never = record {
   );
   len = u.len;
 }
-
-pub filled_all : (P : ℕ → Type 0) (old : List ℕ) (i : ℕ) (row : List ℕ) → Filled P old i row → ((p : ℕ) → P p → p < i) → (p : ℕ) → IsTrue (has row p) ↔ (IsTrue (has old p) ⊎ P p)
-filled_all P old i row u low p = (
-  λ h. elim ((u.are p).0 h) [ inl t ↦ inl t | inr b ↦ inr b.1 ],
-  λ h. elim h [ inl t ↦ (u.are p).1 (inl t) | inr b ↦ (u.are p).1 (inr (low p b, b)) ],
-)
 
 -- a row of zeros that was filled
 pub filled_zeros : (P : ℕ → Type 0) (old row : List ℕ) (n : ℕ) → old ≡ replicate n 0 → ((p : ℕ) → IsTrue (has row p) ↔ (IsTrue (has old p) ⊎ P p)) → (p : ℕ) → IsTrue (has row p) ↔ P p

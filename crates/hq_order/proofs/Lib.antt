@@ -7,9 +7,11 @@ pub mod Growth
 pub mod Closure
 pub mod Middles
 pub mod Cover
+pub mod Gathered
 pub mod Filling
 pub mod Lists
 pub mod Submitting
 pub mod Slots
 pub mod Behind
 pub mod Settling
+pub mod Completions

@@ -1,8 +1,10 @@
 -- Lists that grow at their end, and vectors lent as slices.
-use Rattle.std.proofs.Common.{◌≡◌, ℕ, ◌<◌, inl, inr, List, [], ◌∷◌, ◌++◌, length, sym, ◌∙◌, ap, subst, arith, take, drop, slice_index_or, length-append, true, false, ◌==◌}
+use Rattle.std.proofs.Common.{◌≡◌, ℕ, zero, suc, refl, ◌<◌, inl, inr, List, [], ◌∷◌, ◌++◌, length, sym, ◌∙◌, ap, subst, arith, take, drop, slice_index_or, length-append, true, false, ◌==◌}
 use Rattle.std.proofs.lemmas.Bool.{cases_lt, cases_eq, eq-eqb, eqb-true}
 use Rattle.std.proofs.lemmas.List.{get_or_push, get_or_append_left}
 use Rattle.std.proofs.Math.Seq.{take-append_seam}
+use Rattle.std.specs.Global.{Vec}
+use Rattle.hq_order.specs.Matrix.{row}
 use Rattle.hq_order.specs.Placing.{AllAre}
 
 pub all_none : {X : Type 0} (P : ℕ → X → Type 0) → AllAre P []
@@ -34,3 +36,13 @@ some_length n k e h = elim (cases_eq n 0) [
   | inl z ↦ let t : (n == 0) ≡ true = eq-eqb n 0 z in let never : ⊥ = cc in absurd never
   | inr d ↦ omega arith
 ]
+
+-- what holds of each row
+pub all_rows : (P : ℕ → List ℕ → Type 0) (rows : List (Vec ℕ)) (s : ℕ) → AllAre (λ s v. P s v.items) rows → s < length rows → P s (row rows s)
+all_rows P [] s all l = absurd (omega arith)
+all_rows P (y ∷ ys) s all l = subst (P s) (sym (there (y ∷ ys) s l)) (all.at s y l)
+  where
+    there : (rows : List (Vec ℕ)) (s : ℕ) → s < length rows → row rows s ≡ (slice_index_or rows s y).items
+    there [] s l = absurd (omega arith)
+    there (x ∷ xs) zero l = refl
+    there (x ∷ xs) (suc s) l = there xs s (omega arith)

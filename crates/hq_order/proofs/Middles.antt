@@ -30,7 +30,7 @@ first_low job rounds round p r a c f = elim (cases_lt round (length rounds)) [
 ]
 
 pub few_rows : (job : Job) (rounds : List (Vec (Vec ℕ))) (k : ℕ) → AreRounds job rounds → length job.packets ≤ 1024 → k < length rounds → length (matrix rounds k) ≤ 1024
-few_rows job rounds k a few l = let h : length (matrix rounds k) ≡ length job.packets = (a.square k l).1.height in omega arith
+few_rows job rounds k a few l = let h : length (matrix rounds k) ≡ length job.packets = (a.square k l).height in omega arith
 
 between_marks : (job : Job) (rounds : List (Vec (Vec ℕ))) (round p r m : ℕ) → AreRounds job rounds → round < length rounds → Between job round p r m → Marks (matrix rounds (round - 1)) p m × Marks (matrix rounds (round - 1)) m r
 between_marks job rounds round p r m a l b =

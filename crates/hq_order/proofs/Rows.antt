@@ -125,18 +125,6 @@ mark_more Old D p i old new h e d =
       ],
     )
 
-pub mark_skip : (Old A : Type 0) (D : ℕ → Type 0) (p i : ℕ) → A ↔ (Old ⊎ ((p < i) × D p)) → (D i → ⊥) → A ↔ (Old ⊎ ((p < i + 1) × D p))
-mark_skip Old A D p i h ban = (
-  λ a. elim (h.0 a) [ inl o ↦ inl o | inr x ↦ inr (let l = x.0 in omega arith, x.1) ],
-  λ t. h.1 (elim t [
-    | inl o ↦ inl o
-    | inr x ↦ elim (cases_eq p i) [ inl same ↦ absurd (ban (subst D same x.1)) | inr other ↦ inr (let l = x.0 in omega (arith, other), x.1) ]
-  ]),
-)
-
-pub mark_all : (Old A : Type 0) (D : ℕ → Type 0) (p i : ℕ) → A ↔ (Old ⊎ ((p < i) × D p)) → (D p → p < i) → A ↔ (Old ⊎ D p)
-mark_all Old A D p i h all = (λ a. elim (h.0 a) [ inl o ↦ inl o | inr x ↦ inr x.1 ], λ t. h.1 (elim t [ inl o ↦ inl o | inr d ↦ inr (all d, d) ]))
-
 -- what a borrowed row is once it is given back
 pub given_back : (len : ℕ) (old new : List ℕ) → length old ≡ len → length new ≡ length old → take len (new ++ drop (length new) old) ≡ new
 given_back len old new e f = grind (arith, common_steps)
@@ -161,22 +149,6 @@ marked_below rows p m h = elim (cases_lt m (length rows)) [
 
 pub from_none : (new old : Bool) (Q : Type 0) → IsTrue new ↔ (IsTrue old ⊎ Q) → old ≡ false → IsTrue new ↔ Q
 from_none new old Q h z = (λ n. elim (h.0 n) [ inl o ↦ absurd (let x : true ≡ false = sym o ∙ z in cc) | inr q ↦ q ], λ q. h.1 (inr q))
-
--- one more decrementer, and what is before it
-pub branch_more : (rows : List (Vec ℕ)) (D : ℕ → Type 0) (p d : ℕ) (x : Vec ℕ) (before : List ℕ) (old mid new : Bool) → d < length rows → x ≡ slice_index_or rows d x → before ≡ x.items → D d → mid ≡ (old || p == d) → new ≡ (mid || has before p) → IsTrue new ↔ (IsTrue old ⊎ (D d × ((p ≡ d) ⊎ Marks rows p d)))
-branch_more rows D p d x before old mid new l is e k m n =
-    let first = joined old (p == d) mid (p ≡ d) m (eq_test p d) in
-    let same : before ≡ row rows d = e ∙ sym (row_is rows d x l is) in
-    let last = joined mid (has before p) new (Marks rows p d) n (λ h. subst (λ r. IsTrue (has r p)) same h, λ t. subst (λ r. IsTrue (has r p)) (sym same) t) in (
-      λ h. elim (last.0 h) [
-        | inl h ↦ elim (first.0 h) [ inl o ↦ inl o | inr f ↦ inr (k, inl f) ]
-        | inr b ↦ inr (k, inr b)
-      ],
-      λ t. elim t [
-        | inl o ↦ last.1 (inl (first.1 (inl o)))
-        | inr y ↦ elim y.1 [ inl f ↦ last.1 (inl (first.1 (inr f))) | inr b ↦ last.1 (inr b) ]
-      ],
-    )
 
 pub no_row : (rows : List (Vec ℕ)) (r : ℕ) → length rows ≤ r → row rows r ≡ []
 no_row rows r l = get_or_past (map (λ v. v.items) rows) r [] (omega (arith, length_plain rows))

@@ -8,12 +8,15 @@ use Rattle.hq_model.specs.Job.{Job}
 use Rattle.hq_model.specs.Order.{place, In, OrderList}
 use Rattle.hq_model.specs.Machine.{listed}
 use Rattle.hq_model.specs.Schedule.{MayCome, Scheduled, Settled, stands_in, left_of}
+use Rattle.hq_model.specs.Schedule.Scheduled.{nothing, and_then}
 use Rattle.hq_model.proofs.Places.{in_pushed, in_more, in_before_push, numbers_below}
 use Rattle.hq_model.proofs.Schedule.{schedules_settle}
 use Rattle.hq_model.proofs.Orders.{none_where_stuck}
 use Rattle.hq_order.specs.Bits.{has}
 use Rattle.hq_order.specs.Placing.{HasCome, MayFollow, AreStuck}
 use Rattle.hq_order.specs.Placing.Needs.{by_queue, by_slot, by_and}
+use Rattle.hq_order.specs.Least.{LeastFirst}
+use Rattle.hq_order.specs.Least.LeastFirst.{begins, goes_on}
 use Rattle.hq_order.proofs.Filling.{has_nothing, or_either, or_left, or_right}
 
 pub may_come : (job : Job) (come list : List ℕ) (p : ℕ) → HasCome come list → MayFollow job come p → MayCome job list p
@@ -37,6 +40,10 @@ may_follow job come list p same may = record {
   ]);
   ors = λ k. let (slot, s, w, all) = may.ors k in (slot, s, w, λ d f. (same.same d).1 (all d f));
 }
+
+pub scheduled : (job : Job) (list : List ℕ) → LeastFirst job list → Scheduled job list
+scheduled job [] begins = nothing
+scheduled job list (goes_on before may none) = and_then (scheduled job _ before) may
 
 pub come_none : (come : List ℕ) (n : ℕ) → come ≡ replicate n 0 → HasCome come []
 come_none come n e = record { same = λ p. (λ h. let no_bit : has come p ≡ false = has_nothing come n p e in let never : ⊥ = cc in absurd never, λ i. absurd (omega arith)) }

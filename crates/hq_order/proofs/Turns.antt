@@ -1,16 +1,18 @@
 -- One round.
-use Rattle.std.proofs.Common.{◌≡◌, ◌↔◌, ℕ, ◌/◌, ◌<◌, ◌⊎◌, inl, inr, List, length, sym, ◌∙◌, subst, arith, IsTrue, Some, slice_get}
+use Rattle.std.proofs.Common.{◌≡◌, ◌↔◌, ℕ, ◌*◌, ◌/◌, ◌<◌, ◌≤◌, ◌⊎◌, inl, inr, List, length, refl, sym, ◌∙◌, subst, arith, IsTrue, Some, slice_get}
 use Rattle.std.specs.Global.{Vec}
 use Rattle.hq_job.specs.declared.rows.Placed.{Placed}
 use Rattle.hq_job.specs.Plan.{kind_of}
-use Rattle.hq_model.specs.Job.{Job}
+use Rattle.hq_model.specs.Job.{Job, Decrements}
 use Rattle.hq_model.specs.Job.Kind.{BarrierOr}
 use Rattle.hq_model.specs.Theorems.{Valid}
 use Rattle.hq_order.specs.Bits.{has}
 use Rattle.hq_order.specs.Matrix.{row, Marks, Square}
-use Rattle.hq_order.specs.Rounds.{Reaches, ByEither, Next}
+use Rattle.hq_order.specs.Placing.{AllAre, Completing}
+use Rattle.hq_order.specs.Rounds.{Reaches, ByEither, Next, Awaits}
 use Rattle.hq_order.specs.Rounds.Next.{by_known, by_either, through}
-use Rattle.hq_order.proofs.Single.{Shows, slot_of, dependency, kind_is}
+use Rattle.hq_order.proofs.Single.{Shows, slot_of, dependency, kind_is, awaits_or}
+use Rattle.hq_order.proofs.Lists.{all_rows}
 use Rattle.hq_order.proofs.Rows.{within}
 
 pub reach_within : (job : Job) (rows : List (Vec ℕ)) (words p s : ℕ) → Square (length job.packets) words rows → Reaches job (Marks rows) p s → p / 64 < words
@@ -45,3 +47,36 @@ next_exact job rows known p r A B same h g = (
     back (by_known m) = g.1 (inl (h.1 (inl m)))
     back (by_either e) = g.1 (inr e)
     back (through {m} x y) = g.1 (inl (h.1 (inr (m, x, subst (λ k. IsTrue (has k m)) (sym same) y))))
+
+-- a set of those that complete on a signal, with all before them
+pub reaches_set : (job : Job) (rows : List (Vec ℕ)) (set : List ℕ) (p s : ℕ) (A : Type 0) → Completing job s set → A ↔ (IsTrue (has set p) ⊎ ((m : ℕ) × Marks rows p m × IsTrue (has set m))) → A ↔ Reaches job (Marks rows) p s
+reaches_set job rows set p s A c h = (
+  λ a. elim (h.0 a) [
+    | inl there ↦ record { d = p; decrements = (c.are p).0 there; upto = inl refl }
+    | inr k ↦ record { d = k.0; decrements = (c.are k.0).0 k.2; upto = inr k.1 }
+  ],
+  λ x. h.1 (elim x.upto [
+    | inl same ↦ inl ((c.are p).1 (subst (λ q. Decrements job q s) (sym same) x.decrements))
+    | inr m ↦ inr (x.d, m, (c.are x.d).1 x.decrements)
+  ]),
+)
+
+-- a barrier-OR waits for all that complete on each of its dependencies
+pub awaits_shared :
+    (job : Job) (completing : List (Vec ℕ)) (words p r : ℕ) (placed : Placed) (Full Shared : Type 0)
+    → Shows job r placed → Valid job → kind_of placed.packet ≡ BarrierOr → length job.packets ≤ words * 64
+    → AllAre (λ s set. Completing job s set.items × (length set.items ≡ words)) completing
+    → ((slot s : ℕ) → slice_get placed.slots slot ≡ Some (Some s) → s < length completing)
+    → Full ↔ p / 64 < words → Shared ↔ (Full × ((slot s : ℕ) → slice_get placed.slots slot ≡ Some (Some s) → Marks completing p s))
+    → Shared ↔ Awaits job p r
+awaits_shared job completing words p r placed Full Shared w v k room all low f h =
+    let kind = kind_is job r placed w ∙ k in
+    let (slot, s, d) = v.not_null r w.is_packet kind in
+    let e = awaits_or job p r slot s kind d in
+    let set : (slot s : ℕ) → slice_get placed.slots slot ≡ Some (Some s) → Completing job s (row completing s) = λ slot s there. (all_rows (λ s items. Completing job s items × (length items ≡ words)) completing s all (low slot s there)).0 in (
+      λ t. e.0 (λ slot s g. let there = slot_of job r slot s placed w g in ((set slot s there).are p).0 ((h.0 t).1 slot s there)),
+      λ a. h.1 (
+        f.1 (let is : p < length job.packets = (e.1 a slot s d).is_packet in omega arith),
+        λ slot s there. ((set slot s there).are p).1 (e.1 a slot s (dependency job r slot s placed w there)),
+      ),
+    )

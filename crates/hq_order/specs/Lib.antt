@@ -4,3 +4,5 @@ pub mod Matrix
 pub mod View
 pub mod Faults
 pub mod Placing
+pub mod Uniting
+pub mod Least

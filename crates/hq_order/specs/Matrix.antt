@@ -1,7 +1,7 @@
 -- Rows of bits as relations between packets: the row of a packet has those before it.
-use Rattle.std.specs.Prelude.{◌≡◌, ◌≢◌, ℕ, ◌+◌, ◌-◌, ◌^◌, ◌∷◌, ◌*◌, ◌<◌, ◌≤◌, ◌↔◌, IsTrue, List, [], map, length, slice_index, slice_index_or, slice_get, Some, Option}
+use Rattle.std.specs.Prelude.{◌≡◌, ◌≢◌, ℕ, ◌+◌, ◌-◌, ◌/◌, ◌^◌, ◌∷◌, ◌*◌, ◌<◌, ◌≤◌, ◌↔◌, IsTrue, List, [], map, length, slice_index, slice_index_or}
 use Rattle.std.specs.Global.{Vec}
-use Rattle.hq_model.specs.Job.{Job, packet}
+use Rattle.hq_model.specs.Job.{Job}
 use Rattle.hq_order.specs.Bits.{has}
 use Rattle.hq_order.specs.Rounds.{Next, Within}
 
@@ -18,31 +18,20 @@ pub record Square (n words : ℕ) (rows : List (Vec ℕ)) : Type 0 where
   pub height : length rows ≡ n
   pub width : (r : ℕ) → r < n → length (row rows r) ≡ words
   pub room : n ≤ words * 64
+  pub few : words ≤ 16
 
 -- no word lost a bit
 pub record Grown (old new : List ℕ) : Type 0 where
   pub len : length new ≡ length old
   pub words : (i : ℕ) → slice_index old i ≤ slice_index new i
 
--- a packet of r's queue, above p and below the end, has the barrier bit
-pub record BitAbove (job : Job) (r end p : ℕ) : Type 0 where
-  pub j : ℕ
-  pub above : p < j
-  pub below : j < end
-  pub same_queue : (packet job j).queue ≡ (packet job r).queue
-  pub bit : IsTrue (packet job j).bit
+-- how many words a row has
+abbrev pub words_for : ℕ → ℕ
+words_for n = (n + 63) / 64
 
--- the slots name the signal
-abbrev pub Names : List (Option ℕ) → ℕ → Type 0
-Names slots s = (slot : ℕ) × (slice_get slots slot ≡ Some (Some s))
-
--- and no other
-abbrev pub NamesOnly : List (Option ℕ) → ℕ → Type 0
-NamesOnly slots s = (slot t : ℕ) → slice_get slots slot ≡ Some (Some t) → t ≡ s
-
--- with some number of words a row
+-- so many words a row
 abbrev pub IsSquare : ℕ → List (Vec ℕ) → Type 0
-IsSquare n rows = (words : ℕ) × Square n words rows
+IsSquare n rows = Square n (words_for n) rows
 
 -- a row of the first is another in the second
 pub record Differ (left right : List (Vec ℕ)) : Type 0 where

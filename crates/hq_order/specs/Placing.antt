@@ -1,5 +1,5 @@
 -- What the search for an order list keeps.
-use Rattle.std.specs.Prelude.{◌≡◌, ℕ, ◌<◌, ◌≤◌, ◌↔◌, IsTrue, List, length, slice_index, slice_index_or}
+use Rattle.std.specs.Prelude.{◌≡◌, ℕ, ◌+◌, ◌*◌, ◌<◌, ◌≤◌, ◌↔◌, IsTrue, List, length, slice_index, slice_index_or}
 use Rattle.hq_model.specs.Job.{Job, packet, IsPacket, Dependency, Earlier, Decrements, Frees}
 use Rattle.hq_model.specs.Job.Kind.{BarrierAnd, BarrierOr}
 use Rattle.hq_model.specs.Order.{In, FreesFor, OrderList, Stuck}
@@ -12,6 +12,10 @@ pub record AllAre {X : Type 0} (P : ℕ → X → Type 0) (xs : List X) : Type 0
 -- the row is the set of the packets that complete on the signal
 pub record Completing (job : Job) (s : ℕ) (row : List ℕ) : Type 0 where
   pub are : (p : ℕ) → IsTrue (has row p) ↔ Decrements job p s
+
+-- where the rows of all signals lie behind one another, of so many words each, e is the place of a packet in the row of its signal
+abbrev pub MarksCompletion : Job → ℕ → ℕ → Type 0
+MarksCompletion job words e = (p : ℕ) × (s : ℕ) × (e ≡ s * (words * 64) + p) × Decrements job p s
 
 -- the row is the set of the packets that free a slot of one of the first submissions, up to the k-th
 pub record Freeing (job : Job) (k : ℕ) (row : List ℕ) : Type 0 where

@@ -4,51 +4,71 @@ ghost use Rattle.std.specs.Prelude.{◌≡◌, ℕ, suc, ◌+◌, ◌-◌, ◌<�
 ghost use Rattle.hq_job.specs.Plan.{plan};
 ghost use Rattle.hq_model.specs.Order as order;
 ghost use Rattle.hq_order.specs.Rounds.{Direct, Next, IsFirstWithin, Between, IsMiddle};
-ghost use Rattle.hq_order.specs.Matrix.{row, Marks, IsSquare, Grown, AreRounds, IsClosed, matrix, lag, Differ, IsMarkedNowhere, IsMarkedFirst};
+ghost use Rattle.hq_order.specs.Placing.{AllAre, Completing};
+ghost use Rattle.hq_order.specs.Matrix.{row, words_for, Marks, IsSquare, Grown, AreRounds, IsClosed, matrix, lag, Differ, IsMarkedNowhere, IsMarkedFirst};
 
 use crate::bits;
-use crate::columns::{all_turned, between};
-use crate::direct::direct_row;
+use crate::columns::{WORDS, all_turned, between};
+use crate::completing::completing;
+use crate::direct::{direct_row, go_on};
 use crate::fault::OrderFault;
 use crate::rounds::next_row;
 use hq_job::Job;
 use std::alloc::{AllocError, Global};
 use std::marker::Model;
 
+/// How many words a row has.
+fn words_of(job: &Job) -> usize
+    ensures words { result ≡ words_for (length job.now.packets) }
+    ensures few { result ≤ 16 }
+    ensures room { length job.now.packets ≤ result * 64 }
+{
+    job.valid();
+    (job.packets().len() + 63) / 64
+}
+
 /// The rows of the packets by the rules that rest on no other pair.
-fn first_rows(alloc: Global, job: &Job) -> Result<Vec<Vec<u64>>, AllocError>
+fn first_rows(
+    alloc: Global,
+    job: &Job,
+    completing: &[Vec<u64>],
+) -> Result<Vec<Vec<u64>>, AllocError>
+    requires completing { AllAre (λ s set. Completing (plan job.now) s set.items × (length set.items ≡ words_for (length job.now.packets))) completing.now }
+    requires signals { length completing.now ≡ length job.now.signals }
     ensures square { IfOk result (λ rows. IsSquare (length job.now.packets) rows.items) }
     ensures exact { IfOk result (λ rows. (p r : ℕ) → Marks rows.items p r ↔ Direct (plan job.now) p r) }
 {
     let count = job.packets().len();
-    let words = count.div_ceil(64);
     let mut rows = Vec::with_capacity(alloc, count)?;
+    let mut ahead = bits::empty(alloc, words_of(job))?;
     for r in 0..count {
-        rows.push(direct_row(alloc, job, words, r)?)?;
+        go_on(&mut ahead, job, r);
+        rows.push(direct_row(alloc, job, completing, &ahead, r)?)?;
     }
     Ok(rows)
 }
 
 /// The rows after one more round.
-fn next_rows(alloc: Global, job: &Job, rows: &[Vec<u64>]) -> Result<Vec<Vec<u64>>, AllocError>
+fn next_rows(
+    alloc: Global,
+    job: &Job,
+    completing: &[Vec<u64>],
+    rows: &[Vec<u64>],
+) -> Result<Vec<Vec<u64>>, AllocError>
     requires square { IsSquare (length job.now.packets) rows.now }
+    requires completing { AllAre (λ s set. Completing (plan job.now) s set.items × (length set.items ≡ words_for (length job.now.packets))) completing.now }
+    requires signals { length completing.now ≡ length job.now.signals }
     ensures square { IfOk result (λ new. IsSquare (length job.now.packets) new.items) }
     ensures grown { IfOk result (λ new. (r : ℕ) → Grown (row rows.now r) (row new.items r)) }
     ensures exact { IfOk result (λ new. (p r : ℕ) → Marks new.items p r ↔ Next (plan job.now) (Marks rows.now) p r) }
 {
+    job.valid();
     let mut new = Vec::with_capacity(alloc, rows.len())?;
+    let mut settled = bits::empty(alloc, WORDS)?;
     for r in 0..rows.len() {
-        new.push(next_row(alloc, job, rows, r)?)?;
+        new.push(next_row(alloc, job, completing, rows, &mut settled, r)?)?;
     }
     Ok(new)
-}
-
-/// Whether two rows are the same.
-fn is_same(left: &[u64], right: &[u64]) -> bool
-    ensures same { IsTrue result ↔ (left.now ≡ right.now) }
-    ensures small { (i : ℕ) → slice_index left.now i < 2 ^ 64 }
-{
-    left == right
 }
 
 /// Whether all rows are the same.
@@ -58,7 +78,7 @@ fn are_same(left: &[Vec<u64>], right: &[Vec<u64>]) -> bool
     ensures other { result ≡ false → Differ left.now right.now }
 {
     for (r, row) in left.iter().enumerate() {
-        if !is_same(row, &right[r]) {
+        if !bits::is_same(row, &right[r]) {
             return false;
         }
     }
@@ -66,14 +86,21 @@ fn are_same(left: &[Vec<u64>], right: &[Vec<u64>]) -> bool
 }
 
 /// Adds the next round, and answers true, unless it would be the same as the last.
-fn add_round(alloc: Global, job: &Job, rounds: &mut Vec<Vec<Vec<u64>>>) -> Result<bool, AllocError>
-    requires { AreRounds (plan job.now) rounds.old.items }
+fn add_round(
+    alloc: Global,
+    job: &Job,
+    completing: &[Vec<u64>],
+    rounds: &mut Vec<Vec<Vec<u64>>>,
+) -> Result<bool, AllocError>
+    requires rounds { AreRounds (plan job.now) rounds.old.items }
+    requires completing { AllAre (λ s set. Completing (plan job.now) s set.items × (length set.items ≡ words_for (length job.now.packets))) completing.now }
+    requires signals { length completing.now ≡ length job.now.signals }
     ensures rounds { IfOk result (λ _. AreRounds (plan job.now) rounds.new.items) }
     ensures falls { IfOk result (λ more. IsTrue more → lag rounds.new.items < lag rounds.old.items) }
     ensures closed { IfOk result (λ more. more ≡ false → IsClosed (plan job.now) rounds.new.items) }
 {
     let last = &rounds[rounds.len() - 1];
-    let next = next_rows(alloc, job, last)?;
+    let next = next_rows(alloc, job, completing, last)?;
     if are_same(&next, last) {
         return Ok(false);
     }
@@ -86,9 +113,10 @@ fn all_rounds(alloc: Global, job: &Job) -> Result<Vec<Vec<Vec<u64>>>, AllocError
     ensures rounds { IfOk result (λ rounds. AreRounds (plan job.now) rounds.items) }
     ensures closed { IfOk result (λ rounds. IsClosed (plan job.now) rounds.items) }
 {
+    let completing = completing(alloc, job, words_of(job))?;
     let mut rounds = Vec::new(alloc);
-    rounds.push(first_rows(alloc, job)?)?;
-    'rounds: while add_round(alloc, job, &mut rounds)? {}
+    rounds.push(first_rows(alloc, job, &completing)?)?;
+    'rounds: while add_round(alloc, job, &completing, &mut rounds)? {}
     Ok(rounds)
 }
 

@@ -1,7 +1,7 @@
 //! Sets of numbers as rows of bits: number `p` is bit `p % 64` of word `p / 64`.
 
-ghost use Rattle.std.specs.Prelude.{◌≡◌, ◌+◌, ◌*◌, ◌/◌, ◌<◌, ◌≤◌, ◌||◌, ◌&&◌, ◌==◌, ℕ, length, true, false, IfSome, IfNone, All};
-ghost use Rattle.std.specs.Prelude.{◌≢◌, replicate, IfOk, IsTrue, ◌↔◌, MatchOption, slice_index};
+ghost use Rattle.std.specs.Prelude.{◌≡◌, ◌+◌, ◌*◌, ◌^◌, ◌/◌, ◌<◌, ◌≤◌, ◌||◌, ◌&&◌, ◌==◌, ℕ, length, true, false, IfSome, IfNone, All};
+ghost use Rattle.std.specs.Prelude.{◌≢◌, not, IfOk, IsTrue, ◌↔◌, ◌⊎◌, MatchOption, slice_index};
 ghost use Rattle.std.specs.Int.{bit_at};
 ghost use Rattle.hq_order.specs.Bits.{has, Covers, IsFirstCommon};
 ghost use Rattle.hq_order.specs.Matrix.{Grown};
@@ -43,6 +43,17 @@ pub fn insert(row: &mut [u64], number: usize)
     row[number / 64] |= 1 << (number % 64);
 }
 
+/// Takes in the numbers from one on up to another.
+pub fn insert_all(row: &mut [u64], start: usize, end: usize)
+    requires room { end ≤ length row.old * 64 }
+    requires range { start ≤ end }
+    ensures { (p : ℕ) → IsTrue (has row.new p) ↔ (IsTrue (has row.old p) ⊎ ((p < end) × (start ≤ p))) }
+{
+    for number in start..end {
+        insert(row, number);
+    }
+}
+
 /// Takes in all that the other set has.
 pub fn unite(row: &mut [u64], other: &[u64])
     requires { length row.old ≡ length other.now }
@@ -64,6 +75,36 @@ pub fn meet(row: &mut [u64], other: &[u64])
     for (i, word) in row.iter_mut().enumerate() {
         *word &= other[i];
     }
+}
+
+/// Takes out all that the other set has.
+pub fn subtract(row: &mut [u64], other: &[u64])
+    requires { length row.old ≡ length other.now }
+    ensures less { Grown row.new row.old }
+    ensures exact { (p : ℕ) → has row.new p ≡ (has row.old p && not (has other.now p)) }
+{
+    let other = &other[..row.len()];
+    for (i, word) in row.iter_mut().enumerate() {
+        *word &= *word ^ other[i];
+    }
+}
+
+/// Takes the number out, which is there.
+pub fn remove(row: &mut [u64], number: usize)
+    requires { IsTrue (has row.old number) }
+    ensures less { Grown row.new row.old }
+    ensures lesser { slice_index row.new (number / 64) < slice_index row.old (number / 64) }
+    ensures exact { (p : ℕ) → has row.new p ≡ (has row.old p && not (p == number)) }
+{
+    row[number / 64] = without(row[number / 64], number % 64);
+}
+
+/// Whether two rows are the same.
+pub fn is_same(left: &[u64], right: &[u64]) -> bool
+    ensures same { IsTrue result ↔ (left.now ≡ right.now) }
+    ensures small { (i : ℕ) → slice_index left.now i < 2 ^ 64 }
+{
+    left == right
 }
 
 /// Whether the set has all that the other has.
@@ -97,6 +138,15 @@ pub fn lowest(word: u64) -> usize
     ensures lowest { (i : ℕ) → i < result → bit_at word i ≡ 0 }
 {
     word.trailing_zeros() as usize
+}
+
+/// The highest bit of a word that has some.
+pub fn highest(word: u64) -> usize
+    requires { 0 < word }
+    ensures low { result < 64 }
+    ensures has { bit_at word result ≡ 1 }
+{
+    63 - word.leading_zeros() as usize
 }
 
 /// The word without one of its bits.

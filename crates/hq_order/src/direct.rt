@@ -1,19 +1,19 @@
 //! What comes before a packet by a rule that rests on no other pair.
 
-ghost use Rattle.std.specs.Prelude.{◌≡◌, ℕ, ◌+◌, ◌<◌, ◌↔◌, ◌⊎◌, ◌≢◌, ◌*◌, ◌≤◌, IsTrue, IfOk, length};
-ghost use Rattle.hq_job.specs.Plan.{plan, planned, kind_of};
-ghost use Rattle.hq_packet.specs.Parts.{head_of};
-ghost use Rattle.hq_model.specs.Job.{IsPacket, Earlier};
+ghost use Rattle.std.specs.Prelude.{◌≡◌, ℕ, ◌-◌, ◌<◌, ◌↔◌, ◌⊎◌, ◌≢◌, ◌*◌, ◌≤◌, IsTrue, IfOk, OnOk, Some, false, length, slice_get};
+ghost use Rattle.hq_job.specs.Plan.{plan, kind_of};
+ghost use Rattle.hq_model.specs.Job.{IsPacket};
 ghost use Rattle.hq_model.specs.Job.Kind.{Work};
 ghost use Rattle.hq_order.specs.Bits.{has};
+ghost use Rattle.hq_order.specs.Matrix.{row, Marks};
+ghost use Rattle.hq_order.specs.Placing.{AllAre, Completing};
 ghost use Rattle.hq_order.specs.Rounds.{Precedes, Awaits, Direct};
-ghost use Rattle.hq_order.specs.Matrix.{BitAbove, Names, NamesOnly};
 
-use crate::bits;
-use hq_job::{Job, Placed};
+use crate::bits::{full, insert, insert_all, meet, unite};
+use crate::needs::unite_dependencies;
+use hq_job::Job;
 use hq_packet::Packet;
 use std::alloc::{AllocError, Global};
-use std::ops::Range;
 
 /// Whether the packet is a barrier packet.
 fn is_barrier(packet: &Packet) -> bool
@@ -22,133 +22,92 @@ fn is_barrier(packet: &Packet) -> bool
     matches!(packet, Packet::And(_) | Packet::Or(_))
 }
 
-/// Whether p stands before r in one queue.
-fn is_earlier(job: &Job, p: usize, r: usize) -> bool
-    requires p_is { IsPacket (plan job.now) p }
+/// Goes on from the packets that r - 1 stays behind as it is launched to those that r does.
+pub fn go_on(ahead: &mut [u64], job: &Job, r: usize)
     requires r_is { IsPacket (plan job.now) r }
-    ensures { IsTrue result ↔ Earlier (plan job.now) p r }
-{
-    p < r && job.packet(p).queue == job.packet(r).queue
-}
-
-/// Whether it is a packet of the queue with the barrier bit.
-fn has_bit_in(placed: &Placed, queue: u16) -> bool
-    ensures { IsTrue result ↔ ((placed.now.queue ≡ queue) × IsTrue (head_of placed.now.packet).barrier) }
-{
-    placed.queue == queue && placed.packet.head().barrier
-}
-
-/// The last packet of r's queue up to r that has the barrier bit, or 0 where none has.
-fn last_bit(job: &Job, r: usize) -> usize
-    requires { IsPacket (plan job.now) r }
-    ensures { (p : ℕ) → p < result ↔ BitAbove (plan job.now) r (r + 1) p }
-{
-    job.valid();
-    let queue = job.packet(r).queue;
-    let mut last = 0;
-    for j in job.of_queue(queue as usize).start..r + 1 {
-        if has_bit_in(job.packet(j), queue) {
-            last = j;
-        }
-    }
-    last
-}
-
-/// Whether a slot names the signal.
-fn names(slots: &[Option<u16>; 5], signal: u16) -> bool
-    ensures { IsTrue result ↔ Names slots.now signal }
-{
-    slots.iter().any(|slot| *slot == Some(signal))
-}
-
-/// Whether no slot names another signal.
-fn names_only(slots: &[Option<u16>; 5], signal: u16) -> bool
-    ensures { IsTrue result ↔ NamesOnly slots.now signal }
-{
-    slots
-        .iter()
-        .all(|slot| *slot == None || *slot == Some(signal))
-}
-
-/// Whether r, a barrier packet, waits for p itself, whichever of its dependencies is over.
-fn awaits(job: &Job, p: usize, r: usize) -> bool
-    requires p_is { IsPacket (plan job.now) p }
-    requires r_is { IsPacket (plan job.now) r }
-    ensures { IsTrue result ↔ Awaits (plan job.now) p r }
-{
-    let waiting = job.packet(r);
-    match (job.packet(p).done, &waiting.packet) {
-        (Some(signal), Packet::And(_)) => names(&waiting.slots, signal),
-        (Some(signal), Packet::Or(_)) => {
-            names(&waiting.slots, signal) && names_only(&waiting.slots, signal)
-        }
-        _ => false,
-    }
-}
-
-/// Whether p stands before r in one queue and r waits for it as it is launched; `last_bit` is of r.
-fn precedes(job: &Job, last_bit: usize, p: usize, r: usize) -> bool
-    requires p_is { IsPacket (plan job.now) p }
-    requires r_is { IsPacket (plan job.now) r }
-    requires last { p < last_bit ↔ BitAbove (plan job.now) r (r + 1) p }
-    ensures { IsTrue result ↔ Precedes (plan job.now) p r }
-{
-    if !is_earlier(job, p, r) {
-        return false;
-    }
-    p < last_bit || is_barrier(&job.packet(p).packet)
-}
-
-/// Whether p is before r by one of these rules alone; `last_bit` is of r.
-fn is_direct(job: &Job, last_bit: usize, p: usize, r: usize) -> bool
-    requires p_is { IsPacket (plan job.now) p }
-    requires r_is { IsPacket (plan job.now) r }
-    requires last { p < last_bit ↔ BitAbove (plan job.now) r (r + 1) p }
-    ensures { IsTrue result ↔ Direct (plan job.now) p r }
-{
-    let awaits = awaits(job, p, r);
-    awaits || precedes(job, last_bit, p, r)
-}
-
-/// Numbers from one on and below another, among which are all packets that are before r by these rules: those ahead of r in its
-/// queue, and all packets where r waits for signals.
-fn candidates(job: &Job, r: usize) -> Range<usize>
-    requires { IsPacket (plan job.now) r }
-    ensures all { (p : ℕ) → Direct (plan job.now) p r → (result.start ≤ p) × (p < result.end) }
-    ensures are { result.end ≤ length job.now.packets }
+    requires room { length job.now.packets ≤ length ahead.old * 64 }
+    requires ahead { (p : ℕ) → IsTrue (has ahead.old p) ↔ ((0 < r) × Precedes (plan job.now) p (r - 1)) }
+    ensures { (p : ℕ) → IsTrue (has ahead.new p) ↔ Precedes (plan job.now) p r }
 {
     job.valid();
     let placed = job.packet(r);
-    if is_barrier(&placed.packet) {
-        0..job.packets().len()
-    } else {
-        job.of_queue(placed.queue as usize).start..r
+    let start = job.of_queue(placed.queue as usize).start;
+    if r <= start {
+        ahead.fill(0);
+    } else if placed.packet.head().barrier {
+        insert_all(ahead, start, r);
+    } else if is_barrier(&job.packet(r - 1).packet) {
+        insert(ahead, r - 1);
     }
 }
 
-/// Takes in the packets that are before r by these rules.
-fn mark_direct(row: &mut [u64], job: &Job, last_bit: usize, r: usize)
-    requires room { length job.now.packets ≤ length row.old * 64 }
-    requires r_is { IsPacket (plan job.now) r }
-    requires last { (p : ℕ) → p < last_bit ↔ BitAbove (plan job.now) r (r + 1) p }
-    ensures { (p : ℕ) → IsTrue (has row.new p) ↔ (IsTrue (has row.old p) ⊎ Direct (plan job.now) p r) }
+/// Leaves only the packets that complete on the signal.
+fn meet_one(shared: &mut [u64], completing: &[Vec<u64>], signal: usize)
+    requires low { signal < length completing.now }
+    requires width { (s : ℕ) → s < length completing.now → length (row completing.now s) ≡ length shared.old }
+    ensures { (p : ℕ) → IsTrue (has shared.new p) ↔ (IsTrue (has shared.old p) × Marks completing.now p signal) }
 {
-    let candidates = candidates(job, r);
-    for p in candidates.start..candidates.end {
-        if is_direct(job, last_bit, p, r) {
-            bits::insert(row, p);
+    meet(shared, &completing[signal]);
+}
+
+/// Leaves only the packets that complete on each of the signals.
+fn meet_each(shared: &mut [u64], completing: &[Vec<u64>], slots: &[Option<u16>])
+    requires low { (slot s : ℕ) → slice_get slots.now slot ≡ Some (Some s) → s < length completing.now }
+    requires width { (s : ℕ) → s < length completing.now → length (row completing.now s) ≡ length shared.old }
+    ensures { (p : ℕ) → IsTrue (has shared.new p) ↔ (IsTrue (has shared.old p) × ((slot s : ℕ) → slice_get slots.now slot ≡ Some (Some s) → Marks completing.now p s)) }
+{
+    for slot in slots {
+        if let Some(signal) = slot {
+            meet_one(shared, completing, *signal as usize);
         }
     }
 }
 
-/// The packets that are before r by these rules.
-pub fn direct_row(alloc: Global, job: &Job, words: usize, r: usize) -> Result<Vec<u64>, AllocError>
+/// Takes in the packets that r, a barrier packet, waits for itself, whichever of its dependencies is over.
+fn unite_awaited(
+    alloc: Global,
+    row: &mut [u64],
+    job: &Job,
+    completing: &[Vec<u64>],
+    r: usize,
+) -> Result<(), AllocError>
     requires r_is { IsPacket (plan job.now) r }
-    requires room { length job.now.packets ≤ words * 64 }
-    ensures len { IfOk result (λ row. length row.items ≡ words) }
+    requires room { length job.now.packets ≤ length row.old * 64 }
+    requires completing { AllAre (λ s set. Completing (plan job.now) s set.items × (length set.items ≡ length row.old)) completing.now }
+    requires signals { length completing.now ≡ length job.now.signals }
+    ensures { OnOk result ((p : ℕ) → IsTrue (has row.new p) ↔ (IsTrue (has row.old p) ⊎ Awaits (plan job.now) p r)) }
+{
+    job.valid();
+    let placed = job.packet(r);
+    match placed.packet {
+        Packet::And(_) => unite_dependencies(job, completing, r, row),
+        Packet::Or(_) => {
+            let mut shared = full(alloc, row.len())?;
+            meet_each(&mut shared, completing, &placed.slots);
+            unite(row, &shared);
+        }
+        _ => {}
+    }
+    Ok(())
+}
+
+/// The packets that are before r by these rules; `ahead` has those that r stays behind as it is launched.
+pub fn direct_row(
+    alloc: Global,
+    job: &Job,
+    completing: &[Vec<u64>],
+    ahead: &[u64],
+    r: usize,
+) -> Result<Vec<u64>, AllocError>
+    requires r_is { IsPacket (plan job.now) r }
+    requires room { length job.now.packets ≤ length ahead.now * 64 }
+    requires completing { AllAre (λ s set. Completing (plan job.now) s set.items × (length set.items ≡ length ahead.now)) completing.now }
+    requires signals { length completing.now ≡ length job.now.signals }
+    requires ahead { (p : ℕ) → IsTrue (has ahead.now p) ↔ Precedes (plan job.now) p r }
+    ensures len { IfOk result (λ row. length row.items ≡ length ahead.now) }
     ensures exact { IfOk result (λ row. (p : ℕ) → IsTrue (has row.items p) ↔ Direct (plan job.now) p r) }
 {
-    let mut row = bits::empty(alloc, words)?;
-    mark_direct(&mut row, job, last_bit(job, r), r);
+    let mut row = ahead.to_vec(alloc)?;
+    unite_awaited(alloc, &mut row, job, completing, r)?;
     Ok(row)
 }

@@ -23,6 +23,20 @@ fn place_in_queue(job: &Job, number: usize) -> usize
         .count()
 }
 
+/// The place of a packet in its queue, where those of the packets ahead are known.
+fn next_place(job: &Job, places: &[usize], number: usize) -> usize
+    requires places { AllAre (λ p place. place ≡ place_in_queue (plan job.now) p) places.now }
+    requires count { length places.now ≡ number }
+    requires number { number < length job.now.packets }
+    ensures { result ≡ place_in_queue (plan job.now) number }
+{
+    if number > 0 && same_queue(job, number - 1, number) {
+        places[number - 1] + 1
+    } else {
+        place_in_queue(job, number)
+    }
+}
+
 /// The place of each packet in its queue.
 pub fn places(alloc: Global, job: &Job) -> Result<Vec<usize>, AllocError>
     ensures are { IfOk result (λ places. AllAre (λ p place. place ≡ place_in_queue (plan job.now) p) places.items) }
@@ -31,13 +45,13 @@ pub fn places(alloc: Global, job: &Job) -> Result<Vec<usize>, AllocError>
     let count = job.packets().len();
     let mut places = Vec::with_capacity(alloc, count)?;
     for number in 0..count {
-        places.push(place_in_queue(job, number))?;
+        places.push(next_place(job, &places, number))?;
     }
     Ok(places)
 }
 
 /// Whether two packets go to one queue.
-pub fn same_queue(job: &Job, earlier: usize, number: usize) -> bool
+fn same_queue(job: &Job, earlier: usize, number: usize) -> bool
     requires earlier { earlier < length job.now.packets }
     requires number { number < length job.now.packets }
     ensures { IsTrue result ↔ ((packet (plan job.now) earlier).queue ≡ (packet (plan job.now) number).queue) }
@@ -67,6 +81,9 @@ fn insert_freeing(job: &Job, places: &[usize], number: usize, row: &mut [u64])
     ensures taken { (e : ℕ) → IsTrue (has row.new e) ↔ (IsTrue (has row.old e) ⊎ Frees (plan job.now) e number) }
     ensures len { length row.new ≡ length row.old }
 {
+    if !job.rings() {
+        return;
+    }
     for earlier in 0..number {
         if frees(job, places, earlier, number) {
             insert(row, earlier);

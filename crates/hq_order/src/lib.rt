@@ -11,6 +11,7 @@ mod completing;
 mod direct;
 mod fault;
 mod freeing;
+mod gathering;
 pub mod laws;
 mod needs;
 mod rounds;

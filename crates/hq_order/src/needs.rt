@@ -7,9 +7,8 @@ ghost use Rattle.hq_model.specs.Order.{place};
 ghost use Rattle.hq_order.specs.Bits.{has};
 ghost use Rattle.hq_order.specs.Placing.{AllAre, Completing, Freeing, OfDependencies, Needs, Needed};
 
-use crate::bits::{insert, unite};
+use crate::bits::{insert_all, unite};
 use crate::completing::slots;
-use crate::freeing::same_queue;
 use hq_job::Job;
 use hq_packet::Packet;
 use std::alloc::{AllocError, Global};
@@ -21,11 +20,9 @@ fn insert_earlier(job: &Job, number: usize, row: &mut [u64])
     ensures taken { (e : ℕ) → IsTrue (has row.new e) ↔ (IsTrue (has row.old e) ⊎ Earlier (plan job.now) e number) }
     ensures len { length row.new ≡ length row.old }
 {
-    for earlier in 0..number {
-        if same_queue(job, earlier, number) {
-            insert(row, earlier);
-        }
-    }
+    job.valid();
+    let numbers = job.of_queue(job.packet(number).queue as usize);
+    insert_all(row, numbers.start, number);
 }
 
 /// When a packet is submitted.
@@ -44,7 +41,7 @@ fn turn(job: &Job, number: usize) -> usize
 }
 
 /// Takes in the packets that complete on a dependency of a packet.
-fn unite_dependencies(job: &Job, completing: &[Vec<u64>], number: usize, row: &mut [u64])
+pub fn unite_dependencies(job: &Job, completing: &[Vec<u64>], number: usize, row: &mut [u64])
     requires number { number < length job.now.packets }
     requires completing { AllAre (λ s set. Completing (plan job.now) s set.items × (length set.items ≡ length row.old)) completing.now }
     requires count { length completing.now ≡ length job.now.signals }

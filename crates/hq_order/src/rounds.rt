@@ -1,79 +1,72 @@
 //! One round: what follows by one rule from what is known.
 
-ghost use Rattle.std.specs.Prelude.{OnOk, Some, slice_get, ◌≡◌, ◌==◌, ◌+◌, ℕ, ◌<◌, ◌↔◌, ◌⊎◌, ◌*◌, ◌/◌, ◌≤◌, IsTrue, IfOk, length, map};
-ghost use Rattle.std.specs.Int.{bit_at};
+ghost use Rattle.std.specs.Prelude.{OnOk, Some, slice_get, ◌≡◌, ℕ, ◌<◌, ◌↔◌, ◌⊎◌, ◌*◌, ◌≤◌, IsTrue, IfOk, length};
 ghost use Rattle.hq_job.specs.Plan.{plan};
-ghost use Rattle.hq_model.specs.Job.{IsPacket, Decrements};
+ghost use Rattle.hq_model.specs.Job.{IsPacket};
 ghost use Rattle.hq_order.specs.Bits.{has};
 ghost use Rattle.hq_order.specs.Rounds.{Next, Reaches, ByEither};
 ghost use Rattle.hq_order.specs.Matrix.{row, Marks, Square, Grown};
+ghost use Rattle.hq_order.specs.Placing.{AllAre, Completing};
+ghost use Rattle.hq_order.specs.Uniting.{Settled};
 
-use crate::bits;
-use crate::columns::WORDS;
+use crate::bits::{self, is_same};
+use crate::gathering::unite_all;
 use hq_job::Job;
 use hq_packet::Packet;
 use std::alloc::{AllocError, Global};
 
-/// Takes in what is before a packet, if there is such a packet.
-fn unite_row(new: &mut [u64], rows: &[Vec<u64>], m: usize)
-    requires width { (m : ℕ) → m < length rows.now → length (row rows.now m) ≡ length new.old }
-    ensures grown { Grown new.old new.new }
-    ensures exact { (p : ℕ) → IsTrue (has new.new p) ↔ (IsTrue (has new.old p) ⊎ Marks rows.now p m) }
+/// Notes r as settled where its new row, with all that is before the packets before r, is its old one.
+fn settle(settled: &mut [u64], rows: &[Vec<u64>], new: &[u64], r: usize)
+    requires settled { Settled rows.now settled.old }
+    requires r_is { r < length rows.now }
+    requires room { length rows.now ≤ length settled.old * 64 }
+    requires exact { (p : ℕ) → IsTrue (has new.now p) ↔ (Marks rows.now p r ⊎ ((m : ℕ) × Marks rows.now p m × Marks rows.now m r)) }
+    ensures { Settled rows.now settled.new }
 {
-    if m < rows.len() {
-        bits::unite(new, &rows[m]);
+    if is_same(new, &rows[r]) {
+        bits::insert(settled, r);
     }
 }
 
-/// Takes in what is before the packets that the word has; the packet of its first bit is `first`.
-fn unite_word(new: &mut [u64], rows: &[Vec<u64>], word: u64, first: usize)
-    requires width { (m : ℕ) → m < length rows.now → length (row rows.now m) ≡ length new.old }
-    requires first { first ≤ 1024 }
-    ensures grown { Grown new.old new.new }
-    ensures exact { (p : ℕ) → IsTrue (has new.new p) ↔ (IsTrue (has new.old p) ⊎ ((bit : ℕ) × (bit < 64) × (IsTrue (bit_at word bit == 1) × Marks rows.now p (first + bit)))) }
+/// The packets of a set, and all that are before them.
+fn reached(
+    alloc: Global,
+    set: &[u64],
+    rows: &[Vec<u64>],
+    settled: &[u64],
+) -> Result<Vec<u64>, AllocError>
+    requires width { (k : ℕ) → k < length rows.now → length (row rows.now k) ≡ length set.now }
+    requires settled { Settled rows.now settled.now }
+    requires few { length set.now ≤ 16 }
+    ensures grown { IfOk result (λ reached. Grown set.now reached.items) }
+    ensures exact { IfOk result (λ reached. (p : ℕ) → IsTrue (has reached.items p) ↔ (IsTrue (has set.now p) ⊎ ((m : ℕ) × Marks rows.now p m × IsTrue (has set.now m)))) }
 {
-    let mut rest = word;
-    'each: while rest != 0 {
-        let bit = bits::lowest(rest);
-        unite_row(new, rows, first + bit);
-        rest = bits::without(rest, bit);
-    }
+    let mut reached = set.to_vec(alloc)?;
+    let mut left = set.to_vec(alloc)?;
+    unite_all(&mut reached, &mut left, rows, settled);
+    Ok(reached)
 }
 
-/// Takes in what is before the known ones.
-fn unite_known(new: &mut [u64], rows: &[Vec<u64>], known: &[u64])
-    requires width { (m : ℕ) → m < length rows.now → length (row rows.now m) ≡ length new.old }
-    requires few { length rows.now ≤ 1024 }
-    ensures grown { Grown new.old new.new }
-    ensures exact { (p : ℕ) → IsTrue (has new.new p) ↔ (IsTrue (has new.old p) ⊎ ((m : ℕ) × Marks rows.now p m × IsTrue (has known.now m))) }
+/// The packets that are before r by what is known, or before one of those. Notes r as settled where that is no more than is
+/// known.
+fn through_row(
+    alloc: Global,
+    rows: &[Vec<u64>],
+    settled: &mut [u64],
+    r: usize,
+) -> Result<Vec<u64>, AllocError>
+    requires width { (k : ℕ) → k < length rows.now → length (row rows.now k) ≡ length (row rows.now r) }
+    requires settled { Settled rows.now settled.old }
+    requires r_is { r < length rows.now }
+    requires room { length rows.now ≤ length settled.old * 64 }
+    requires few { length (row rows.now r) ≤ 16 }
+    ensures grown { IfOk result (λ new. Grown (row rows.now r) new.items) }
+    ensures exact { IfOk result (λ new. (p : ℕ) → IsTrue (has new.items p) ↔ (Marks rows.now p r ⊎ ((m : ℕ) × Marks rows.now p m × Marks rows.now m r))) }
+    ensures settled { IfOk result (λ _. Settled rows.now settled.new) }
 {
-    for place in 0..WORDS {
-        let word = bits::word_at(known, place);
-        if word != 0 {
-            unite_word(new, rows, word, place * 64);
-        }
-    }
-}
-
-/// Whether the packet completes on the signal.
-fn decrements(job: &Job, d: usize, signal: u16) -> bool
-    requires { IsPacket (plan job.now) d }
-    ensures { IsTrue result ↔ Decrements (plan job.now) d signal }
-{
-    job.packet(d).done == Some(signal)
-}
-
-/// Takes in the decrementers of the signal and what is before them.
-fn unite_branch(branch: &mut [u64], job: &Job, rows: &[Vec<u64>], signal: u16)
-    requires square { Square (length job.now.packets) (length branch.old) rows.now }
-    ensures { (p : ℕ) → IsTrue (has branch.new p) ↔ (IsTrue (has branch.old p) ⊎ Reaches (plan job.now) (Marks rows.now) p signal) }
-{
-    for (d, before) in rows.iter().enumerate() {
-        if decrements(job, d, signal) {
-            bits::insert(branch, d);
-            bits::unite(branch, before);
-        }
-    }
+    let new = reached(alloc, &rows[r], rows, settled)?;
+    settle(settled, rows, &new, r);
+    Ok(new)
 }
 
 /// Leaves only the packets that are complete once the signal is over: its decrementers, and those before them.
@@ -81,14 +74,19 @@ fn meet_branch(
     alloc: Global,
     shared: &mut [u64],
     job: &Job,
+    completing: &[Vec<u64>],
     rows: &[Vec<u64>],
+    settled: &[u64],
     signal: u16,
 ) -> Result<(), AllocError>
     requires square { Square (length job.now.packets) (length shared.old) rows.now }
+    requires completing { AllAre (λ s set. Completing (plan job.now) s set.items × (length set.items ≡ length shared.old)) completing.now }
+    requires settled { Settled rows.now settled.now }
+    requires few { length shared.old ≤ 16 }
+    requires low { signal < length completing.now }
     ensures { OnOk result ((p : ℕ) → IsTrue (has shared.new p) ↔ (IsTrue (has shared.old p) × Reaches (plan job.now) (Marks rows.now) p signal)) }
 {
-    let mut branch = bits::empty(alloc, shared.len())?;
-    unite_branch(&mut branch, job, rows, signal);
+    let branch = reached(alloc, &completing[signal as usize], rows, settled)?;
     bits::meet(shared, &branch);
     Ok(())
 }
@@ -98,15 +96,21 @@ fn meet_branches(
     alloc: Global,
     shared: &mut [u64],
     job: &Job,
+    completing: &[Vec<u64>],
     rows: &[Vec<u64>],
+    settled: &[u64],
     slots: &[Option<u16>],
 ) -> Result<(), AllocError>
     requires square { Square (length job.now.packets) (length shared.old) rows.now }
+    requires completing { AllAre (λ s set. Completing (plan job.now) s set.items × (length set.items ≡ length shared.old)) completing.now }
+    requires settled { Settled rows.now settled.now }
+    requires few { length shared.old ≤ 16 }
+    requires low { (slot s : ℕ) → slice_get slots.now slot ≡ Some (Some s) → s < length completing.now }
     ensures { OnOk result ((p : ℕ) → IsTrue (has shared.new p) ↔ (IsTrue (has shared.old p) × ((slot s : ℕ) → slice_get slots.now slot ≡ Some (Some s) → Reaches (plan job.now) (Marks rows.now) p s))) }
 {
     for slot in slots {
         if let Some(signal) = slot {
-            meet_branch(alloc, shared, job, rows, *signal)?;
+            meet_branch(alloc, shared, job, completing, rows, settled, *signal)?;
         }
     }
     Ok(())
@@ -117,10 +121,16 @@ fn unite_shared(
     alloc: Global,
     new: &mut [u64],
     job: &Job,
+    completing: &[Vec<u64>],
     rows: &[Vec<u64>],
+    settled: &[u64],
     r: usize,
 ) -> Result<(), AllocError>
     requires square { Square (length job.now.packets) (length new.old) rows.now }
+    requires completing { AllAre (λ s set. Completing (plan job.now) s set.items × (length set.items ≡ length new.old)) completing.now }
+    requires signals { length completing.now ≡ length job.now.signals }
+    requires settled { Settled rows.now settled.now }
+    requires few { length new.old ≤ 16 }
     requires r_is { IsPacket (plan job.now) r }
     ensures grown { OnOk result (Grown new.old new.new) }
     ensures exact { OnOk result ((p : ℕ) → IsTrue (has new.new p) ↔ (IsTrue (has new.old p) ⊎ ByEither (plan job.now) (Marks rows.now) p r)) }
@@ -129,45 +139,41 @@ fn unite_shared(
     let placed = job.packet(r);
     if let Packet::Or(_) = placed.packet {
         let mut shared = bits::full(alloc, new.len())?;
-        meet_branches(alloc, &mut shared, job, rows, &placed.slots)?;
+        meet_branches(
+            alloc,
+            &mut shared,
+            job,
+            completing,
+            rows,
+            settled,
+            &placed.slots,
+        )?;
         bits::unite(new, &shared);
     }
     Ok(())
 }
 
-/// Takes in what follows for r by one rule from what is known.
-fn extend_row(
-    alloc: Global,
-    new: &mut [u64],
-    job: &Job,
-    rows: &[Vec<u64>],
-    r: usize,
-) -> Result<(), AllocError>
-    requires square { Square (length job.now.packets) (length new.old) rows.now }
-    requires r_is { IsPacket (plan job.now) r }
-    requires starts { new.old ≡ row rows.now r }
-    ensures grown { OnOk result (Grown new.old new.new) }
-    ensures exact { OnOk result ((p : ℕ) → IsTrue (has new.new p) ↔ Next (plan job.now) (Marks rows.now) p r) }
-{
-    job.valid();
-    unite_known(new, rows, &rows[r]);
-    unite_shared(alloc, new, job, rows, r)?;
-    Ok(())
-}
-
-/// The packets before r by what is known, or by one rule from that.
+/// The packets before r by what is known, or by one rule from that. Notes r where it is settled.
 pub fn next_row(
     alloc: Global,
     job: &Job,
+    completing: &[Vec<u64>],
     rows: &[Vec<u64>],
+    settled: &mut [u64],
     r: usize,
 ) -> Result<Vec<u64>, AllocError>
     requires square { Square (length job.now.packets) (length (row rows.now r)) rows.now }
+    requires completing { AllAre (λ s set. Completing (plan job.now) s set.items × (length set.items ≡ length (row rows.now r))) completing.now }
+    requires signals { length completing.now ≡ length job.now.signals }
+    requires settled { Settled rows.now settled.old }
+    requires room { length rows.now ≤ length settled.old * 64 }
+    requires few { length (row rows.now r) ≤ 16 }
     requires r_is { IsPacket (plan job.now) r }
     ensures grown { IfOk result (λ new. Grown (row rows.now r) new.items) }
     ensures exact { IfOk result (λ new. (p : ℕ) → IsTrue (has new.items p) ↔ Next (plan job.now) (Marks rows.now) p r) }
+    ensures settled { IfOk result (λ _. Settled rows.now settled.new) }
 {
-    let mut new = rows[r].clone()?;
-    extend_row(alloc, &mut new, job, rows, r)?;
+    let mut new = through_row(alloc, rows, settled, r)?;
+    unite_shared(alloc, &mut new, job, completing, rows, settled, r)?;
     Ok(new)
 }

@@ -2,10 +2,12 @@
 
 ghost use Rattle.std.specs.Prelude.{◌≡◌, ◌↔◌, ◌⊎◌, IsTrue, not, ◌+◌, ◌*◌, ◌<◌, ◌≤◌, ℕ, length, filter, IfOk, IfErr, MatchOption};
 ghost use Rattle.hq_job.specs.Plan.{plan};
+ghost use Rattle.hq_model.specs.Job.{Earlier};
 ghost use Rattle.hq_model.specs.Machine.{listed};
 ghost use Rattle.hq_model.specs.Order.{OrderList};
 ghost use Rattle.hq_order.specs.Bits.{has};
 ghost use Rattle.hq_order.specs.Placing.{AllAre, Completing, Needed, OneIsOver, MayFollow};
+ghost use Rattle.hq_order.specs.Least.{LeastFirst};
 ghost use Rattle.hq_order.specs.Faults.{StuckWhereSo};
 
 use crate::bits::{covers, has, insert};
@@ -59,20 +61,65 @@ fn may_follow(
     }
 }
 
-/// The least packet that may come next.
-fn next(job: &Job, completing: &[Vec<u64>], needs: &[Vec<u64>], come: &[u64]) -> Option<usize>
+/// The end of a packet's queue: all from the packet up to there stay behind it.
+fn end_of_queue(job: &Job, number: usize) -> usize
+    requires { number < length job.now.packets }
+    ensures beyond { number < result }
+    ensures behind { (r : ℕ) → number < r → r < result → Earlier (plan job.now) number r }
+{
+    job.valid();
+    job.of_queue(job.packet(number).queue as usize).end
+}
+
+/// The packet to look at behind one that may not come next: none between them may.
+fn following(job: &Job, come: &[u64], number: usize) -> usize
+    requires { number < length job.now.packets }
+    ensures beyond { number < result }
+    ensures none { (r : ℕ) → number < r → r < result → MayFollow (plan job.now) come.now r → ⊥ }
+{
+    job.valid();
+    if has(come, number) {
+        number + 1
+    } else {
+        end_of_queue(job, number)
+    }
+}
+
+/// The least packet that may come next, where all below the first have come.
+fn next(
+    job: &Job,
+    completing: &[Vec<u64>],
+    needs: &[Vec<u64>],
+    come: &[u64],
+    first: usize,
+) -> Option<usize>
     requires completing { AllAre (λ s set. Completing (plan job.now) s set.items × (length set.items ≡ length come.now)) completing.now }
     requires signals { length completing.now ≡ length job.now.signals }
     requires needs { AllAre (λ p set. Needed (plan job.now) p set.items × (length set.items ≡ length come.now)) needs.now }
     requires count { length needs.now ≡ length job.now.packets }
+    requires first { (r : ℕ) → r < first → IsTrue (has come.now r) }
     ensures { MatchOption result ((p : ℕ) → MayFollow (plan job.now) come.now p → ⊥) (λ p. MayFollow (plan job.now) come.now p × ((r : ℕ) → r < p → MayFollow (plan job.now) come.now r → ⊥)) }
 {
-    for number in 0..job.packets().len() {
+    let mut number = first;
+    while number < job.packets().len() {
         if may_follow(job, completing, needs, come, number) {
             return Some(number);
         }
+        number = following(job, come, number);
     }
     None
+}
+
+/// The first number that hasn't come, at or behind one below which all have, or the count.
+fn first_left(come: &[u64], first: usize, count: usize) -> usize
+    requires { (r : ℕ) → r < first → IsTrue (has come.now r) }
+    ensures { (r : ℕ) → r < result → IsTrue (has come.now r) }
+{
+    let mut first = first;
+    while first < count && has(come, first) {
+        first += 1;
+    }
+    first
 }
 
 /// The packets that haven't come, rising.
@@ -96,6 +143,7 @@ fn left(alloc: Global, come: &[u64], count: usize) -> Result<Vec<u16>, AllocErro
 /// `Stuck` with the packets that can never complete, rising, exactly where no list is an order list; `Memory`.
 pub fn schedule(alloc: Global, job: &Job) -> Result<Vec<u16>, OrderFault>
     ensures ok { IfOk result (λ list. OrderList (plan job.now) list.items) }
+    ensures least { IfOk result (λ list. LeastFirst (plan job.now) list.items) }
     ensures stuck { IfErr result (λ e. StuckWhereSo (plan job.now) e) }
 {
     job.valid();
@@ -106,9 +154,11 @@ pub fn schedule(alloc: Global, job: &Job) -> Result<Vec<u16>, OrderFault>
     let needs = needs(alloc, job, &completing, &freeing, words)?;
     let mut come = vec![in alloc; 0; words]?;
     let mut list = Vec::with_capacity(alloc, count)?;
-    while let Some(number) = next(job, &completing, &needs, &come) {
+    let mut first = 0;
+    while let Some(number) = next(job, &completing, &needs, &come, first) {
         list.push(number as u16)?;
         insert(&mut come, number);
+        first = first_left(&come, first, count);
     }
     let left = left(alloc, &come, count)?;
     if left.is_empty() {

@@ -1,4 +1,5 @@
 pub mod Lines
+pub mod Cuts
 pub mod NumberLaws
 pub mod Spelled
 pub mod Taken

@@ -1,9 +1,9 @@
 //! Lines and words.
 
-ghost use Rattle.std.specs.Prelude.{◌≡◌, map, IfOk, ◌==◌};
+ghost use Rattle.std.specs.Prelude.{◌≡◌, ◌<◌, ◌∷◌, map, length, position, IfOk};
 ghost use Rattle.hq_text.specs.Lines.{words_of, lines_of, is_line_feed};
-ghost use Rattle.std.specs.List.{slice_split};
 
+use memchr::memchr;
 use std::alloc::{AllocError, Global};
 
 /// A line's words: the parts between its spaces, so that two spaces in a row have an empty word between them.
@@ -13,24 +13,36 @@ pub fn words_of(alloc: Global, line: &[u8]) -> Result<Vec<&[u8]>, AllocError>
     line.split(|b| *b == b' ').collect(alloc)
 }
 
-/// The parts between line feeds.
-fn parts_of(alloc: Global, text: &[u8]) -> Result<Vec<&[u8]>, AllocError>
-    ensures { IfOk result (λ parts. map (λ p. p.now) parts.items ≡ slice_split is_line_feed text.now) }
+/// Where the first line feed stands.
+#[tactic(auto, using(crate::proofs::Cuts::position_is))]
+fn line_end(text: &[u8]) -> Option<usize>
+    ensures { result ≡ position is_line_feed text.now }
 {
-    text.split(|b| *b == b'\n').collect(alloc)
+    memchr(b'\n', text)
+}
+
+/// The first line of a text that isn't empty, and the text behind it.
+fn first_line(text: &[u8]) -> (&[u8], &[u8])
+    requires { 0 < length text.now }
+    ensures cut { lines_of text.now ≡ result.0.now ∷ lines_of result.1.now }
+    ensures shorter { length result.1.now < length text.now }
+{
+    match line_end(text) {
+        Some(at) => (&text[..at], &text[at + 1..]),
+        None => (text, &text[text.len()..]),
+    }
 }
 
 /// A text's lines, without their line feeds. The last line may lack its own.
-#[tactic(auto, using(crate::proofs::Lines::keeps_parts, crate::proofs::Lines::drops_part))]
 pub fn lines_of(alloc: Global, text: &[u8]) -> Result<Vec<&[u8]>, AllocError>
     ensures { IfOk result (λ lines. map (λ l. l.now) lines.items ≡ lines_of text.now) }
 {
-    let mut lines = parts_of(alloc, text)?;
-    match lines.pop() {
-        Some(last) if !last.is_empty() => {
-            lines.push(last)?;
-            Ok(lines)
-        }
-        _ => Ok(lines),
+    let mut lines = Vec::new(alloc);
+    let mut rest = text;
+    while !rest.is_empty() {
+        let (line, behind) = first_line(rest);
+        lines.push(line)?;
+        rest = behind;
     }
+    Ok(lines)
 }

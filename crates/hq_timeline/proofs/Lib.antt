@@ -8,3 +8,4 @@ pub mod Faults
 pub mod Puts
 pub mod Again
 pub mod Replays
+pub mod OnePass

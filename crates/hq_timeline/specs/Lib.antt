@@ -8,3 +8,4 @@ pub mod DraftView
 pub mod Split
 pub mod Printed
 pub mod Replays
+pub mod OnePass

@@ -1,11 +1,11 @@
 //! A journal as far as it is read.
 
-ghost use Rattle.std.specs.Prelude.{◌≡◌, Ok};
+ghost use Rattle.std.specs.Prelude.{◌≡◌, Ok, IsTrue};
 ghost use Rattle.hq_text.specs.Lines.{words_of};
 ghost use Rattle.hq_timeline.specs.DraftView.{state_of};
 ghost use Rattle.hq_timeline.specs.Gives.{Gives};
 ghost use Rattle.hq_timeline.specs.Split.{list_of};
-ghost use Rattle.hq_timeline.specs.TextStates.{start, is_ended, add_head, add_event, add_content, added};
+ghost use Rattle.hq_timeline.specs.TextStates.{start, is_ended, add_head, add_event, add_content, added, with_event};
 
 use crate::fault::TimeReason;
 use crate::kinds::event_said;
@@ -82,6 +82,22 @@ impl Draft {
             Stage::Events => self.add_content(words),
             Stage::Ended => Err(TimeReason::Word),
         }
+    }
+
+    /// Whether an event may come next.
+    pub fn is_open(&self) -> bool
+        ensures { IsTrue result → (state_of self.now).stage ≡ Stage.Events }
+    {
+        matches!(self.stage, Stage::Events)
+    }
+
+    /// Takes in the next event.
+    pub fn push(&mut self, event: Event) -> Result<(), TimeReason>
+        ensures { (state_of self.old).stage ≡ Stage.Events → Gives (λ u. state_of self.new) result (Ok (with_event (state_of self.old) event)) }
+    {
+        self.events.push(event)?;
+        self.stage = Stage::Events;
+        Ok(())
     }
 
     /// Whether the end was read.

@@ -8,6 +8,7 @@ mod draft;
 mod fault;
 mod kinds;
 pub mod laws;
+mod one_pass;
 mod pen;
 mod printing;
 mod reading;

@@ -11,6 +11,7 @@ ghost use Rattle.hq_timeline.specs.TextStates.{FirstRefused, added, start};
 
 use crate::draft::Draft;
 use crate::fault::{TimeFault, TimeReason};
+use crate::one_pass;
 use crate::words::Words;
 use hq_machine::Journal;
 use std::alloc::Global;
@@ -49,6 +50,11 @@ fn first_line(text: &[u8]) -> (&[u8], &[u8])
 fn take_line(draft: &mut Draft, line: &[u8]) -> Result<(), TimeReason>
     ensures { Gives (λ u. state_of draft.new) result (added (state_of draft.old) (words_of line.now)) }
 {
+    if draft.is_open() {
+        if let Some(event) = one_pass::event(line) {
+            return draft.push(event);
+        }
+    }
     draft.add(Words::of_line(line))
 }
 

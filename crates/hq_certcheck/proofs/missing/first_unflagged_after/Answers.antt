@@ -6,5 +6,5 @@ use Rattle.hq_certcheck.proofs.missing.first_unflagged_after.Goals as goal
 pub loop-r-preserved : goal.loop-r-preserved
 loop-r-preserved c = record {
   above = omega (arith, c.loop-r.invariant.above);
-  all = flagged_more (plan c.args.job.now) c.args.cells.now (length c.args.job.now.packets) c.args.p c.loop-r.r c.loop-r.invariant.all (c.is_flagged.ensures.0 c.if-not-is_flagged.false);
+  all = flagged_more (plan c.args.job.now) c.args.cells.now (length c.args.job.now.packets) c.args.p c.loop-r.r c.loop-r.invariant.all (c.lacks_none.ensures.0 c.if-not-lacks_none.false);
 }

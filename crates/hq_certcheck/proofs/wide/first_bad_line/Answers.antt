@@ -1,6 +1,7 @@
 use Rattle.std.proofs.Common.{◌≡◌, ◌<◌, ◌-◌, ℕ, length, map, ap, subst, sym, ◌∙◌, arith, MatchOption}
 use Rattle.std.specs.List.{range_with_len, AllZip}
 use Rattle.std.proofs.lemmas.List.{length-map}
+use Rattle.rayon.specs.Lists.{range_start, range_end}
 use Rattle.rayon.specs.Numbers.{nat_range}
 use Rattle.rayon.proofs.ToStd.{nat_range-All}
 use Rattle.hq_cert.specs.View.{line_of}
@@ -14,7 +15,7 @@ use Rattle.hq_certcheck.proofs.wide.first_bad_line.Goals as goal
 pub position_first-requires-clause-items : goal.position_first-requires-clause-items
 position_first-requires-clause-items g c κs lives =
     let ends = c.into_par_iter.ensures in
-    rw (ends.0, ends.1) (nat_range-All (λ k. k < length c.args.lines.now) 0 (length c.args.lines.now) (λ i low high. high))
+    rw (c.with_min_len-places.ensures.base, ends.0, ends.1) (nat_range-All (λ k. k < length c.args.lines.now) 0 (length c.args.lines.now) (λ i low high. high))
 
 pub returns : goal.returns
 returns g c =
@@ -24,7 +25,8 @@ returns g c =
     let lines = map line_of c.args.lines.now in
     let P = LineFollows (plan c.args.job.now) lines in
     let whole : n - 0 ≡ n = omega arith in
-    let places = done.2 ∙ (λ i. nat_range (ends.0 i) (ends.1 i)) ∙ ap (range_with_len 0) whole in
+    let base = c.with_min_len-places.ensures.base in
+    let places = done.2 ∙ (λ i. nat_range (range_start (base i)) (range_end (base i))) ∙ (λ i. nat_range (ends.0 i) (ends.1 i)) ∙ ap (range_with_len 0) whole in
     let told : AllZip (Tells P) (range_with_len 0 n) done.1 = subst (λ xs. AllZip (Tells P) xs done.1) places done.3 in
     match_change c.position_first.result ((k : ℕ) → k < n → P k) ((k : ℕ) → P k) (IsLeastOf P n) (FirstBadLine (plan c.args.job.now) lines)
     (λ all k line e. all k (meant_within line_of c.args.lines.now k line e) line e)

@@ -1,12 +1,19 @@
-use Rattle.std.proofs.Common.{◌↔◌, ◌/◌, ◌<◌, length, sym, ◌∙◌, ap, subst, IsTrue}
+use Rattle.std.proofs.Common.{◌↔◌, ◌/◌, ◌<◌, length, sym, ◌∙◌, ap, subst, IsTrue, arith, Some, None}
+use Rattle.std.proofs.lemmas.Option.{get_or_from_slice_get}
 use Rattle.hq_job.specs.Plan.{plan, kind_of}
 use Rattle.hq_order.specs.Bits.{has}
 use Rattle.hq_order.specs.Matrix.{Marks, Square}
 use Rattle.hq_order.specs.Rounds.{ByEither}
 use Rattle.hq_order.proofs.Rows.{given_back, joined}
-use Rattle.hq_order.proofs.Single.{count}
+use Rattle.hq_order.proofs.Single.{count, few}
+use Rattle.hq_order.proofs.Slots.{signal_there}
 use Rattle.hq_order.proofs.Turns.{either_exact}
 use Rattle.hq_order.proofs.rounds.unite_shared.Goals as goal
+
+pub meet_branches-requires-clause-low : goal.meet_branches-requires-clause-low
+meet_branches-requires-clause-low c = λ slot s there.
+    let slots = c.packet-placed.result.now.slots in
+    omega (arith, c.requires.signals, signal_there c.args.job.now c.args.r slot s slots c.valid.ensures.packets (few c.args.job.now c.args.r c.requires.r_is) (ap (λ q. q.deps) c.packet-placed.ensures) (get_or_from_slice_get slots slot (Some s) None there))
 
 pub returns-in_ok-meet_branches-clause-exact : goal.returns-in_ok-meet_branches-clause-exact
 returns-in_ok-meet_branches-clause-exact c = λ p.

@@ -1,15 +1,15 @@
-use Rattle.std.proofs.Common.{ap, sym, ◌∙◌, Some, None}
-use Rattle.std.specs.FinMap as finite
-use Rattle.hq_copies.proofs.Levels.{held_dirty, held_below}
+use Rattle.std.proofs.Common.{ap, ap₂, sym, ◌∙◌}
+use Rattle.hq_copies.specs.Edges.{layered}
+use Rattle.hq_copies.specs.Marks.{byte_of}
+use Rattle.hq_copies.proofs.Levels.{got}
 use Rattle.hq_copies.proofs.level.Level.get.Goals as goal
 
 pub returns-in-Some : goal.returns-in-Some
-returns-in-Some c = ap (λ m. finite.get m c.args.number) (sym c.self.view_is) ∙ held_dirty c.self.inside.clean.edges.items c.self.inside.clean.bytes.items c.self.inside.dirty.edges.items c.self.inside.dirty.bytes.items c.args.number c.in-Some.value c.self.invariant (sym c.in-Some.ensures)
+returns-in-Some c = got c.self.inside c.args.self.now c.self.invariant c.self.view_is c.args.number ∙ ap (λ t. layered c.self.inside.dirty t (byte_of c.self.inside.lower c.args.number)) (sym c.in-Some.ensures)
 
 pub returns-in_err-value-in-None : goal.returns-in_err-value-in-None
 returns-in_err-value-in-None c = rw c.from_residual.ensures
-    (ap (λ m. finite.get m c.args.number) (sym c.self.view_is) ∙ held_below c.self.inside.clean.edges.items c.self.inside.clean.bytes.items c.self.inside.dirty.edges.items c.self.inside.dirty.bytes.items c.args.number None c.self.invariant (sym c.in-None.ensures) (sym c.in_err-value-in-None.ensures))
+    (got c.self.inside c.args.self.now c.self.invariant c.self.view_is c.args.number ∙ ap₂ (layered c.self.inside.dirty) (sym c.in-None.ensures) (sym c.in_err-value-in-None.ensures))
 
 pub returns-in_ok-value-in-None : goal.returns-in_ok-value-in-None
-returns-in_ok-value-in-None c =
-    ap (λ m. finite.get m c.args.number) (sym c.self.view_is) ∙ held_below c.self.inside.clean.edges.items c.self.inside.clean.bytes.items c.self.inside.dirty.edges.items c.self.inside.dirty.bytes.items c.args.number (Some c.in_ok-value-in-None.value) c.self.invariant (sym c.in-None.ensures) (sym c.in_ok-value-in-None.ensures)
+returns-in_ok-value-in-None c = got c.self.inside c.args.self.now c.self.invariant c.self.view_is c.args.number ∙ ap₂ (layered c.self.inside.dirty) (sym c.in-None.ensures) (sym c.in_ok-value-in-None.ensures)

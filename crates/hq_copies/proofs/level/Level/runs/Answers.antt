@@ -1,10 +1,17 @@
-use Rattle.std.proofs.Common.{subst, ap₂, ◌+◌}
-use Rattle.hq_model.specs.View.{Held}
-use Rattle.hq_copies.specs.Copies.{IsRunCount}
-use Rattle.hq_copies.proofs.Rises.{level_runs}
+use Rattle.std.proofs.Common.{◌≡◌, ◌+◌, ℕ, suc, ap, ap₂, cond, ◌∙◌, arith}
+use Rattle.hq_copies.specs.Copies.{count_below, begins_run}
+use Rattle.hq_copies.proofs.Levels.{runs_counted}
 use Rattle.hq_copies.proofs.level.Level.runs.Goals as goal
+
+pub loop-number-preserved : goal.loop-number-preserved
+loop-number-preserved c =
+    let next : suc c.loop-number.number ≡ c.loop-number.number + 1 = omega arith in
+    record {
+      counted = c.with_one-count.ensures.exact ∙ ap₂ (λ k b. k + cond {A = ℕ} b 1 0) c.loop-number.invariant.counted c.begins.ensures ∙ ap (count_below (begins_run c.args.self.now)) next;
+      small = omega (arith, c.with_one-count.ensures.small, c.loop-number.invariant.small);
+    }
 
 pub returns : goal.returns
 returns c =
-    let P : Held → Type 0 = λ m. IsRunCount m (c.count.result + c.count-2.result) in
-    subst P c.self.view_is (level_runs c.self.inside.clean.edges.items c.self.inside.clean.bytes.items c.self.inside.dirty.edges.items c.self.inside.dirty.bytes.items (c.count.result + c.count-2.result) c.self.invariant (ap₂ (λ a b. a + b) c.count.ensures.count c.count-2.ensures.count))
+    let at : c.loop-number.number ≡ c.end-number-end.result = omega arith in
+    runs_counted c.args.self.now c.end-number-end.result c.loop-number.count c.end-number-end.ensures (c.loop-number.invariant.counted ∙ ap (count_below (begins_run c.args.self.now)) at)

@@ -1,7 +1,8 @@
 use Rattle.std.proofs.Common.{◌≡◌, true, false, Some, set, sym, ap, ◌∙◌, arith}
+use Rattle.std.proofs.lemmas.Bool.{cond-true}
 use Rattle.hq_copies.specs.Edges.{has}
 use Rattle.hq_copies.specs.Copies.{count_below}
-use Rattle.hq_copies.proofs.Marks.{on_ok, Changed, changed_inserted, changed_written, place_held}
+use Rattle.hq_copies.proofs.Marks.{Changed, changed_inserted, changed_written, place_held}
 use Rattle.hq_copies.proofs.runs.Runs.set.Goals as goal
 
 pub index_mut-requires : goal.index_mut-requires
@@ -30,7 +31,7 @@ inserted c =
     let i : c.find-held.result.1 ≡ count_below (has c.args.self.now.edges.items) c.args.number = c.find-held.ensures.index ∙ ap (λ t. count_below (has t) c.args.number) c.deref.ensures.value in
     let h : has c.args.self.now.edges.items c.args.number ≡ false = ap (λ t. has t c.args.number) (sym c.deref.ensures.value) ∙ sym c.find-held.ensures.held ∙ c.if-held.false in
     changed_inserted c.args.self.now.edges.items c.args.self.now.bytes.items c.args.number c.args.byte c.find-held.result.1 c.turn.new.edges.items c.insert.new.self.items c.requires.runs h i c.turn.ensures
-    (on_ok c.insert.result _ (sym c.is_err.ensures.value ∙ c.if-is_err.false) c.insert.ensures.items)
+    (c.insert.ensures.items ∙ cond-true _ _ _ (c.insert.ensures.succeeds (omega (arith, c.requires.room.1))))
 
 pub returns-clause-runs : goal.returns-clause-runs
 returns-clause-runs c = (inserted c).runs

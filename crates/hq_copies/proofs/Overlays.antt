@@ -1,0 +1,217 @@
+-- Runs of bytes that are put over others, at their end or one byte after another.
+use Rattle.std.proofs.Common.{◌≡◌, ℕ, zero, suc, ◌+◌, ◌-◌, ◌<◌, ◌≤◌, ◌≢◌, true, false, not, inl, inr, List, [], ◌∷◌, ◌++◌, length, take, refl, sym, ◌∙◌, ap, ap₂, subst, ltb, get_or, arith, Option, Some, None, is_some, slice_get, length-append}
+use Rattle.std.proofs.lemmas.Bool.{cases_lt, cases_eq, cond-true, cond-false, lt-ltb, le-ltb, true≢false}
+use Rattle.std.proofs.lemmas.List.{get_or-take, get_or_append_left, get_or-append_right, length-take-le}
+use Rattle.std.proofs.lemmas.Option.{slice_get_past, slice_get-get_or}
+use Rattle.hq_copies.specs.Edges.{has, IsRising, is_odd, toggled, ceiling, byte_at, IsRuns}
+use Rattle.hq_copies.specs.Copies.{count_below}
+use Rattle.hq_copies.specs.Marks.{byte_of, AreRuns, SameRuns}
+use Rattle.hq_copies.specs.declared.runs.Runs.{Runs}
+use Rattle.hq_copies.specs.Overlays.{run_at, or_lower, byte_over, Over}
+use Rattle.hq_copies.proofs.Edges.{not_not, has_beyond, toggled_before, toggled_from, toggled_rising, toggled_odd}
+use Rattle.hq_copies.proofs.Counts.{count_same, count_less, count_mono, step_true, step_false, at_true, at_false, at_other}
+
+-- ---- where a run has bytes
+
+pub run_before : (start : ℕ) (bytes : List ℕ) (n : ℕ) → n < start → run_at start bytes n ≡ None
+run_before start bytes n l = cond-true (ltb n start) None (slice_get bytes (n - start)) (lt-ltb n start l)
+
+pub run_from : (start : ℕ) (bytes : List ℕ) (n : ℕ) → start ≤ n → run_at start bytes n ≡ slice_get bytes (n - start)
+run_from start bytes n l = cond-false (ltb n start) None (slice_get bytes (n - start)) (le-ltb n start l)
+
+pub run_past : (start : ℕ) (bytes : List ℕ) (n : ℕ) → start + length bytes ≤ n → run_at start bytes n ≡ None
+run_past start bytes n l = run_from start bytes n (omega arith) ∙ slice_get_past bytes (n - start) (omega arith)
+
+pub run_held : (start : ℕ) (bytes : List ℕ) (n : ℕ) → start ≤ n → n < start + length bytes → run_at start bytes n ≡ Some (get_or bytes (n - start) 0)
+run_held start bytes n l h = run_from start bytes n l ∙ slice_get-get_or bytes (n - start) 0 (omega arith)
+
+-- ---- the last edge
+
+last_edge : (from : ℕ) (edges : List ℕ) (i n : ℕ) → IsRising from edges → suc i ≡ length edges → get_or edges i 0 ≤ n → ceiling edges ≤ n
+last_edge from [] i n r e l = absurd (omega arith)
+last_edge from (x ∷ []) zero n r e l = omega arith
+last_edge from (x ∷ []) (suc i) n r e l = absurd (omega arith)
+last_edge from (x ∷ y ∷ edges) zero n r e l = absurd (omega arith)
+last_edge from (x ∷ y ∷ edges) (suc i) n r e l =
+    let rest : ceiling (y ∷ edges) ≤ n = last_edge (suc x) (y ∷ edges) i n r.1 (omega arith) l in
+    omega (arith, rest, r.1.0)
+
+pub none_from : (edges bytes : List ℕ) (i n m : ℕ) → IsRuns edges bytes → suc i ≡ length edges → get_or edges i 0 ≤ n → n ≤ m → has edges m ≡ false
+none_from edges bytes i n m runs e l h = let c = last_edge 0 edges i n runs.rising e l in has_beyond edges m (omega (arith, c)) ∙ runs.ends
+
+pub none_of_none : (edges : List ℕ) (m : ℕ) → edges ≡ [] → has edges m ≡ false
+none_of_none edges m e = ap (λ t. has t m) e
+
+pub none_last : (edges : List ℕ) → None ≡ slice_get edges (length edges - 1) → edges ≡ []
+none_last [] e = refl
+none_last (x ∷ edges) e = absurd (true≢false (ap is_some (sym (e ∙ slice_get-get_or (x ∷ edges) (length (x ∷ edges) - 1) 0 (omega arith)))))
+
+-- ---- a run at the end
+
+-- what is known of edges with a run behind all of them
+record Appended (edges : List ℕ) (start end : ℕ) (new : List ℕ) : Type 0 where
+  pub below : (n : ℕ) → n < start → has new n ≡ has edges n
+  pub within : (n : ℕ) → start ≤ n → n < end → has new n ≡ true
+  pub past : (n : ℕ) → end ≤ n → has new n ≡ false
+
+appended : (edges : List ℕ) (start end : ℕ) → start < end → ((n : ℕ) → start ≤ n → has edges n ≡ false) → Appended edges start end (toggled end (toggled start edges))
+appended edges start end l none = record {
+  below = λ n h. toggled_before end (toggled start edges) n (omega arith) ∙ toggled_before start edges n h;
+  within = λ n h k. toggled_before end (toggled start edges) n k ∙ toggled_from start edges n h ∙ ap not (none n h);
+  past = λ n h. toggled_from end (toggled start edges) n h ∙ ap not (toggled_from start edges n (omega arith)) ∙ not_not (has edges n) ∙ none n (omega arith);
+}
+
+counts_below : (edges new : List ℕ) (start end n : ℕ) → Appended edges start end new → n ≤ start → count_below (has new) n ≡ count_below (has edges) n
+counts_below edges new start end n a l = count_same (has edges) (has new) n (λ m h. a.below m (omega arith))
+
+counts_within : (edges new : List ℕ) (start end k : ℕ) → Appended edges start end new → start + k ≤ end → count_below (has new) (start + k) ≡ count_below (has edges) start + k
+counts_within edges new start end zero a l =
+    let e : start + 0 ≡ start = omega arith in
+    let f : count_below (has new) (start + 0) ≡ count_below (has edges) start = ap (count_below (has new)) e ∙ counts_below edges new start end start a (omega arith) in
+    omega (arith, f)
+counts_within edges new start end (suc k) a l =
+    let e : start + suc k ≡ suc (start + k) = omega arith in
+    let f : count_below (has new) (start + suc k) ≡ count_below (has new) (suc (start + k)) = ap (count_below (has new)) e in
+    let g : count_below (has new) (suc (start + k)) ≡ count_below (has new) (start + k) + 1 = step_true (has new) (start + k) (a.within (start + k) (omega arith) (omega arith)) in
+    let h : count_below (has new) (start + k) ≡ count_below (has edges) start + k = counts_within edges new start end k a (omega arith) in
+    omega (arith, f, g, h)
+
+counts_past : (edges new : List ℕ) (start end k : ℕ) → Appended edges start end new → count_below (has new) (end + k) ≡ count_below (has new) end
+counts_past edges new start end zero a = let e : end + 0 ≡ end = omega arith in ap (count_below (has new)) e
+counts_past edges new start end (suc k) a =
+    let e : end + suc k ≡ suc (end + k) = omega arith in
+    ap (count_below (has new)) e ∙ step_false (has new) (end + k) (a.past (end + k) (omega arith)) ∙ counts_past edges new start end k a
+
+-- the count at a number of the run
+count_at : (edges new : List ℕ) (start end n : ℕ) → Appended edges start end new → start ≤ n → n ≤ end → count_below (has new) n ≡ count_below (has edges) start + (n - start)
+count_at edges new start end n a l h =
+    let e : start + (n - start) ≡ n = omega arith in
+    ap (count_below (has new)) (sym e) ∙ counts_within edges new start end (n - start) a (omega arith)
+
+count_after : (edges new : List ℕ) (start end n : ℕ) → Appended edges start end new → end ≤ n → count_below (has new) n ≡ count_below (has new) end
+count_after edges new start end n a l =
+    let e : end + (n - end) ≡ n = omega arith in
+    ap (count_below (has new)) (sym e) ∙ counts_past edges new start end (n - end) a
+
+pub appended_runs : (edges bytes run : List ℕ) (start end i : ℕ) (new : List ℕ) → IsRuns edges bytes → ((n : ℕ) → start ≤ n → has edges n ≡ false) → i ≡ count_below (has edges) start → 0 < length run → end ≡ start + length run
+    → new ≡ toggled end (toggled start edges) → IsRuns new (take i bytes ++ run)
+appended_runs edges bytes run start end i new runs none at some past e = rw e (record {
+  rising = toggled_rising end 0 (toggled start edges) (toggled_rising start 0 edges runs.rising (omega arith)) (omega arith);
+  ends = toggled_odd end (toggled start edges) ∙ ap not (toggled_odd start edges) ∙ not_not (is_odd edges) ∙ runs.ends;
+  enough = λ n. elim (cases_lt n end) [
+    | inl low ↦ elim (cases_lt n start) [
+      | inl below ↦ omega (arith, size, counts_below edges new' start end n a (omega arith), small n below)
+      | inr from ↦ omega (arith, size, count_at edges new' start end n a from (omega arith))
+    ]
+    | inr high ↦ omega (arith, size, count_after edges new' start end n a high, count_at edges new' start end end a (omega arith) (omega arith))
+  ];
+})
+  where
+    new' : List ℕ
+    new' = toggled end (toggled start edges)
+
+    a : Appended edges start end (toggled end (toggled start edges))
+    a = appended edges start end (omega arith) none
+
+    size : length (take i bytes ++ run) ≡ i + length run
+    size = length-append (take i bytes) run ∙ ap (λ k. k + length run) (length-take-le i bytes (omega (arith, runs.enough start)))
+
+    small : (n : ℕ) → n < start → count_below (has edges) n ≤ i
+    small n l = omega (arith, at, count_mono (has edges) n start (omega arith))
+
+pub appended_over : (edges bytes run : List ℕ) (start end i : ℕ) (new : List ℕ) → IsRuns edges bytes → ((n : ℕ) → start ≤ n → has edges n ≡ false) → i ≡ count_below (has edges) start → 0 < length run → end ≡ start + length run
+    → new ≡ toggled end (toggled start edges) → Over (run_at start run) (byte_at (has edges) bytes) (byte_at (has new) (take i bytes ++ run))
+appended_over edges bytes run start end i new runs none at some past e n = rw e (elim (cases_lt n start) [
+  | inl low ↦
+      at_other (has edges) (has new') bytes (take i bytes ++ run) n (a.below n low) (λ h.
+      let c : count_below (has new') n ≡ count_below (has edges) n = counts_below edges new' start end n a (omega arith) in
+      let l : count_below (has edges) n < i = omega (arith, at, count_less (has edges) n start h low) in
+      ap (λ k. get_or (take i bytes ++ run) k 0) c
+      ∙ get_or_append_left (take i bytes) run 0 (count_below (has edges) n) (omega (arith, l, size))
+      ∙ get_or-take i bytes (count_below (has edges) n) 0 l)
+      ∙ ap (λ t. or_lower t (byte_at (has edges) bytes n)) (sym (run_before start run n low))
+  | inr from ↦ elim (cases_lt n end) [
+    | inl inside ↦
+        let c : count_below (has new') n ≡ count_below (has edges) start + (n - start) = count_at edges new' start end n a from (omega arith) in
+        let k : count_below (has new') n - i ≡ n - start = omega (arith, c, at) in
+        at_true (has new') (take i bytes ++ run) n (a.within n from inside)
+        ∙ ap Some (get_or-append_right (take i bytes) run i (count_below (has new') n) 0 size (omega (arith, c, at)) ∙ ap (λ m. get_or run m 0) k)
+        ∙ ap (λ t. or_lower t (byte_at (has edges) bytes n)) (sym (run_held start run n from (omega arith)))
+    | inr high ↦
+        at_false (has new') (take i bytes ++ run) n (a.past n high)
+        ∙ sym (at_false (has edges) bytes n (none n from))
+        ∙ ap (λ t. or_lower t (byte_at (has edges) bytes n)) (sym (run_past start run n (omega arith)))
+  ]
+])
+  where
+    new' : List ℕ
+    new' = toggled end (toggled start edges)
+
+    a : Appended edges start end (toggled end (toggled start edges))
+    a = appended edges start end (omega arith) none
+
+    size : length (take i bytes) ≡ i
+    size = length-take-le i bytes (omega (arith, runs.enough start))
+
+-- ---- byte after byte
+
+take_other : (xs : List ℕ) (i k : ℕ) → k ≢ i → slice_get (take (suc i) xs) k ≡ slice_get (take i xs) k
+take_other [] zero k d = refl
+take_other [] (suc i) k d = refl
+take_other (x ∷ xs) zero zero d = absurd (d refl)
+take_other (x ∷ xs) zero (suc k) d = refl
+take_other (x ∷ xs) (suc i) zero d = refl
+take_other (x ∷ xs) (suc i) (suc k) d = take_other xs i k (λ e. d (ap suc e))
+
+take_same : (xs : List ℕ) (i : ℕ) → i < length xs → slice_get (take (suc i) xs) i ≡ Some (get_or xs i 0)
+take_same [] i l = absurd (omega arith)
+take_same (x ∷ xs) zero l = refl
+take_same (x ∷ xs) (suc i) l = take_same xs i (omega arith)
+
+run_same : (start : ℕ) (bytes : List ℕ) (i : ℕ) → i < length bytes → run_at start (take (i + 1) bytes) (start + i) ≡ Some (get_or bytes i 0)
+run_same start bytes i l =
+    let e : (start + i) - start ≡ i = omega arith in
+    let f : i + 1 ≡ suc i = omega arith in
+    run_from start (take (i + 1) bytes) (start + i) (omega arith) ∙ ap (λ k. slice_get (take (i + 1) bytes) k) e ∙ ap (λ k. slice_get (take k bytes) i) f ∙ take_same bytes i l
+
+run_other : (start : ℕ) (bytes : List ℕ) (i n : ℕ) → n ≢ start + i → run_at start (take (i + 1) bytes) n ≡ run_at start (take i bytes) n
+run_other start bytes i n d = elim (cases_lt n start) [
+  | inl low ↦ run_before start (take (i + 1) bytes) n low ∙ sym (run_before start (take i bytes) n low)
+  | inr from ↦
+      let f : i + 1 ≡ suc i = omega arith in
+      run_from start (take (i + 1) bytes) n from ∙ ap (λ k. slice_get (take k bytes) (n - start)) f ∙ take_other bytes i (n - start) (λ e. d (omega arith)) ∙ sym (run_from start (take i bytes) n from)
+]
+
+-- bytes that are written over others
+pub write_none : (start : ℕ) (bytes : List ℕ) (n below : ℕ) → below ≡ byte_over (run_at start (take 0 bytes) n) below
+write_none start bytes n below = elim (cases_lt n start) [
+  | inl low ↦ ap (λ t. byte_over t below) (sym (run_before start (take 0 bytes) n low))
+  | inr from ↦ ap (λ t. byte_over t below) (sym (run_from start (take 0 bytes) n from))
+]
+
+pub write_more : (start i x : ℕ) (bytes old cur new : List ℕ) (n : ℕ) → i < length bytes → get_or bytes i 0 ≡ x → get_or cur n 0 ≡ byte_over (run_at start (take i bytes) n) (get_or old n 0) → (n ≡ start + i → get_or new n 0 ≡ x) → (n ≢ start + i → get_or new n 0 ≡ get_or cur n 0)
+    → get_or new n 0 ≡ byte_over (run_at start (take (i + 1) bytes) n) (get_or old n 0)
+write_more start i x bytes old cur new n l e over same others = elim (cases_eq n (start + i)) [
+  | inl at ↦ same at ∙ sym e ∙ ap (λ t. byte_over t (get_or old n 0)) (sym (run_same start bytes i l)) ∙ ap (λ k. byte_over (run_at start (take (i + 1) bytes) k) (get_or old n 0)) (sym at)
+  | inr d ↦ others d ∙ over ∙ ap (λ t. byte_over t (get_or old n 0)) (sym (run_other start bytes i n d))
+]
+
+-- ---- one run over those behind it
+
+pub over_behind : (run behind below : Option ℕ) → ((byte : ℕ) → run ≡ Some byte → behind ≡ None) → or_lower behind (or_lower run below) ≡ or_lower (or_lower run behind) below
+over_behind None behind below apart = refl
+over_behind (Some byte) behind below apart = ap (λ t. or_lower t (Some byte)) (apart byte refl)
+
+pub run_below : (start : ℕ) (bytes : List ℕ) (n byte : ℕ) → run_at start bytes n ≡ Some byte → n < start + length bytes
+run_below start bytes n byte e = elim (cases_lt n (start + length bytes)) [
+  | inl low ↦ low
+  | inr past ↦ absurd (true≢false (ap is_some (sym e ∙ run_past start bytes n past)))
+]
+
+-- ---- equal runs
+
+pub same_byte : (old new : Runs) (n : ℕ) → SameRuns old new → byte_of new n ≡ byte_of old n
+same_byte old new n same = ap₂ (λ es bs. byte_at (has es) bs n) same.0 same.1
+
+pub same_are : (old new : Runs) → SameRuns old new → AreRuns old → AreRuns new
+same_are old new same runs = subst (λ es. IsRuns es new.bytes.items) (sym same.0) (subst (λ bs. IsRuns old.edges.items bs) (sym same.1) runs)

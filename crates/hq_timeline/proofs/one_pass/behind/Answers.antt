@@ -1,0 +1,8 @@
+use Rattle.std.specs.Prelude.{nat_eq}
+use Rattle.std.proofs.Common.{◌++◌}
+use Rattle.std.proofs.lemmas.Slice.Eq.{strip_prefix_is}
+use Rattle.hq_timeline.proofs.OnePass.{from_match, nat_tells}
+use Rattle.hq_timeline.proofs.one_pass.behind.Goals as goal
+
+pub returns : goal.returns
+returns c = from_match _ _ c.strip_prefix.result (strip_prefix_is nat_tells c.args.text.now c.args.name.now c.strip_prefix.result c.strip_prefix.ensures.cases)
