@@ -1,4 +1,4 @@
-pub mod Bounds
+pub mod Parting
 pub mod Founded
 pub mod Growing
 pub mod Adding

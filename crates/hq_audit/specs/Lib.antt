@@ -1,5 +1,5 @@
 pub mod Rests
-pub mod Extents
+pub mod Parts
 pub mod Kept
 pub mod Marked
 pub mod Paired

@@ -5,16 +5,16 @@ ghost use Rattle.hq_job.specs.Plan.{plan};
 ghost use Rattle.hq_model.specs.Certificate.{CertHolds};
 ghost use Rattle.hq_model.specs.Fence.{Ordered};
 ghost use Rattle.hq_model.specs.Order.{OrderList};
-ghost use Rattle.hq_audit.specs.Extents.{AreExtents};
+ghost use Rattle.hq_audit.specs.Parts.{AreParts};
 ghost use Rattle.hq_audit.specs.Refused.{AllShown, IsRefused};
 ghost use Rattle.hq_audit.specs.declared.fault.AuditNo.TheVariants.{Memory};
 
-use crate::extents::{Extent, extents};
 use crate::fault::AuditNo;
 use crate::lines::Lines;
 use crate::marking::need_all;
 use crate::needs::Needs;
 use crate::pairs::all_pairs;
+use crate::parts::Parts;
 use hq_cert::Certificate;
 use hq_job::Job;
 use hq_order::{Before, schedule};
@@ -35,13 +35,13 @@ fn widened(alloc: Global, numbers: &[u16]) -> Result<Vec<u32>, AllocError>
 fn certified(
     alloc: Global,
     before: &Before,
-    extents: &[Extent],
+    parts: &Parts,
     order: &[u16],
     needs: Needs,
     room: usize,
 ) -> Result<Certificate, AllocError>
     requires order { OrderList before.now order.now }
-    requires extents { AreExtents before.now extents.now }
+    requires parts { AreParts before.now parts.now }
     requires shown { AllShown before.now }
     ensures { IfOk result (λ c. CertHolds before.now c) }
 {
@@ -49,7 +49,7 @@ fn certified(
     let mut lines = Lines::new(alloc, before, needs, facts.len())?;
     lines.add_all(alloc, before, &facts)?;
     drop(facts);
-    let pairs = all_pairs(&mut lines, alloc, before, extents, room)?;
+    let pairs = all_pairs(&mut lines, alloc, before, parts, room)?;
     let order = widened(alloc, order)?;
     Ok(Certificate::new(order, lines.into_lines(), pairs))
 }
@@ -69,9 +69,9 @@ pub fn audit(alloc: Global, job: &Job) -> Result<Certificate, AuditNo>
     job.valid();
     let order = schedule(alloc, job)?;
     let before = Before::build(alloc, job)?;
-    let extents = extents(alloc, job)?;
+    let parts = Parts::build(alloc, job)?;
     let mut needs = Needs::new(alloc, &before)?;
-    let room = need_all(&mut needs, &before, &extents)?;
-    let certificate = certified(alloc, &before, &extents, &order, needs, room)?;
+    let room = need_all(&mut needs, &before, &parts)?;
+    let certificate = certified(alloc, &before, &parts, &order, needs, room)?;
     Ok(certificate)
 }

@@ -7,7 +7,6 @@
 
 mod auditing;
 mod directed;
-mod extents;
 mod fault;
 mod grounds;
 pub mod laws;
@@ -15,6 +14,7 @@ mod lines;
 mod marking;
 mod needs;
 mod pairs;
+mod parts;
 mod slots;
 
 pub use auditing::audit;

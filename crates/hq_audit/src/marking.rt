@@ -5,12 +5,12 @@ ghost use Rattle.hq_model.specs.Job.{IsPacket};
 ghost use Rattle.hq_model.specs.Order as order;
 ghost use Rattle.hq_model.specs.Fence as model;
 ghost use Rattle.hq_fence.specs.Judgement.{IsRelease, IsAcquire, ReleasesBefore, ReleasesToAcquire, Shows, end_of, first_of};
-ghost use Rattle.hq_audit.specs.Extents.{AreExtents};
+ghost use Rattle.hq_audit.specs.Parts.{AreParts};
 ghost use Rattle.hq_audit.specs.Refused.{ShownOneWay, RowShown, AllShown, IsUnshown, IsFirstOfRow, IsFirstUnshown};
 
 use crate::directed::{Unshown, direct};
-use crate::extents::{Extent, are_apart};
 use crate::needs::Needs;
+use crate::parts::Parts;
 use hq_fence::{Acquire, Release, Shown};
 use hq_order::Before;
 
@@ -110,22 +110,12 @@ fn kinds_of(shown: &Shown) -> usize {
 }
 
 /// What the pair lines of a and b need. Answers how many there are.
-fn need_pair(
-    needs: &mut Needs,
-    before: &Before,
-    extents: &[Extent],
-    a: usize,
-    b: usize,
-) -> Result<usize, Unshown>
-    requires extents { AreExtents before.now extents.now }
+fn need_pair(needs: &mut Needs, before: &Before, a: usize, b: usize) -> Result<usize, Unshown>
     requires a_is { IsPacket before.now a }
     requires b_is { IsPacket before.now b }
     ensures shown { OnOk result (ShownOneWay before.now a b) }
     ensures unshown { IfErr result (λ u. IsUnshown before.now a b u) }
 {
-    if are_apart(extents, a, b) {
-        return Ok(0);
-    }
     let direction = direct(before, a, b)?;
     need_shown(
         needs,
@@ -138,34 +128,31 @@ fn need_pair(
 }
 
 /// What the pair lines of a with the packets above it need. Answers how many there are, for the room that they take.
-fn need_row(
-    needs: &mut Needs,
-    before: &Before,
-    extents: &[Extent],
-    a: usize,
-) -> Result<usize, Unshown>
-    requires extents { AreExtents before.now extents.now }
+fn need_row(needs: &mut Needs, before: &Before, parts: &Parts, a: usize) -> Result<usize, Unshown>
+    requires parts { AreParts before.now parts.now }
     requires a_is { IsPacket before.now a }
     ensures shown { OnOk result (RowShown before.now a (length before.now.packets)) }
     ensures unshown { IfErr result (λ u. IsFirstOfRow before.now a u) }
 {
     before.job().valid();
     let mut count = 0usize;
-    for b in a + 1..before.len() {
-        count = count.saturating_add(need_pair(needs, before, extents, a, b)?);
+    let mut b = parts.next(before, a, a + 1);
+    'others: while b < before.len() {
+        count = count.saturating_add(need_pair(needs, before, a, b)?);
+        b = parts.next(before, a, b + 1);
     }
     Ok(count)
 }
 
 /// What all pair lines need, or the first two packets that aren't ordered. Answers how many pair lines there are.
-pub fn need_all(needs: &mut Needs, before: &Before, extents: &[Extent]) -> Result<usize, Unshown>
-    requires extents { AreExtents before.now extents.now }
+pub fn need_all(needs: &mut Needs, before: &Before, parts: &Parts) -> Result<usize, Unshown>
+    requires parts { AreParts before.now parts.now }
     ensures shown { OnOk result (AllShown before.now) }
     ensures unshown { IfErr result (λ u. IsFirstUnshown before.now u) }
 {
     let mut count = 0usize;
     for a in 0..before.len() {
-        count = count.saturating_add(need_row(needs, before, extents, a)?);
+        count = count.saturating_add(need_row(needs, before, parts, a)?);
     }
     Ok(count)
 }

@@ -5,15 +5,15 @@ ghost use Rattle.hq_model.specs.Job.{IsPacket};
 ghost use Rattle.hq_model.specs.Order as order;
 ghost use Rattle.hq_model.specs.Fence as model;
 ghost use Rattle.hq_fence.specs.Judgement.{IsRelease, IsAcquire, ReleasesBefore, ReleasesToAcquire, Shows};
-ghost use Rattle.hq_audit.specs.Extents.{AreExtents};
+ghost use Rattle.hq_audit.specs.Parts.{AreParts};
 ghost use Rattle.hq_audit.specs.Refused.{ShownOneWay, RowShown, AllShown};
 ghost use Rattle.hq_packet.specs.declared.packet.Scope.TheVariants as scope;
 ghost use Rattle.hq_audit.specs.Kept.{lines_of, Kept, Numbered};
 ghost use Rattle.hq_audit.specs.Paired.{Cited, ReleaseCited, AcquireCited, Fenced, pairs_of, AllHold, PairsGo, HasPairIn, HasAll, RowPaired, AllPaired};
 
 use crate::directed::direct;
-use crate::extents::{Extent, are_apart};
 use crate::lines::{Lines, round_of};
+use crate::parts::Parts;
 use hq_cert::{Citation, Fences, Pair, ReadChain, WriteChain};
 use hq_fence::{Acquire, Release, Shown};
 use hq_order::Before;
@@ -387,22 +387,17 @@ fn add_pair(
     lines: &mut Lines,
     alloc: Global,
     before: &Before,
-    extents: &[Extent],
     a: usize,
     b: usize,
 ) -> Result<(), AllocError>
     requires kept { Kept before.now lines.old }
     requires hold { AllHold before.now (lines_of lines.old) (pairs_of pairs.old) }
-    requires extents { AreExtents before.now extents.now }
     requires a_is { IsPacket before.now a }
     requires b_is { IsPacket before.now b }
     requires shown { ShownOneWay before.now a b }
     ensures goes { OnOk result (PairsGo before.now lines.old lines.new (pairs_of pairs.old) (pairs_of pairs.new)) }
     ensures has { OnOk result (HasAll before.now (pairs_of pairs.new) a b ⊎ HasAll before.now (pairs_of pairs.new) b a) }
 {
-    if are_apart(extents, a, b) {
-        return Ok(());
-    }
     let direction = direct(before, a, b).unwrap();
     add_shown(
         pairs,
@@ -421,19 +416,21 @@ fn add_row(
     lines: &mut Lines,
     alloc: Global,
     before: &Before,
-    extents: &[Extent],
+    parts: &Parts,
     a: usize,
 ) -> Result<(), AllocError>
     requires kept { Kept before.now lines.old }
     requires hold { AllHold before.now (lines_of lines.old) (pairs_of pairs.old) }
-    requires extents { AreExtents before.now extents.now }
+    requires parts { AreParts before.now parts.now }
     requires a_is { IsPacket before.now a }
     requires shown { RowShown before.now a (length before.now.packets) }
     ensures goes { OnOk result (PairsGo before.now lines.old lines.new (pairs_of pairs.old) (pairs_of pairs.new)) }
     ensures paired { OnOk result (RowPaired before.now (pairs_of pairs.new) a (length before.now.packets)) }
 {
-    for b in a + 1..before.len() {
-        add_pair(pairs, lines, alloc, before, extents, a, b)?;
+    let mut b = parts.next(before, a, a + 1);
+    'others: while b < before.len() {
+        add_pair(pairs, lines, alloc, before, a, b)?;
+        b = parts.next(before, a, b + 1);
     }
     Ok(())
 }
@@ -443,18 +440,18 @@ pub fn all_pairs(
     lines: &mut Lines,
     alloc: Global,
     before: &Before,
-    extents: &[Extent],
+    parts: &Parts,
     room: usize,
 ) -> Result<Vec<Pair>, AllocError>
     requires kept { Kept before.now lines.old }
-    requires extents { AreExtents before.now extents.now }
+    requires parts { AreParts before.now parts.now }
     requires shown { AllShown before.now }
     ensures goes { IfOk result (λ pairs. PairsGo before.now lines.old lines.new [] (pairs_of pairs)) }
     ensures paired { IfOk result (λ pairs. AllPaired before.now (pairs_of pairs)) }
 {
     let mut pairs = Vec::with_capacity(alloc, room)?;
     for a in 0..before.len() {
-        add_row(&mut pairs, lines, alloc, before, extents, a)?;
+        add_row(&mut pairs, lines, alloc, before, parts, a)?;
     }
     Ok(pairs)
 }

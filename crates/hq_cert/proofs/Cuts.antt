@@ -1,7 +1,7 @@
 -- The first line of a text, and the text behind it.
-use Rattle.std.proofs.Common.{◌≡◌, ℕ, zero, suc, ◌+◌, ◌-◌, ◌<◌, ◌≤◌, Bool, true, false, cond, ltb, List, [], ◌∷◌, length, take, drop, Option, Some, None, inl, inr, refl, sym, ap, subst, ◌∙◌, arith, length-drop}
+use Rattle.std.proofs.Common.{◌≡◌, ℕ, zero, suc, ◌+◌, ◌-◌, ◌<◌, ◌≤◌, Bool, true, false, cond, ltb, List, [], ◌∷◌, ◌++◌, length, take, drop, Option, Some, None, inl, inr, refl, sym, ap, subst, ◌∙◌, arith, length-drop}
 use Rattle.std.specs.Prelude.{position}
-use Rattle.std.specs.List.{slice_split, position_or_len, All}
+use Rattle.std.specs.List.{slice_split, onto_first, position_or_len, All}
 use Rattle.std.proofs.lemmas.List.Splits.{slice_split_first, slice_split_none}
 use Rattle.std.proofs.lemmas.List.Sums.{fails_before_first}
 use Rattle.std.proofs.lemmas.List.Quantifiers.{position-Some}
@@ -31,6 +31,13 @@ parts_of p (x ∷ xs) = by (p x) (parts_of p xs) where
 pub without : (x : List ℕ) (parts : List (List ℕ)) → Parts parts → without_empty_last (x ∷ parts) ≡ x ∷ without_empty_last parts
 without [] parts r = rw r.is refl
 without (b ∷ x) parts r = rw r.is refl
+
+pub onto_first_of : (c : ℕ) (parts more : List (List ℕ)) → Parts parts → onto_first c (parts ++ more) ≡ onto_first c parts ++ more
+onto_first_of c parts more p = ap (λ ps. onto_first c (ps ++ more)) p.is ∙ ap (λ ps. onto_first c ps ++ more) (sym p.is)
+
+pub parts_behind : (xs ys : List (List ℕ)) → Parts ys → Parts (xs ++ ys)
+parts_behind [] ys p = p
+parts_behind (x ∷ xs) ys p = record { first = x; others = xs ++ ys; is = refl }
 
 first_place : (p : ℕ → Bool) (xs : List ℕ) (at : ℕ) → position p xs ≡ Some at → (position_or_len p xs ≡ at) × (at < length xs)
 first_place p xs at e = by (ltb (position_or_len p xs) (length xs)) refl e where

@@ -10,8 +10,10 @@ pub mod Puts
 pub mod Split
 pub mod Holds
 pub mod Reasons
-pub mod Late
+pub mod Spelled
 pub mod Nine
 pub mod Placed
 pub mod OnePass
 pub mod Taking
+pub mod Pieces
+pub mod Readers

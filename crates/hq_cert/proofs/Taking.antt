@@ -12,7 +12,7 @@ use Rattle.hq_cert.proofs.LinesRead.{line_is}
 use Rattle.hq_cert.proofs.PairsRead.{pair_is}
 use Rattle.hq_cert.proofs.Split.{PlainLine, line_first, plain_line_of, plain_pair_of}
 use Rattle.hq_cert.proofs.Turns.{admits_more, Taken}
-use Rattle.hq_cert.specs.TextFaults.{start}
+use Rattle.hq_cert.specs.Gives.{TakesAll}
 
 pub none_taken_from : (text : List ℕ) (s t : State) → s ≡ t → TakenFrom text text 0 s t
 none_taken_from text s t e = record { front = []; whole = refl; counted = refl; admitted = sym e; short = omega arith }
@@ -48,20 +48,22 @@ pair_taken text rest behind count k old mid new p so at number ahead is =
     let a : PairAhead (length mid.lines) rest p behind = subst (λ (n : ℕ). PairAhead n rest p behind) (sym number) ahead in
     one_more text rest behind count old mid new (pair_words p) so (plain_pair_of mid.chained (length mid.lines) p (a.fits mid.chained)) a.is (pair_added mid p at (a.fits mid.chained) ∙ ap (λ s. Ok s) (sym is))
 
-admits_both : (front lines : List (List ℕ)) (s mid new : State) → AdmitsAll s front mid → AdmitsAll mid lines new → AdmitsAll s (front ++ lines) new
+pub admits_both : (front lines : List (List ℕ)) (s mid new : State) → AdmitsAll s front mid → AdmitsAll mid lines new → AdmitsAll s (front ++ lines) new
 admits_both [] lines s mid new h k = subst (λ (t : State). AdmitsAll t lines new) h k
 admits_both (line ∷ front) lines s mid new h k = (h.0, h.1, admits_both front lines h.0 mid new h.2 k)
 
 -- the lines of one pass behind those before
-pub more_taken : (all text rest : List ℕ) (count taken : ℕ) (mid new : State) → Taken (lines_of all) (lines_of text) count mid → TakenFrom text rest taken mid new → Taken (lines_of all) (lines_of rest) (count + taken) new
-more_taken all text rest count taken mid new so more =
+pub more_taken : (all text rest : List ℕ) (before count taken next : ℕ) (old mid new : State) → Taken (lines_of all) (lines_of text) before count old mid → TakenFrom text rest taken mid new → next ≡ count + taken → Taken (lines_of all) (lines_of rest) before next old new
+more_taken all text rest before count taken next old mid new so more number =
     record {
       front = so.front ++ more.front;
       whole = so.whole ∙ ap (λ r. so.front ++ r) more.whole ∙ sym (append_assoc so.front more.front (lines_of rest));
-      counted = length-append so.front more.front ∙ ap (λ n. n + length more.front) so.counted ∙ ap (λ n. count + n) more.counted;
-      admitted = admits_both so.front more.front start mid new so.admitted more.admitted;
+      counted = let long = length-append so.front more.front in let a = so.counted in let b = more.counted in omega arith;
+      admitted = admits_both so.front more.front old mid new so.admitted more.admitted;
     }
 
-pub all_taken : (all left : List ℕ) (n : ℕ) (s : State) → Taken (lines_of all) (lines_of left) n s → true ≡ eqb (length left) 0 → (n ≡ length (lines_of all)) × AdmitsAll start (lines_of all) s
-all_taken all [] n s t e = let whole = t.whole ∙ append-nil t.front in (sym t.counted ∙ ap length (sym whole), subst (λ (ls : List (List ℕ)). AdmitsAll start ls s) (sym whole) t.admitted)
-all_taken all (b ∷ left) n s t e = let none = eqb-true (length (b ∷ left)) 0 (sym e) in absurd (omega arith)
+pub all_taken : (all left : List ℕ) (before n : ℕ) (old s : State) → Taken (lines_of all) (lines_of left) before n old s → true ≡ eqb (length left) 0 → TakesAll (Ok n) before (lines_of all) old s
+all_taken all [] before n old s t e =
+    let whole = t.whole ∙ append-nil t.front in
+    (sym t.counted ∙ ap (λ ls. before + length ls) (sym whole), subst (λ (ls : List (List ℕ)). AdmitsAll old ls s) (sym whole) t.admitted)
+all_taken all (b ∷ left) before n old s t e = let none = eqb-true (length (b ∷ left)) 0 (sym e) in absurd (omega arith)

@@ -8,7 +8,7 @@ use Rattle.hq_cert.specs.declared.fault.CertReason.TheVariants as reason
 use Rattle.hq_cert.specs.declared.fault.CertFault.{CertFault}
 use Rattle.hq_cert.specs.Grammar.{CertText}
 use Rattle.hq_cert.specs.TextFaults.{State, start, is_ended, read_of, Admits, Refused, AdmitsAll, at_line, FirstFault, faulty, endless, OneCertificate, FaultlessWhereCertificate, OneFirstFault}
-use Rattle.hq_cert.specs.Gives.{TakesAll, GivesCertificate, no_memory}
+use Rattle.hq_cert.specs.Gives.{LineFault, ReadOf, GivesCertificate, no_memory}
 use Rattle.hq_cert.proofs.Parts.{ok_is}
 use Rattle.hq_cert.proofs.States.{Kept, kept, kept_start, kept_all, AddsAll, ended_of, adds_certificate}
 
@@ -103,11 +103,33 @@ one_first_fault lines f g h k = some_is (one_outcome start 1 lines (Some f) (Som
 
 -- ---- what the code learns
 
-pub ended_found : (lines : List (List ℕ)) (n : ℕ) (s : State) (c : model.Certificate) → TakesAll (Ok n) lines s → is_ended s ≡ true → c ≡ read_of s → CertText lines c
-ended_found lines n s c h e is = subst (λ (d : model.Certificate). CertText lines d) (sym is) (read_found lines s h.1 e)
+pub ended_found : (lines : List (List ℕ)) (s : State) (c : model.Certificate) → AdmitsAll start lines s → is_ended s ≡ true → c ≡ read_of s → CertText lines c
+ended_found lines s c h e is = subst (λ (d : model.Certificate). CertText lines d) (sym is) (read_found lines s h e)
 
-pub not_ended : (lines : List (List ℕ)) (n : ℕ) (s : State) (f : CertFault) → TakesAll (Ok n) lines s → is_ended s ≡ false → f ≡ at_line (n + 1) reason.NoEnd → (f ≡ no_memory) ⊎ FirstFault lines f
-not_ended lines n s f h e is = inr (subst (λ (g : CertFault). FirstFault lines g) (ap (λ k. at_line (k + 1) reason.NoEnd) (sym h.0) ∙ sym is) (endless s h.1 e))
+pub not_ended : (lines : List (List ℕ)) (n : ℕ) (s : State) (f : CertFault) → n ≡ length lines → AdmitsAll start lines s → is_ended s ≡ false → f ≡ at_line (n + 1) reason.NoEnd → (f ≡ no_memory) ⊎ FirstFault lines f
+not_ended lines n s f number h e is = inr (subst (λ (g : CertFault). FirstFault lines g) (ap (λ k. at_line (k + 1) reason.NoEnd) (sym number) ∙ sym is) (endless s h e))
+
+-- a line's fault is the text's
+pub first_fault : (lines : List (List ℕ)) (f : CertFault) → LineFault 0 start lines f → FirstFault lines f
+first_fault lines f h = subst (λ (g : CertFault). FirstFault lines g) (ap (λ n. at_line n h.why) same ∙ sym h.is) (faulty h.front h.line h.rest h.mid h.why h.whole h.admitted h.refused)
+  where
+    same : length h.front + 1 ≡ 0 + length h.front + 1
+    same = omega arith
+
+pub either_fault : (lines : List (List ℕ)) (f : CertFault) → (f ≡ no_memory) ⊎ LineFault 0 start lines f → (f ≡ no_memory) ⊎ FirstFault lines f
+either_fault lines f (inl e) = inl e
+either_fault lines f (inr h) = inr (first_fault lines f h)
+
+pub either_fault_from : (lines : List (List ℕ)) (f : CertFault) (s : State) → s ≡ start → (f ≡ no_memory) ⊎ LineFault 0 s lines f → (f ≡ no_memory) ⊎ FirstFault lines f
+either_fault_from lines f s e h = either_fault lines f (subst (λ (t : State). (f ≡ no_memory) ⊎ LineFault 0 t lines f) e h)
+
+pub read_found_of : (r : Result model.Certificate CertFault) (lines : List (List ℕ)) → ReadOf r lines → IfOk r (λ c. CertText lines c)
+read_found_of (Ok c) lines h = h
+read_found_of (Err f) lines h = tt
+
+pub read_fault_of : (r : Result model.Certificate CertFault) (lines : List (List ℕ)) → ReadOf r lines → IfErr r (λ f. (f ≡ no_memory) ⊎ FirstFault lines f)
+read_fault_of (Ok c) lines h = tt
+read_fault_of (Err f) lines h = h
 
 pub text_only : {X : Type 0} (view : X → model.Certificate) (r : Result X CertFault) (lines : List (List ℕ)) (c : model.Certificate) → IfOk r (λ x. CertText lines (view x)) → IfErr r (λ f. (f ≡ no_memory) ⊎ FirstFault lines f) → CertText lines c → GivesCertificate view r c
 text_only view (Ok x) lines c found wrong h = one_certificate lines (view x) c found h

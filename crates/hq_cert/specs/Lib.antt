@@ -10,3 +10,4 @@ pub mod LineForms
 pub mod OnePass
 pub mod Rows
 pub mod Gains
+pub mod SoFar

@@ -1,7 +1,7 @@
 //! What the texts of certificates have in common, each law the contract of a function.
 
 ghost use Rattle.hq_cert.specs.TextFaults.{OneCertificate, FaultlessWhereCertificate, OneFirstFault};
-ghost use Rattle.hq_cert.specs.LineForms.{WordMeans, CitationMeans};
+ghost use Rattle.hq_cert.specs.LineForms.{WordMeans, NumberMeans, CitationMeans};
 ghost use Rattle.hq_cert.specs.Printed.{ReadBack, PrintedIsRead};
 
 /// A text is one certificate's.
@@ -38,8 +38,15 @@ pub fn word_means()
     ensures { WordMeans }
 {}
 
-/// A line that is refused for what it cites is right but for that: it spells a line or a pair line, with numbers of 32 bits, that
-/// cites a line that isn't there. So a wrong number is told first.
+/// A line is refused for a number exactly where its words have a form that may stand there, but one of them is no number or
+/// citation that its place takes: no number, one above 4294967295, a K out of turn, or `=` where a number must stand. Whether the
+/// lines that it cites are there isn't looked at.
+pub fn number_means()
+    ensures { NumberMeans }
+{}
+
+/// A line is refused for what it cites exactly where it is right but for that: it spells a line or a pair line, with numbers of 32
+/// bits, that cites a line that isn't there. So a wrong number is told first.
 pub fn citation_means()
     ensures { CitationMeans }
 {}

@@ -15,6 +15,8 @@ mod operands;
 mod pairs;
 mod placing;
 mod printing;
+mod progress;
+mod reader;
 mod reading;
 mod rows;
 mod rules;
@@ -23,6 +25,7 @@ pub use certificate::{Branches, Certificate, Fences, Line, Pair, ReadChain, Rule
 pub use citation::Citation;
 pub use fault::{CertFault, CertReason};
 pub use printing::{PrintFault, print};
+pub use reader::{ReadFault, read};
 pub use reading::parse;
 
 #[cfg(test)]

@@ -1,12 +1,12 @@
 //! Texts to certificates.
 
-ghost use Rattle.std.specs.Prelude.{◌≡◌, ◌+◌, ◌<◌, ◌≤◌, ◌⊎◌, ◌∷◌, map, length, position, IfOk, IfErr, OnOk};
+ghost use Rattle.std.specs.Prelude.{◌≡◌, ℕ, ◌+◌, ◌<◌, ◌⊎◌, List, ◌∷◌, map, length, position, IfOk, IfErr, OnOk};
 ghost use Rattle.hq_text.specs.Lines.{lines_of, words_of, is_line_feed};
 ghost use Rattle.hq_model.specs.Certificate as model;
 ghost use Rattle.hq_cert.specs.DraftView.{state_of};
-ghost use Rattle.hq_cert.specs.Gives.{Gives, GivesCertificate, TakesAll, no_memory};
+ghost use Rattle.hq_cert.specs.Gives.{Gives, GivesCertificate, TakesAll, ReadOf, no_memory};
 ghost use Rattle.hq_cert.specs.Grammar.{CertText};
-ghost use Rattle.hq_cert.specs.TextFaults.{FirstFault, added, at_line, start};
+ghost use Rattle.hq_cert.specs.TextFaults.{AdmitsAll, FirstFault, added, at_line, start};
 
 use crate::certificate::Certificate;
 use crate::draft::Draft;
@@ -14,15 +14,20 @@ use crate::fault::{CertFault, CertReason};
 use memchr::memchr;
 use std::alloc::{AllocError, Global};
 
+/// Out of memory, told of line 0.
+pub const NO_MEMORY: CertFault = CertFault {
+    line: 0,
+    reason: CertReason::Memory,
+};
+
 /// A fault at a line, or out of memory at line 0.
 fn fault_at(line: usize, reason: CertReason) -> CertFault
     ensures { ((reason ≡ CertReason.Memory) × (result ≡ no_memory)) ⊎ ((¬ (reason ≡ CertReason.Memory)) × (result ≡ at_line line reason)) }
 {
-    let line = match reason {
-        CertReason::Memory => 0,
-        _ => line,
-    };
-    CertFault { line, reason }
+    match reason {
+        CertReason::Memory => NO_MEMORY,
+        _ => CertFault { line, reason },
+    }
 }
 
 /// Where the first line feed stands.
@@ -66,26 +71,40 @@ fn take_words<'a>(
     draft.add(alloc, words)
 }
 
-/// Takes in all lines of a text.
-fn take_lines(draft: &mut Draft, alloc: Global, text: &[u8]) -> Result<usize, CertFault>
-    requires { state_of draft.old ≡ start }
-    ensures taken { TakesAll result (lines_of text.now) (state_of draft.new) }
-    ensures count { IfOk result (λ n. n ≤ length text.now) }
+/// So many lines more.
+fn counted(count: usize, more: usize) -> Result<usize, CertFault>
+    ensures found { IfOk result (λ n. n ≡ count + more) }
+    ensures memory { IfErr result (λ f. f ≡ no_memory) }
+{
+    match count.checked_add(more) {
+        Some(sum) => Ok(sum),
+        None => Err(NO_MEMORY),
+    }
+}
+
+/// Takes in all lines of a text, behind so many. Answers how many there are then.
+pub fn take_lines(
+    draft: &mut Draft,
+    alloc: Global,
+    before: usize,
+    text: &[u8],
+) -> Result<usize, CertFault>
+    ensures { TakesAll result before (lines_of text.now) (state_of draft.old) (state_of draft.new) }
 {
     let mut words = Vec::new(alloc);
     let mut rest = text;
-    let mut count = 0;
+    let mut count = before;
     while !rest.is_empty() {
         let (taken, left) = match draft.take(rest) {
             Ok(found) => found,
             Err(reason) => return Err(fault_at(count, reason)),
         };
-        count += taken;
+        count = counted(count, taken)?;
         if left.is_empty() {
             return Ok(count);
         }
         let (line, behind) = first_line(left);
-        count += 1;
+        count = counted(count, 1)?;
         if let Err(reason) = take_words(draft, alloc, &mut words, line) {
             return Err(fault_at(count, reason));
         }
@@ -94,20 +113,26 @@ fn take_lines(draft: &mut Draft, alloc: Global, text: &[u8]) -> Result<usize, Ce
     Ok(count)
 }
 
-fn read(alloc: Global, text: &[u8]) -> Result<Certificate, CertFault>
-    ensures found { IfOk result (λ c. CertText (lines_of text.now) c) }
-    ensures fault { IfErr result (λ f. (f ≡ no_memory) ⊎ FirstFault (lines_of text.now) f) }
+/// The certificate of a text of so many lines, all of them taken in; or that it has no end.
+pub fn finished(draft: Draft, count: usize) -> Result<Certificate, CertFault>
+    ensures { (lines : List (List ℕ)) → count ≡ length lines → AdmitsAll start lines (state_of draft) → ReadOf result lines }
+{
+    if draft.is_ended() {
+        return Ok(draft.certificate());
+    }
+    let line = counted(count, 1)?;
+    Err(CertFault {
+        line,
+        reason: CertReason::NoEnd,
+    })
+}
+
+fn read_all(alloc: Global, text: &[u8]) -> Result<Certificate, CertFault>
+    ensures { ReadOf result (lines_of text.now) }
 {
     let mut draft = Draft::new(alloc);
-    let count = take_lines(&mut draft, alloc, text)?;
-    if draft.is_ended() {
-        Ok(draft.certificate())
-    } else {
-        Err(CertFault {
-            line: count + 1,
-            reason: CertReason::NoEnd,
-        })
-    }
+    let count = take_lines(&mut draft, alloc, 0, text)?;
+    finished(draft, count)
 }
 
 /// The certificate that a text is, or the first faulty line. Where memory runs out, that is the fault, at line 0; so it is where
@@ -118,5 +143,5 @@ pub fn parse(alloc: Global, text: &[u8]) -> Result<Certificate, CertFault>
     ensures only { (c : model.Certificate) → CertText (lines_of text.now) c → GivesCertificate (λ c. c) result c }
     ensures fault { IfErr result (λ f. (f ≡ no_memory) ⊎ FirstFault (lines_of text.now) f) }
 {
-    read(alloc, text)
+    read_all(alloc, text)
 }

@@ -4,7 +4,7 @@ use Rattle.std.proofs.lemmas.Bool.{cases_lt, cases_eq, cond-false}
 use Rattle.std.specs.FinMap as finite
 use Rattle.std.specs.Cmp.{nat_cmp_total}
 use Rattle.std.specs.Bool.{beq}
-use Rattle.hq_model.specs.Machine.{Copy, is_dirty}
+use Rattle.hq_model.specs.Machine.{Copy, is_dirty, value_or}
 use Rattle.hq_model.specs.View.{Held}
 use Rattle.hq_copies.specs.declared.level.Level.TheInside.{Inside}
 use Rattle.hq_copies.specs.Copies.{a_copy, dirty_only, cleaned, taken, written, count_below, begins, begins_run, IsRunCount}
@@ -103,6 +103,12 @@ pub writes_none : (upper lower : Option ℕ) (byte : ℕ) → byte ≡ written (
 writes_none None None byte = refl
 writes_none None (Some value) byte = refl
 writes_none (Some value) lower byte = refl
+
+-- what is seen through both layers
+pub seen_layers : (dirty : Bool) (upper lower : Option ℕ) (below : ℕ) → byte_over upper (byte_over lower below) ≡ value_or (layered dirty upper lower) below
+seen_layers dirty None None below = refl
+seen_layers dirty None (Some value) below = refl
+seen_layers dirty (Some value) lower below = refl
 
 -- one run over those behind it, where they change copies or bytes below
 pub run_feeds : (run behind : Option ℕ) (below : Option Copy) → ((byte : ℕ) → run ≡ Some byte → behind ≡ None) → dirty_over behind (dirty_over run below) ≡ dirty_over (or_lower run behind) below

@@ -7,4 +7,6 @@ pub mod Leftovers
 pub mod Gathered
 pub mod Levels
 pub mod Within
+pub mod Seen
+pub mod Spans
 pub mod StoredRuns

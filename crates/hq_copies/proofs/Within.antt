@@ -48,10 +48,10 @@ no_memory (Err x) P p e = inr (e, p)
 pub lent : {X : Type 0} (n : ℕ) (ys zs : List X) → n ≡ length ys → take n (ys ++ zs) ≡ ys
 lent n ys zs e = ap (λ k. take k (ys ++ zs)) e ∙ take-append_seam ys zs
 
-set_here : (xs : List Held) (a : ℕ) (m : Held) (b : ℕ) → a < length xs → copies_of (set xs a m) a b ≡ finite.get m b
+pub set_here : (xs : List Held) (a : ℕ) (m : Held) (b : ℕ) → a < length xs → copies_of (set xs a m) a b ≡ finite.get m b
 set_here xs a m b l = ap (λ t. finite.get t b) (get_or-set_same xs a m finite.empty l)
 
-set_there : (xs : List Held) (a q : ℕ) (m : Held) (b : ℕ) → q ≢ a → copies_of (set xs a m) q b ≡ copies_of xs q b
+pub set_there : (xs : List Held) (a q : ℕ) (m : Held) (b : ℕ) → q ≢ a → copies_of (set xs a m) q b ≡ copies_of xs q b
 set_there xs a q m b d = ap (λ t. finite.get t b) (get_or-set_other xs a q m finite.empty d)
 
 pub lanes_done : (old : CopiesValue) (start end a : ℕ) (lanes : List Held) (below : Held) → a < length old.agents → length lanes ≡ length old.lanes

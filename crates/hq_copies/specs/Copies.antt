@@ -9,6 +9,8 @@ use Rattle.hq_packet.specs.declared.packet.Scope.TheVariants as scope
 use Rattle.hq_model.specs.Job.{reaches}
 use Rattle.hq_model.specs.Machine.{Copy, value_or, is_dirty, listed}
 use Rattle.hq_model.specs.View.{Held, copies_of}
+use Rattle.hq_copies.specs.declared.span.Span.{Span}
+use Rattle.hq_copies.specs.Spans.{AreInside}
 
 -- What contracts see: the bytes of memory, the map of each agent and of each lane from bytes to copies, and each lane's agent.
 pub record CopiesValue : Type 0 where
@@ -17,11 +19,12 @@ pub record CopiesValue : Type 0 where
   pub lanes : List Held
   pub lane_agents : List ℕ
 
--- Each byte's number is small, and each lane has an agent that is there.
-pub record IsCopies (memory : List ℕ) (agents lanes : List Held) (lane_agents : List ℕ) : Type 0 where
+-- Each byte's number is small, each lane has an agent that is there, and lanes that hold bytes are inside the spans.
+pub record IsCopies (memory : List ℕ) (agents lanes : List Held) (lane_agents : List ℕ) (holding marked : Span) : Type 0 where
   pub bytes : length memory ≤ 65536
   pub lanes_agree : length lanes ≡ length lane_agents
   pub agents_there : All (λ a. a < length agents) lane_agents
+  pub inside : AreInside lanes holding marked
 
 abbrev pub a_copy : ℕ → Bool → Copy
 a_copy value dirty = record { value = value; dirty = dirty }

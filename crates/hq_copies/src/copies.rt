@@ -9,6 +9,7 @@ ghost use Rattle.hq_copies.specs.Copies.{opened, stored, lane_pushed, agent_push
 
 use crate::fault::CopiesFault;
 use crate::level::Level;
+use crate::span::Span;
 use hq_packet::Scope;
 use std::alloc::{AllocError, Global};
 use std::marker::Model;
@@ -22,6 +23,9 @@ pub struct Copies {
     lanes: Vec<Level>,
     // The number of each lane's agent.
     lane_agents: Vec<u8>,
+    // Where the lanes are that hold bytes, and those that hold dirty ones.
+    holding: Span,
+    marked: Span,
 }
 
 impl Model for Copies {
@@ -33,7 +37,7 @@ impl Model for Copies {
 
     ghost view = { λ c. record { memory = c.memory.items; agents = c.agents.items; lanes = c.lanes.items; lane_agents = c.lane_agents.items } };
 
-    ghost invariant = { λ c. IsCopies c.memory.items c.agents.items c.lanes.items c.lane_agents.items };
+    ghost invariant = { λ c. IsCopies c.memory.items c.agents.items c.lanes.items c.lane_agents.items c.holding c.marked };
 }
 
 impl Copies {
@@ -56,6 +60,8 @@ impl Copies {
             agents,
             lanes,
             lane_agents,
+            holding: Span::new(),
+            marked: Span::new(),
         })
     }
 
@@ -123,10 +129,11 @@ impl Copies {
         requires bytes { byte + length bytes.old ≤ length self.now.memory }
         ensures { bytes.new ≡ lane_bytes self.now lane byte (length bytes.old) }
     {
-        let _ = self.memory.len();
-        for (i, slot) in bytes.iter_mut().enumerate() {
-            *slot = self.read(lane, byte + i);
-        }
+        let agent = self.agent_of(lane);
+        let from = self.number(byte);
+        copy_from(&self.memory, byte, bytes);
+        self.agents[agent].write_over(from, bytes);
+        self.lanes[lane].write_over(from, bytes);
     }
 
     /// The write of a byte through a lane: the lane's copy is then dirty.
@@ -138,6 +145,8 @@ impl Copies {
     {
         let number = self.number(byte);
         self.lanes[lane].set_dirty(number, value)?;
+        self.holding = self.holding.with(lane);
+        self.marked = self.marked.with(lane);
         Ok(())
     }
 
@@ -151,6 +160,8 @@ impl Copies {
     {
         let start = self.number(byte);
         self.lanes[lane].set_run(start, bytes)?;
+        self.holding = self.holding.with(lane);
+        self.marked = self.marked.with(lane);
         Ok(())
     }
 
@@ -170,6 +181,8 @@ impl Copies {
         let below = &mut self.agents[agent];
         let level = &mut self.lanes[lane];
         level.push(below, number, value)?;
+        self.holding = self.holding.with(lane);
+        self.marked = self.marked.with(lane);
         Ok(())
     }
 
@@ -205,6 +218,8 @@ impl Copies {
         let agent = self.agent_of(lane);
         let value = self.agent_byte(agent, byte);
         self.lanes[lane].set_clean(number, value)?;
+        self.holding = self.holding.with(lane);
+        self.marked = self.marked.with(lane);
         Ok(())
     }
 
@@ -239,6 +254,8 @@ impl Copies {
             return Err(CopiesFault::NotClean);
         }
         level.drop_clean(number)?;
+        self.holding = self.holding.with(lane);
+        self.marked = self.marked.with(lane);
         Ok(())
     }
 
@@ -251,12 +268,23 @@ impl Copies {
         ensures faults { IfErr result (λ e. (e ≡ CopiesFault.NotClean) ⊎ ((e ≡ CopiesFault.Memory) × IsClean (copies_of self.old.agents agent byte))) }
     {
         let number = self.number(byte);
-        let level = &mut self.agents[agent];
-        if !level.is_clean(number) {
+        let below = &mut self.agents[agent];
+        if !below.is_clean(number) {
             return Err(CopiesFault::NotClean);
         }
-        level.drop_clean(number)?;
+        below.drop_clean(number)?;
         Ok(())
+    }
+
+    // Lets the clean bytes go of the lanes from start on and before end.
+    fn drop_clean_bytes(&mut self, start: usize, end: usize)
+        requires rising { start ≤ end }
+        requires lanes { end ≤ length self.old.lanes }
+        ensures { self.new ≡ record self.old { lanes = dirty_within start end self.old.lanes } }
+    {
+        let kept = self.holding.cut(start, end);
+        keep_dirty(&mut self.lanes, kept.start, kept.end);
+        self.holding = self.holding.narrowed(start, end, self.marked);
     }
 
     /// An acquire fence over these lanes and this agent.
@@ -267,7 +295,7 @@ impl Copies {
         ensures { self.new ≡ fenced self.old lanes.start lanes.end agent scope }
     {
         if reaches(scope, Scope::Agent) {
-            keep_dirty(&mut self.lanes, lanes.start, lanes.end);
+            self.drop_clean_bytes(lanes.start, lanes.end);
         }
         if reaches(scope, Scope::System) {
             self.agents[agent].keep_dirty();
@@ -295,10 +323,12 @@ impl Copies {
         ensures ok { OnOk result (LanesReleased self.old lanes.start lanes.end agent self.new) }
         ensures err { OnErr result (self.new ≡ self.old) }
     {
+        let dirty = self.marked.cut(lanes.start, lanes.end);
         let mut below = self.agents[agent].copy()?;
-        feed_each(&self.lanes, lanes.start, lanes.end, &mut below)?;
+        feed_each(&self.lanes, dirty.start, dirty.end, &mut below)?;
         self.agents[agent] = below;
-        mark_clean(&mut self.lanes, lanes.start, lanes.end);
+        mark_clean(&mut self.lanes, dirty.start, dirty.end);
+        self.marked = self.marked.narrowed(lanes.start, lanes.end, Span::new());
         Ok(())
     }
 
@@ -382,7 +412,19 @@ impl Copies {
             agents: copied(alloc, &self.agents)?,
             lanes: copied(alloc, &self.lanes)?,
             lane_agents: self.lane_agents.clone()?,
+            holding: self.holding,
+            marked: self.marked,
         })
+    }
+}
+
+// Fills the slice with the bytes of memory from one on.
+fn copy_from(memory: &[u8], byte: usize, bytes: &mut [u8])
+    requires { byte + length bytes.old ≤ length memory.now }
+    ensures { (i : ℕ) → i < length bytes.old → slice_index bytes.new i ≡ slice_index memory.now (byte + i) }
+{
+    for (i, slot) in bytes.iter_mut().enumerate() {
+        *slot = memory[byte + i];
     }
 }
 

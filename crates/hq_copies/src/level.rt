@@ -226,14 +226,17 @@ impl Level {
     pub fn write_to(&self, memory: &mut [u8])
         ensures { (n : ℕ) → n < length memory.old → slice_index memory.new n ≡ written (finite.get self.now n) (slice_index memory.old n) }
     {
-        if !self.dirty {
-            return;
+        if self.dirty {
+            self.upper.write_to(0, memory);
         }
-        let mut left = self.upper.all();
-        'runs: while let Some(run) = left.first_run() {
-            write(memory, run.start as usize, run.bytes);
-            left = run.behind;
-        }
+    }
+
+    /// Writes the bytes that are held over those of the slice, which begins at a number.
+    pub fn write_over(&self, from: u32, bytes: &mut [u8])
+        ensures { (i : ℕ) → i < length bytes.old → slice_index bytes.new i ≡ value_or (finite.get self.now (from + i)) (slice_index bytes.old i) }
+    {
+        self.lower.write_to(from, bytes);
+        self.upper.write_to(from, bytes);
     }
 
     /// The first dirty byte's number.
@@ -315,27 +318,6 @@ fn settle(lower: &mut Runs, upper: &mut Runs, dirty: bool) -> Result<(), AllocEr
     *lower = below;
     upper.clear();
     Ok(())
-}
-
-// Writes bytes into memory from a place on, where it has so many.
-fn write(memory: &mut [u8], start: usize, bytes: &[u8])
-    requires { start + length bytes.now < 2 ^ 32 }
-    ensures { (n : ℕ) → n < length memory.old → slice_index memory.new n ≡ byte_over (run_at start bytes.now n) (slice_index memory.old n) }
-{
-    for (i, byte) in bytes.iter().enumerate() {
-        write_byte(memory, start + i, *byte);
-    }
-}
-
-// Writes a byte into memory, if it has so many.
-fn write_byte(memory: &mut [u8], at: usize, byte: u8)
-    ensures same { at < length memory.old → slice_index memory.new at ≡ byte }
-    ensures others { (n : ℕ) → n ≢ at → slice_index memory.new n ≡ slice_index memory.old n }
-{
-    if at >= memory.len() {
-        return;
-    }
-    memory[at] = byte;
 }
 
 // The count, and one more if there is one.

@@ -5,6 +5,7 @@ mod copies;
 mod fault;
 mod level;
 mod runs;
+mod span;
 
 pub use copies::Copies;
 pub use fault::CopiesFault;

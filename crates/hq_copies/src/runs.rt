@@ -1,10 +1,10 @@
 //! The bytes of one mark, in runs.
 
-ghost use Rattle.std.specs.Prelude.{◌≡◌, ◌≢◌, ℕ, ◌+◌, ◌-◌, ◌<◌, ◌≤◌, ◌^◌, length, slice_index, Some, None, IsTrue, OnOk, OnErr, IfOk, MatchOption, if◌then◌else◌, vec_len, vec_capacity, true, false};
+ghost use Rattle.std.specs.Prelude.{◌≡◌, ◌≢◌, ◌↔◌, ℕ, ◌+◌, ◌-◌, ◌<◌, ◌≤◌, ◌^◌, length, slice_index, Some, None, IsTrue, OnOk, OnErr, IfOk, MatchOption, drop, if◌then◌else◌, vec_len, vec_capacity, true, false};
 ghost use Rattle.hq_copies.specs.Edges.{has, IsRising, toggled};
 ghost use Rattle.hq_copies.specs.Copies.{count_below};
 ghost use Rattle.hq_copies.specs.Marks.{byte_of, AreRuns, HasRoom, HasRunRoom, SameRuns, IsNowhere, IsFirst};
-ghost use Rattle.hq_copies.specs.Overlays.{run_at, Over};
+ghost use Rattle.hq_copies.specs.Overlays.{run_at, byte_over, Over};
 ghost use Rattle.hq_copies.specs.Leftovers.{AreLeft, left_of, IsFirstRun};
 
 use std::alloc::{AllocError, Global};
@@ -62,7 +62,7 @@ impl Runs {
     /// Whether there is no byte.
     pub fn is_empty(&self) -> bool
         requires { AreRuns self.now }
-        ensures { IsTrue result → IsNowhere self.now }
+        ensures { IsTrue result ↔ IsNowhere self.now }
     {
         self.first().is_none()
     }
@@ -229,6 +229,18 @@ impl Runs {
         }
         Ok(())
     }
+
+    /// Writes the bytes over those of the slice, which begins at a number.
+    pub fn write_to(&self, from: u32, bytes: &mut [u8])
+        requires { AreRuns self.now }
+        ensures { (i : ℕ) → i < length bytes.old → slice_index bytes.new i ≡ byte_over (byte_of self.now (from + i)) (slice_index bytes.old i) }
+    {
+        let mut left = self.all();
+        'runs: while let Some(run) = left.first_run() {
+            write_run(bytes, from, run.start, run.bytes);
+            left = run.behind;
+        }
+    }
 }
 
 /// The bytes of one mark from some run on.
@@ -345,4 +357,47 @@ fn find(edges: &[u32], number: u32) -> (bool, usize)
         from = *edge;
     }
     (inside, count + span(inside, from, number))
+}
+
+// Writes the bytes of a run over those of the slice, which begins at a number.
+fn write_run(bytes: &mut [u8], from: u32, start: u32, run: &[u8])
+    requires { start + length run.now < 2 ^ 32 }
+    ensures { (i : ℕ) → i < length bytes.old → slice_index bytes.new i ≡ byte_over (run_at start run.now (from + i)) (slice_index bytes.old i) }
+{
+    if start < from {
+        write(bytes, 0, behind(run, (from - start) as usize));
+    } else {
+        write(bytes, (start - from) as usize, run);
+    }
+}
+
+// The bytes behind so many.
+fn behind(bytes: &[u8], count: usize) -> &[u8]
+    ensures { result.now ≡ drop count bytes.now }
+{
+    if count < bytes.len() {
+        bytes.split_at(count).1
+    } else {
+        &[]
+    }
+}
+
+// How many of so many bytes lie within a length, from a place on.
+fn room(length: usize, start: usize, count: usize) -> usize
+    ensures few { result ≤ count }
+    ensures within { result ≤ length - start }
+    ensures all { (n : ℕ) → n < length → n < start + count → n < start + result }
+{
+    let space = length.saturating_sub(start);
+    if space < count { space } else { count }
+}
+
+// Writes bytes into a slice from a place on, where it has so many.
+fn write(slice: &mut [u8], start: usize, bytes: &[u8])
+    requires { start + length bytes.now < 2 ^ 32 }
+    ensures { (n : ℕ) → n < length slice.old → slice_index slice.new n ≡ byte_over (run_at start bytes.now n) (slice_index slice.old n) }
+{
+    for i in 0..room(slice.len(), start, bytes.len()) {
+        slice[start + i] = bytes[i];
+    }
 }

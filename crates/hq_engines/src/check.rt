@@ -11,9 +11,9 @@ ghost use Rattle.hq_engines.specs.Reports.{Reported, Said, with_feed};
 use crate::saying::{say, say_file, say_memory};
 use crate::status::Status;
 use crate::taking::take_job;
-use hq_cert::{CertFault, CertReason, Certificate, parse};
+use hq_cert::{CertFault, CertReason, Certificate, ReadFault, read};
 use hq_certcheck::{Accepted, CheckNo, check_wide};
-use hq_job::{Job, TextFault, take_text};
+use hq_job::Job;
 use std::alloc::Global;
 use std::fmt;
 use std::io::{Read, Write};
@@ -99,22 +99,6 @@ fn say_no_certificate<W: Write>(writer: &mut W, fault: CertFault) -> Status
     }
 }
 
-/// The certificate that a text is; or, where it is none, the status of the refusal, which is written.
-fn certificate_of<W: Write>(
-    alloc: Global,
-    text: &[u8],
-    writer: &mut W,
-) -> Result<Certificate, Status>
-    ensures found { IfOk result (λ c. CertText (lines_of text.now) c) }
-    ensures unwritten { OnOk result (writer.new ≡ writer.old) }
-    ensures refused { IfErr result (Reported (NoCertificate text.now) (W.contents writer.old) (W.contents writer.new)) }
-{
-    match parse(alloc, text) {
-        Ok(certificate) => Ok(certificate),
-        Err(fault) => Err(say_no_certificate(writer, fault)),
-    }
-}
-
 /// The certificate of a reader's text; or, where there is none, the status of the refusal, which is written.
 fn take_certificate<R: Read, W: Write>(
     alloc: Global,
@@ -125,10 +109,10 @@ fn take_certificate<R: Read, W: Write>(
     ensures unwritten { OnOk result (writer.new ≡ writer.old) }
     ensures refused { IfSome (R.remaining reader.old) (λ text. IfErr result (Reported (NoCertificate text) (W.contents writer.old) (W.contents writer.new))) }
 {
-    match take_text(alloc, reader) {
-        Ok(text) => certificate_of(alloc, &text, writer),
-        Err(TextFault::Read) => Err(say_file(writer)),
-        Err(TextFault::Memory) => Err(say_memory(writer)),
+    match read(alloc, reader) {
+        Ok(certificate) => Ok(certificate),
+        Err(ReadFault::Reader) => Err(say_file(writer)),
+        Err(ReadFault::Text(fault)) => Err(say_no_certificate(writer, fault)),
     }
 }
 

@@ -101,7 +101,7 @@ impl<'b, 'a> Search<'b, 'a> {
         requires y_is { IsPacket self.now.before.now y }
         ensures { IsTrue result ↔ FenceAfter self.now needed other y }
     {
-        acquires(self.before, self.r, y, needed) && self.before.holds(other, y)
+        self.before.holds(other, y) && acquires(self.before, self.r, y, needed)
     }
 
     /// The first packet of r's queue that acquires as far as is needed, after another packet.

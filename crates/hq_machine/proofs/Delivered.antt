@@ -1,5 +1,5 @@
 -- All stores of a packet at once are its stores one after another.
-use Rattle.std.proofs.Common.{◌≡◌, ℕ, zero, suc, ◌+◌, ◌<◌, ◌≤◌, Bool, true, false, List, [], ◌∷◌, ◌++◌, length, take, replicate, set, get_or, slice_index, count_by, filter, refl, sym, ◌∙◌, ap, ap₂, subst, arith, length-append}
+use Rattle.std.proofs.Common.{◌≡◌, ℕ, zero, suc, ◌+◌, ◌<◌, Bool, true, false, List, ◌∷◌, ◌++◌, length, take, replicate, set, slice_index, count_by, filter, refl, sym, ◌∙◌, ap, subst, arith}
 use Rattle.std.proofs.lemmas.List.{append-nil, length-replicate, length-take-le, take_more, take_all}
 use Rattle.std.proofs.lemmas.List.Sums.{length-filter}
 use Rattle.hq_model.specs.Job.{Job, packet, IsPacket}

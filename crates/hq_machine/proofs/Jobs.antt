@@ -4,7 +4,7 @@ use Rattle.std.proofs.lemmas.Bool.{cases_lt, eq-eqb, ne_eqb}
 use Rattle.std.specs.List.{flat_map}
 use Rattle.std.proofs.lemmas.List.{get_or_append_left, get_or-append-add, get_or-append_right, get_or-map}
 use Rattle.std.proofs.lemmas.Option.{slice_get-get_or}
-use Rattle.hq_model.proofs.Places.{some_get, got}
+use Rattle.hq_model.proofs.Places.{got}
 use Rattle.hq_machine.specs.View.{IsEntry}
 use Rattle.hq_footprint.specs.declared.footprint.Range.{Range}
 use Rattle.hq_footprint.specs.Bytes.{bytes_of}
@@ -86,7 +86,7 @@ range_few r rest limit all = elim (cases_lt limit r.len) [
       absurd (omega arith)
 ]
 
-rest_all : (xs ys : List ℕ) (limit : ℕ) → All (λ b. b < limit) (xs ++ ys) → All (λ b. b < limit) ys
+pub rest_all : (xs ys : List ℕ) (limit : ℕ) → All (λ b. b < limit) (xs ++ ys) → All (λ b. b < limit) ys
 rest_all xs ys limit all = λ i d l.
     let whole = length-append xs ys in
     subst (λ b. b < limit) (get_or-append-add xs ys i d) (all (length xs + i) d (omega arith))
@@ -116,12 +116,14 @@ entry_later r rest i l high =
     let whole = entries_length r rest in
     slice_get-get_or (bytes_of r ++ rest) i 0 (omega arith) ∙ ap Some (get_or-append_right (bytes_of r) rest r.len i 0 (bytes_counted r) l) ∙ sym (slice_get-get_or rest (i - r.len) 0 (omega arith))
 
-pub entry_low : (r : Range) (rest : List ℕ) (i : ℕ) → All (λ b. b < 65536) (bytes_of r ++ rest) → i < r.len → r.at + i < 65536
-entry_low r rest i all l =
+pub entry_within : (r : Range) (rest : List ℕ) (limit i : ℕ) → All (λ b. b < limit) (bytes_of r ++ rest) → i < r.len → r.at + i < limit
+entry_within r rest limit i all l =
     let whole = entries_length r rest in
-    let e = some_get _ _ (sym (slice_get-get_or (bytes_of r ++ rest) i 0 (omega arith)) ∙ entry_first r rest i l) in
-    let low = all i 0 (omega arith) in
-    omega arith
+    let here = bytes_counted r in
+    subst (λ b. b < limit) (get_or_append_left (bytes_of r) rest 0 i (omega arith) ∙ bytes_placed r i 0 l) (all i 0 (omega arith))
+
+pub entry_low : (r : Range) (rest : List ℕ) (i : ℕ) → All (λ b. b < 65536) (bytes_of r ++ rest) → i < r.len → r.at + i < 65536
+entry_low r rest i all l = entry_within r rest 65536 i all l
 
 pub entries_rest : (r : Range) (rest : List ℕ) → All (λ b. b < 65536) (bytes_of r ++ rest) → All (λ b. b < 65536) rest
 entries_rest r rest all = rest_all (bytes_of r) rest 65536 all

@@ -1,4 +1,5 @@
 pub mod Jobs
+pub mod Seen
 pub mod Starts
 pub mod Places
 pub mod Within

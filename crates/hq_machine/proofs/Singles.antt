@@ -1,5 +1,5 @@
 -- Events that are one step, among all events.
-use Rattle.std.proofs.Common.{◌≡◌, ℕ, Option, Some, None, IfSome, IsSome, OnOk, OnErr, IfErr, Ok, Err, Result, refl}
+use Rattle.std.proofs.Common.{IfSome, IsSome, refl}
 use Rattle.hq_model.specs.Job.{Job}
 use Rattle.hq_model.specs.Journal.{Coarse}
 use Rattle.hq_model.specs.Journal.Coarse.{One, Fetch, Deliver, Finish, Rest}

@@ -1,33 +1,24 @@
 //! All reads of a packet in order, and all its stores.
 
-ghost use Rattle.std.specs.Prelude.{◌≡◌, ◌<◌, ◌↔◌, ℕ, Some, None, IsTrue, length, IfOk, IfErr, OnOk, OnErr, slice_index, slice_index_or, false};
+ghost use Rattle.std.specs.Prelude.{◌≡◌, ◌<◌, ◌↔◌, ℕ, Some, None, IsTrue, length, IfOk, IfErr, OnOk, OnErr, slice_index, slice_index_or, false, map, All, ◌+◌, ◌≤◌};
 ghost use Rattle.hq_job.specs.Plan.{plan};
-ghost use Rattle.hq_model.specs.Job.{IsPacket, packet as packet_of};
+ghost use Rattle.std.specs.List.{flat_map};
+ghost use Rattle.hq_footprint.specs.Bytes.{bytes_of};
+ghost use Rattle.hq_model.specs.Job.{Job as JobOfNumbers, IsPacket, packet as packet_of};
 ghost use Rattle.hq_model.specs.Journal.Coarse.{Fetch, Deliver};
-ghost use Rattle.hq_model.specs.Machine.{bytes_stored};
+ghost use Rattle.hq_model.specs.Machine.{bytes_stored, lane_sees, listed};
 ghost use Rattle.hq_machine.specs.Entries.{MayFetch, FetchedUpTo, MayDeliver};
-ghost use Rattle.hq_machine.specs.View.{Applied, IsEntry, IsStateOf, NotApplied, Possible, rereading, row_of, state_of, stores_of};
+ghost use Rattle.hq_machine.specs.View.{Applied, IsStateOf, NotApplied, Possible, rereading, row_of, state_of, stores_of};
 
 use crate::fault::StepFault;
-use crate::packets::{first_write, read_at, read_count, write_count};
+use crate::packets::{first_write, read_count, write_count};
 use crate::phase::Phase;
 use crate::rows::{Reads, Stores};
 use crate::state::State;
 use crate::storing::task_of;
+use hq_footprint::Range as ByteRange;
 use hq_job::Job;
 use std::alloc::AllocError;
-
-/// The byte that the packet reads as an entry.
-fn entry_byte(job: &Job, packet: usize, entry: usize) -> usize
-    requires packet { IsPacket (plan job.now) packet }
-    requires entry { entry < length (packet_of (plan job.now) packet).reads }
-    ensures { IsEntry (plan job.now) packet entry result }
-{
-    match read_at(job, packet, entry) {
-        Some(byte) => byte,
-        None => unreachable!(),
-    }
-}
 
 impl State {
     /// Whether a packet has read nothing.
@@ -49,6 +40,44 @@ impl State {
         self.is_in(packet, Phase::Active) && self.has_read_none(packet)
     }
 
+    /// The bytes of a range that are seen through a packet's lane.
+    fn bytes_at(&self, packet: usize, range: ByteRange) -> Result<Vec<u8>, AllocError>
+        requires packet { packet < length self.now.copies.lanes }
+        requires range { 0 < range.len → range.at + range.len ≤ length self.now.copies.memory }
+        ensures { (job : JobOfNumbers) → IsStateOf job self.now → IfOk result (λ bytes. bytes.items ≡ listed range.len (λ i. lane_sees job (state_of job self.now) packet (range.at + i))) }
+    {
+        if range.len == 0 {
+            return Ok(Vec::new(self.allocator()));
+        }
+        let mut bytes = vec![in self.allocator(); 0; range.len as usize]?;
+        self.seen_into(packet, range.at as usize, &mut bytes);
+        Ok(bytes)
+    }
+
+    /// The bytes of ranges, laid end to end, that are seen through a packet's lane.
+    fn bytes_of_ranges(&self, packet: usize, ranges: &[ByteRange]) -> Result<Vec<u8>, AllocError>
+        requires packet { packet < length self.now.copies.lanes }
+        requires ranges { All (λ b. b < length self.now.copies.memory) (flat_map bytes_of ranges.now) }
+        ensures { (job : JobOfNumbers) → IsStateOf job self.now → IfOk result (λ bytes. bytes.items ≡ map (lane_sees job (state_of job self.now) packet) (flat_map bytes_of ranges.now)) }
+    {
+        let mut bytes = Vec::new(self.allocator());
+        for range in ranges {
+            let part = self.bytes_at(packet, *range)?;
+            bytes.extend_from_slice(&part)?;
+        }
+        Ok(bytes)
+    }
+
+    /// The bytes that a packet is to read, in order.
+    fn bytes_to_read(&self, job: &Job, packet: usize) -> Result<Vec<u8>, AllocError>
+        requires is { IsStateOf (plan job.now) self.now }
+        requires packet { IsPacket (plan job.now) packet }
+        ensures { IfOk result (λ bytes. bytes.items ≡ map (lane_sees (plan job.now) (state_of (plan job.now) self.now) packet) (packet_of (plan job.now) packet).reads) }
+    {
+        job.valid();
+        self.bytes_of_ranges(packet, &job.packet(packet).bytes.reads)
+    }
+
     /// What the packet reads, in order.
     fn read_in_order(&self, job: &Job, packet: usize) -> Result<Reads, AllocError>
         requires is { IsStateOf (plan job.now) self.now }
@@ -56,11 +85,11 @@ impl State {
         requires may { MayFetch (plan job.now) (state_of (plan job.now) self.now) packet }
         ensures { IfOk result (λ row. FetchedUpTo (plan job.now) self.now packet (length (packet_of (plan job.now) packet).reads) row) }
     {
-        let count = read_count(job, packet);
+        let bytes = self.bytes_to_read(job, packet)?;
         let mut row = Reads::new(self.allocator());
-        row.open(count)?;
-        for entry in 0..count {
-            row.set(entry, self.seen(packet, entry_byte(job, packet, entry)));
+        row.open(bytes.len())?;
+        for (entry, byte) in bytes.iter().enumerate() {
+            row.set(entry, *byte);
         }
         Ok(row)
     }

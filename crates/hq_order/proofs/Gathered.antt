@@ -1,115 +1,260 @@
--- What stands before some packets, taken in step by step.
-use Rattle.std.proofs.Common.{◌≡◌, ◌↔◌, ℕ, ◌/◌, ◌%◌, ◌+◌, ◌≤◌, ◌⊎◌, ◌&&◌, ◌==◌, inl, inr, List, refl, sym, ◌∙◌, ap, subst, arith, IsTrue, Bool, true, false, not, slice_index}
+-- What stands before some packets, taken in four at a time.
+use Rattle.std.proofs.Common.{◌≡◌, ◌≢◌, ◌↔◌, ℕ, ◌-◌, ◌/◌, ◌%◌, ◌+◌, ◌*◌, ◌^◌, ◌<◌, ◌≤◌, ◌⊎◌, ◌&&◌, ◌==◌, inl, inr, List, [], ◌∷◌, ◌++◌, suc, map, length, length-append, slice_index_or, refl, sym, ◌∙◌, ap, subst, arith, IsTrue, Bool, true, false, not, slice_index}
 use Rattle.std.specs.Global.{Vec}
 use Rattle.std.specs.Int.{bit_at}
-use Rattle.std.proofs.lemmas.Bool.{cases_eq, eqb-true}
-use Rattle.std.proofs.lemmas.Nat.Bits.{bit_at-zero}
+use Rattle.std.proofs.lemmas.Bool.{cases_eq, cases_lt, eq-eqb, eqb-true}
+use Rattle.std.proofs.lemmas.Nat.{div-add-mod', pow_pos}
+use Rattle.std.proofs.Math.Nat.{mod-lt}
+use Rattle.std.proofs.lemmas.Nat.Bits.{bit_at-zero, bit_at_above, bit_at_cat_low, bit_at_cat_high}
 use Rattle.hq_order.specs.Bits.{has}
-use Rattle.hq_order.specs.Matrix.{row, Marks, Grown}
-use Rattle.hq_order.specs.Uniting.{IsFull, Settled, United}
-use Rattle.hq_order.proofs.Rows.{grown_same, grown_more, and_both}
+use Rattle.hq_model.specs.Job.{Job}
+use Rattle.hq_order.specs.Matrix.{row, Marks, matrix, last, earlier}
+use Rattle.hq_order.specs.Rounds.{Next}
+use Rattle.hq_order.specs.Rounds.Next.{by_known, through as joining}
+use Rattle.hq_order.specs.Uniting.{OfChoice, AreUnions, Through, Stepped, is_fresh}
+use Rattle.hq_order.proofs.Closure.{below_pushed}
+use Rattle.hq_order.proofs.Rows.{and_both, past, within, marked_below}
 
--- ---- a set less another
+-- ---- choices
 
-not_true : (b : Bool) → IsTrue (not b) → b ≡ false
-not_true true h = absurd (cc)
-not_true false h = refl
-
--- what is left is there, and isn't taken out
-pub left_of : (old other new : Bool) → new ≡ (old && not other) → IsTrue new → IsTrue old × (other ≡ false)
-left_of old other new e h = let b = (and_both old (not other)).0 (sym e ∙ h) in (b.0, not_true other b.1)
-
--- what is there is left, or is taken out
-pub left_or : (old other new : Bool) → new ≡ (old && not other) → IsTrue old → IsTrue new ⊎ IsTrue other
-left_or old true new e h = inr refl
-left_or old false new e h = inl (e ∙ (and_both old true).1 (h, refl))
-
--- ---- one packet's row
-
-pub one_united : (rows : List (Vec ℕ)) (left old left1 left2 new : List ℕ) (m : ℕ)
-    → IsTrue (has left m) → Grown old new → ((p : ℕ) → IsTrue (has new p) ↔ (IsTrue (has old p) ⊎ Marks rows p m))
-    → Grown left1 left → ((p : ℕ) → has left1 p ≡ (has left p && not (p == m)))
-    → Grown left2 left1 → ((p : ℕ) → IsTrue (has left2 p) → IsTrue (has left1 p)) → ((x : ℕ) → IsTrue (has left1 x) → IsTrue (has left2 x) ⊎ (IsFull rows m × Marks rows x m))
-    → United rows left old left2 new
-one_united rows left old left1 left2 new m there g exact less1 removed less2 within2 taken = record {
-  grown = g;
-  only = λ p h. elim ((exact p).0 h) [ inl o ↦ inl o | inr k ↦ inr (m, k, there) ];
-  kept = λ p h. (exact p).1 (inl h);
-  less = grown_more left2 left1 left less2 less1;
-  within = λ x h. (left_of (has left x) (x == m) (has left1 x) (removed x) (within2 x h)).0;
-  all = λ x p h k. elim (left_or (has left x) (x == m) (has left1 x) (removed x) h) [
-    | inl l ↦ elim (taken x l) [
-      | inl there ↦ inl there
-      | inr f ↦ inr ((exact p).1 (inr (f.0.has_all x p f.1 k)))
-    ]
-    | inr e ↦ inr ((exact p).1 (inr (subst (Marks rows p) (eqb-true x m e) k)))
-  ];
-}
-
--- ---- more steps
-
-pub united_none : (rows : List (Vec ℕ)) (left old : List ℕ) → United rows left old left old
-united_none rows left old = record {
-  grown = grown_same old;
-  only = λ p h. inl h;
-  kept = λ p h. h;
-  less = grown_same left;
-  within = λ m h. h;
-  all = λ m p h k. inl h;
-}
-
-pub united_more : (rows : List (Vec ℕ)) (left old left1 new1 left2 new2 : List ℕ) → United rows left old left1 new1 → United rows left1 new1 left2 new2 → United rows left old left2 new2
-united_more rows left old left1 new1 left2 new2 u v = record {
-  grown = grown_more old new1 new2 u.grown v.grown;
-  only = λ p h. elim (v.only p h) [
-    | inl o ↦ u.only p o
-    | inr k ↦ inr (k.0, k.1, u.within k.0 k.2)
-  ];
-  kept = λ p h. v.kept p (u.kept p h);
-  less = grown_more left2 left1 left v.less u.less;
-  within = λ m h. u.within m (v.within m h);
-  all = λ m p h k. elim (u.all m p h k) [
-    | inl l ↦ v.all m p l k
-    | inr n ↦ inr (v.kept p n)
-  ];
-}
-
--- nothing is left in these words
-abbrev pub NoneFrom : List ℕ → ℕ → Type 0
-NoneFrom left place = (i : ℕ) → place ≤ i → slice_index left i ≡ 0
-
-pub none_more : (left left' : List ℕ) (place : ℕ) → Grown left' left → NoneFrom left (place + 1) → slice_index left' place ≡ 0 → NoneFrom left' place
-none_more left left' place less none here i l = elim (cases_eq i place) [
-  | inl e ↦ ap (slice_index left') e ∙ here
-  | inr d ↦ let z : slice_index left i ≡ 0 = none i (omega (arith, d)) in omega (arith, less.words i)
+pub bit_low : (choice bit : ℕ) → choice < 16 → bit_at choice bit ≡ 1 → bit < 4
+bit_low choice bit l one = elim (cases_lt bit 4) [
+  | inl low ↦ low
+  | inr high ↦ let z : bit_at choice bit ≡ 0 = bit_at_above choice 4 bit (omega arith) high in absurd (omega arith)
 ]
 
-pub united_done : (rows : List (Vec ℕ)) (left old left' new : List ℕ) → United rows left old left' new → NoneFrom left' 0 → (p : ℕ) → IsTrue (has new p) ↔ (IsTrue (has old p) ⊎ ((m : ℕ) × Marks rows p m × IsTrue (has left m)))
-united_done rows left old left' new u none p = (
-  λ h. u.only p h,
-  λ t. elim t [
-    | inl o ↦ u.kept p o
-    | inr k ↦ elim (u.all k.0 p k.2 k.1) [
-      | inl l ↦
-          let zero_bit : has left' k.0 ≡ false = ap (λ w. bit_at w (k.0 % 64) == 1) (none (k.0 / 64) (omega arith)) ∙ ap (λ b. b == 1) (bit_at-zero (k.0 % 64)) in
-          let never : true ≡ false = sym l ∙ zero_bit in
-          absurd (cc)
-      | inr n ↦ n
-    ]
+pub choice_none : (rows : List (Vec ℕ)) (group choice p : ℕ) → choice ≡ 0 → OfChoice rows group choice p → ⊥
+choice_none rows group choice p z o =
+    let none : bit_at choice o.0 ≡ 0 = ap (λ c. bit_at c o.0) z ∙ bit_at-zero o.0 in
+    let one : bit_at choice o.0 ≡ 1 = o.2 in
+    omega arith
+
+-- a choice with one packet more
+pub choice_more : (rows : List (Vec ℕ)) (group choice rest bit p : ℕ) (A B : Type 0) → bit < 4 → bit_at choice bit ≡ 1 → bit_at rest bit ≡ 0 → ((i : ℕ) → i < 64 → i ≢ bit → bit_at rest i ≡ bit_at choice i)
+    → A ↔ OfChoice rows group rest p → B ↔ (A ⊎ Marks rows p (group * 4 + bit)) → B ↔ OfChoice rows group choice p
+choice_more rows group choice rest bit p A B low one clear same h g = (
+  λ b. elim (g.0 b) [
+    | inl a ↦
+        let o = h.0 a in
+        elim (cases_eq o.0 bit) [
+          | inl e ↦
+              let none : bit_at rest o.0 ≡ 0 = subst (λ i. bit_at rest i ≡ 0) (sym e) clear in
+              let some : bit_at rest o.0 ≡ 1 = o.2 in
+              absurd (omega arith)
+          | inr d ↦ (o.0, o.1, sym (same o.0 (let l = o.1 in omega arith) d) ∙ o.2, o.3)
+        ]
+    | inr m ↦ (bit, low, one, m)
+  ],
+  λ o. elim (cases_eq o.0 bit) [
+    | inl e ↦ g.1 (inr (subst (λ i. Marks rows p (group * 4 + i)) e o.3))
+    | inr d ↦ g.1 (inl (h.1 (o.0, o.1, same o.0 (let l = o.1 in omega arith) d ∙ o.2, o.3)))
   ],
 )
 
--- ---- settled rows
+-- ---- the groups of a word
 
-pub none_settled : (rows : List (Vec ℕ)) (settled : List ℕ) → ((p : ℕ) → has settled p ≡ false) → Settled rows settled
-none_settled rows settled none = record { all = λ m h. let never : true ≡ false = sym h ∙ none m in absurd (cc) }
+-- the packets of a word
+abbrev pub OfBits : List (Vec ℕ) → ℕ → ℕ → ℕ → Type 0
+OfBits rows place word p = (bit : ℕ) × (bit < 64) × (bit_at word bit ≡ 1) × Marks rows p (place * 64 + bit)
 
-pub one_settled : (rows : List (Vec ℕ)) (old new : List ℕ) (r : ℕ) → Settled rows old → IsFull rows r → ((p : ℕ) → IsTrue (has new p) → IsTrue (has old p) ⊎ (p ≡ r)) → Settled rows new
-one_settled rows old new r s f h = record {
-  all = λ m k. elim (h m k) [ inl o ↦ s.all m o | inr e ↦ subst (IsFull rows) (sym e) f ];
+cut : (word k : ℕ) → word / 2 ^ k * 2 ^ k + word % 2 ^ k ≡ word
+cut word k = div-add-mod' word (2 ^ k)
+
+cut_low : (word k : ℕ) → word % 2 ^ k < 2 ^ k
+cut_low word k = mod-lt word (pow_pos k)
+
+by_four : (x : ℕ) → x / 16 * 2 ^ 4 + x % 16 ≡ x
+by_four x = omega arith
+
+pub group_bit : (word group bit : ℕ) → bit < 4 → bit_at (word / 2 ^ (4 * group) % 16) bit ≡ bit_at word (4 * group + bit)
+group_bit word group bit l =
+    let k : ℕ = 4 * group in
+    let x : ℕ = word / 2 ^ k in
+    let less : k + bit - k ≡ bit = omega arith in
+    sym (bit_at_cat_low (x / 16) 4 (x % 16) bit l) ∙ ap (λ w. bit_at w bit) (by_four x) ∙ sym (ap (bit_at x) less)
+    ∙ sym (bit_at_cat_high x k (word % 2 ^ k) (k + bit) (cut_low word k) (omega arith)) ∙ ap (λ w. bit_at w (k + bit)) (cut word k)
+
+pub word_done : (Old A : Type 0) (rows : List (Vec ℕ)) (place word p i : ℕ) → 16 ≤ i → i ≤ 16
+    → A ↔ (Old ⊎ ((group : ℕ) × (group < i) × OfChoice rows (place * 16 + group) (word / 2 ^ (4 * group) % 16) p)) → A ↔ (Old ⊎ OfBits rows place word p)
+word_done Old A rows place word p i high most h = (
+  λ a. elim (h.0 a) [
+    | inl o ↦ inl o
+    | inr x ↦
+        let group : ℕ = x.0 in
+        let o = x.2 in
+        let bit : ℕ = o.0 in
+        let low : bit < 4 = o.1 in
+        let below : group < i = x.1 in
+        let same : (place * 16 + group) * 4 + bit ≡ place * 64 + (4 * group + bit) = omega arith in
+        inr (4 * group + bit, omega arith, sym (group_bit word group bit low) ∙ o.2, subst (Marks rows p) same o.3)
+  ],
+  λ t. elim t [
+    | inl o ↦ h.1 (inl o)
+    | inr x ↦
+        let bit : ℕ = x.0 in
+        let low : bit < 64 = x.1 in
+        let whole : bit ≡ 4 * (bit / 4) + bit % 4 = omega arith in
+        let same : place * 64 + bit ≡ (place * 16 + bit / 4) * 4 + bit % 4 = omega arith in
+        h.1 (inr (bit / 4, omega arith, (bit % 4, omega arith, group_bit word (bit / 4) (bit % 4) (omega arith) ∙ ap (bit_at word) (sym whole) ∙ x.2, subst (Marks rows p) same x.3)))
+  ],
+)
+
+-- ---- what is fresh
+
+-- the bit of a number in its word
+has_word : (row : List ℕ) (place bit : ℕ) → bit < 64 → has row (place * 64 + bit) ≡ (bit_at (slice_index row place) bit == 1)
+has_word row place bit l =
+    let here : (place * 64 + bit) / 64 ≡ place = omega arith in
+    let there : (place * 64 + bit) % 64 ≡ bit = omega arith in
+    ap (λ k. bit_at (slice_index row k) ((place * 64 + bit) % 64) == 1) here ∙ ap (λ k. bit_at (slice_index row place) k == 1) there
+
+pub fresh_bit : (row earlier renewed : List ℕ) (place bit x y z old new : ℕ) → bit < 64 → x ≡ slice_index row place → y ≡ slice_index earlier place → z ≡ slice_index renewed place
+    → (bit_at old bit == 1) ≡ ((bit_at y bit == 1) && not (bit_at z bit == 1)) → (bit_at new bit == 1) ≡ ((bit_at x bit == 1) && not (bit_at old bit == 1)) → (bit_at new bit == 1) ≡ is_fresh row earlier renewed (place * 64 + bit)
+fresh_bit row earlier renewed place bit x y z old new l ex ey ez o n =
+    let m : ℕ = place * 64 + bit in
+    let hx : (bit_at x bit == 1) ≡ has row m = ap (λ w. bit_at w bit == 1) ex ∙ sym (has_word row place bit l) in
+    let hy : (bit_at y bit == 1) ≡ has earlier m = ap (λ w. bit_at w bit == 1) ey ∙ sym (has_word earlier place bit l) in
+    let hz : (bit_at z bit == 1) ≡ has renewed m = ap (λ w. bit_at w bit == 1) ez ∙ sym (has_word renewed place bit l) in
+    n ∙ ap (λ b. (bit_at x bit == 1) && not b) o ∙ ap (λ b. b && not ((bit_at y bit == 1) && not (bit_at z bit == 1))) hx
+    ∙ ap (λ b. has row m && not (b && not (bit_at z bit == 1))) hy ∙ ap (λ b. has row m && not (has earlier m && not b)) hz
+
+-- the packets of a word of the row that are fresh
+abbrev pub OfFresh : List (Vec ℕ) → (ℕ → Bool) → ℕ → ℕ → Type 0
+OfFresh rows fresh p place = (bit : ℕ) × (bit < 64) × IsTrue (fresh (place * 64 + bit)) × Marks rows p (place * 64 + bit)
+
+pub fresh_bits : (rows : List (Vec ℕ)) (fresh : ℕ → Bool) (place word p : ℕ) (A B : Type 0) → ((bit : ℕ) → bit < 64 → (bit_at word bit == 1) ≡ fresh (place * 64 + bit)) → B ↔ (A ⊎ OfBits rows place word p) → B ↔ (A ⊎ OfFresh rows fresh p place)
+fresh_bits rows fresh place word p A B same h = (
+  λ b. elim (h.0 b) [ inl a ↦ inl a | inr o ↦ inr (o.0, o.1, sym (same o.0 o.1) ∙ eq-eqb (bit_at word o.0) 1 o.2, o.3) ],
+  λ t. elim t [ inl a ↦ h.1 (inl a) | inr o ↦ h.1 (inr (o.0, o.1, eqb-true (bit_at word o.0) 1 (same o.0 o.1 ∙ o.2), o.3)) ],
+)
+
+pub fresh_none : (rows : List (Vec ℕ)) (fresh : ℕ → Bool) (place word p : ℕ) → word ≡ 0 → ((bit : ℕ) → bit < 64 → (bit_at word bit == 1) ≡ fresh (place * 64 + bit)) → OfFresh rows fresh p place → ⊥
+fresh_none rows fresh place word p z same o =
+    let one : bit_at word o.0 ≡ 1 = eqb-true (bit_at word o.0) 1 (same o.0 o.1 ∙ o.2) in
+    let none : bit_at word o.0 ≡ 0 = ap (λ w. bit_at w o.0) z ∙ bit_at-zero o.0 in
+    omega arith
+
+pub fresh_done : (Old A : Type 0) (rows : List (Vec ℕ)) (set earlier renewed : List ℕ) (p i : ℕ) → length set ≤ i
+    → A ↔ (Old ⊎ ((place : ℕ) × (place < i) × OfFresh rows (is_fresh set earlier renewed) p place)) → A ↔ (Old ⊎ ((m : ℕ) × Marks rows p m × IsTrue (is_fresh set earlier renewed m)))
+fresh_done Old A rows set earlier renewed p i all h = (
+  λ a. elim (h.0 a) [ inl o ↦ inl o | inr x ↦ let o = x.2 in inr (x.0 * 64 + o.0, o.3, o.2) ],
+  λ t. elim t [
+    | inl o ↦ h.1 (inl o)
+    | inr x ↦
+        let m : ℕ = x.0 in
+        let there : m / 64 < length set = within set m ((and_both (has set m) (not (has earlier m && not (has renewed m)))).0 x.2).0 in
+        let whole : m ≡ m / 64 * 64 + m % 64 = omega arith in
+        h.1 (inr (m / 64, omega arith, (m % 64, omega arith, subst (λ k. IsTrue (is_fresh set earlier renewed k)) whole x.2, subst (Marks rows p) whole x.1)))
+  ],
+)
+
+-- all are fresh where nothing was there
+pub all_fresh : (set : List ℕ) (m : ℕ) → IsTrue (is_fresh set [] [] m) ↔ IsTrue (has set m)
+all_fresh set m =
+    let none : has [] m ≡ false = past [] m (omega arith) in
+    let all : not (has [] m && not (has [] m)) ≡ true = ap (λ b. not (b && not b)) none in
+    let both = and_both (has set m) (not (has [] m && not (has [] m))) in
+    (λ h. (both.0 h).0, λ h. both.1 (h, all))
+
+-- ---- from round to round
+
+-- what two rows give comes by a fresh packet, or is there
+pub through_fresh : (earlier rows : List (Vec ℕ)) (renewed : List ℕ) (p r : ℕ) → Stepped earlier rows renewed
+    → (Marks rows p r ⊎ ((m : ℕ) × Marks rows p m × IsTrue (is_fresh (row rows r) (row earlier r) renewed m))) ↔ Through rows p r
+through_fresh earlier rows renewed p r s = (
+  λ t. elim t [
+    | inl k ↦ inl k
+    | inr x ↦ inr (x.0, x.1, ((and_both (has (row rows r) x.0) (not (has (row earlier r) x.0 && not (has renewed x.0)))).0 x.2).0)
+  ],
+  λ t. elim t [ inl k ↦ inl k | inr x ↦ back x.0 x.1 x.2 ],
+)
+  where
+    fresh : (a b c : Bool) → IsTrue a → IsTrue (a && not (b && not c)) ⊎ (IsTrue b × (c ≡ false))
+    fresh true true true h = inl refl
+    fresh true true false h = inr (refl, refl)
+    fresh true false c h = inl refl
+    fresh false b c h = absurd (cc)
+
+    is_new : (x : ℕ) → Marks rows x r → IsTrue (is_fresh (row rows r) (row earlier r) renewed x) ⊎ (Marks earlier x r × (has renewed x ≡ false))
+    is_new x k = fresh (has (row rows r) x) (has (row earlier r) x) (has renewed x) k
+
+    back : (m : ℕ) → Marks rows p m → Marks rows m r → Marks rows p r ⊎ ((m : ℕ) × Marks rows p m × IsTrue (is_fresh (row rows r) (row earlier r) renewed m))
+    back m k l = elim (is_new m l) [
+      | inl f ↦ inr (m, k, f)
+      | inr old ↦ elim (s.rests p m k) [
+        | inl note ↦ let never : true ≡ false = sym note ∙ old.1 in absurd (cc)
+        | inr t ↦ elim t [
+          | inl direct ↦ inl (s.joined p m r direct old.0)
+          | inr x ↦ elim (is_new x.0 (s.joined x.0 m r x.2 old.0)) [
+            | inl f ↦ inr (x.0, s.known p x.0 x.1, f)
+            | inr known ↦ inl (s.joined p x.0 r x.1 known.0)
+          ]
+        ]
+      ]
+    ]
+
+pub stepped_first : (x : Vec (Vec ℕ)) (renewed : List ℕ) → length x.items ≤ 1024 → ((m : ℕ) → IsTrue (has renewed m) ↔ m / 64 < 16) → Stepped (earlier (x ∷ [])) (last (x ∷ [])) renewed
+stepped_first x renewed few all =
+    let one : length (x ∷ []) - 1 ≡ 0 = omega arith in
+    subst (λ k. Stepped (slice_index_or ([] ∷ map (λ v. v.items) (x ∷ [])) k []) (matrix (x ∷ []) k) renewed) (sym one) (record {
+      known = λ p r k. let l = marked_below [] p r k in absurd (omega arith);
+      joined = λ p m r k h. let l = marked_below [] p m k in absurd (omega arith);
+      rests = λ p m k. let l = marked_below x.items p m k in inl ((all m).1 (omega arith));
+    })
+
+pub stepped_next : (job : Job) (rows new : List (Vec ℕ)) (renewed : List ℕ) → ((p r : ℕ) → Marks new p r ↔ Next job (Marks rows) p r) → ((p m : ℕ) → m < length new → Marks new p m → IsTrue (has renewed m) ⊎ Through rows p m) → Stepped rows new renewed
+stepped_next job rows new renewed exact rests = record {
+  known = λ p r k. (exact p r).1 (by_known k);
+  joined = λ p m r k l. (exact p r).1 (joining {m = m} k l);
+  rests = λ p m k. rests p m (marked_below new p m k) k;
 }
 
-pub full_where_same : (rows : List (Vec ℕ)) (new : List ℕ) (r : ℕ) → new ≡ row rows r → ((p : ℕ) → IsTrue (has new p) ↔ (Marks rows p r ⊎ ((m : ℕ) × Marks rows p m × Marks rows m r))) → IsFull rows r
-full_where_same rows new r e exact = record {
-  has_all = λ x p k l. subst (λ words. IsTrue (has words p)) e ((exact p).1 (inr (x, l, k)));
+pub one_or : (b : Bool) (X Y : Type 0) → (IsTrue b → X) → (b ≡ false → Y) → X ⊎ Y
+one_or true X Y f g = inl (f refl)
+one_or false X Y f g = inr (g refl)
+
+-- ---- what the functions return
+
+pub unions_done : (rows unions : List (Vec ℕ)) (words n : ℕ) → n ≡ words * 256 → length unions ≡ n → ((k : ℕ) → k < n → length (row unions k) ≡ words) → ((k p : ℕ) → k < n → Marks unions p k ↔ OfChoice rows (k / 16) (k % 16) p) → AreUnions rows words unions
+unions_done rows unions words n all len width exact = record {
+  len = len ∙ all;
+  width = λ k l. width k (omega arith);
+  has_all = λ group choice p g l o.
+      let of_group : group ≡ (group * 16 + choice) / 16 = omega arith in
+      let of_choice : choice ≡ (group * 16 + choice) % 16 = omega arith in
+      (exact (group * 16 + choice) p (omega arith)).1 (subst (λ x. OfChoice rows x ((group * 16 + choice) % 16) p) of_group (subst (λ y. OfChoice rows group y p) of_choice o));
+  only = λ group choice p g l m.
+      let of_group : (group * 16 + choice) / 16 ≡ group = omega arith in
+      let of_choice : (group * 16 + choice) % 16 ≡ choice = omega arith in
+      subst (λ y. OfChoice rows group y p) of_choice (subst (λ x. OfChoice rows x ((group * 16 + choice) % 16) p) of_group ((exact (group * 16 + choice) p (omega arith)).0 m));
 }
+
+pub reached_exact : (rows : List (Vec ℕ)) (set old new : List ℕ) (p : ℕ) → old ≡ set → IsTrue (has new p) ↔ (IsTrue (has old p) ⊎ ((m : ℕ) × Marks rows p m × IsTrue (is_fresh set [] [] m))) → IsTrue (has new p) ↔ (IsTrue (has set p) ⊎ ((m : ℕ) × Marks rows p m × IsTrue (has set m)))
+reached_exact rows set old new p e h = (
+  λ n. elim (h.0 n) [ inl o ↦ inl (subst (λ r. IsTrue (has r p)) e o) | inr x ↦ inr (x.0, x.1, (all_fresh set x.0).0 x.2) ],
+  λ t. h.1 (elim t [ inl o ↦ inl (subst (λ r. IsTrue (has r p)) (sym e) o) | inr x ↦ inr (x.0, x.1, (all_fresh set x.0).1 x.2) ]),
+)
+
+pub through_exact : (earlier rows : List (Vec ℕ)) (renewed set before old new : List ℕ) (p r : ℕ) → set ≡ row rows r → before ≡ row earlier r → old ≡ set → Stepped earlier rows renewed
+    → IsTrue (has new p) ↔ (IsTrue (has old p) ⊎ ((m : ℕ) × Marks rows p m × IsTrue (is_fresh set before renewed m))) → IsTrue (has new p) ↔ Through rows p r
+through_exact earlier rows renewed set before old new p r e f g s h =
+    let x = through_fresh earlier rows renewed p r s in
+    let same : (IsTrue (has old p) ⊎ ((m : ℕ) × Marks rows p m × IsTrue (is_fresh set before renewed m))) ≡ (Marks rows p r ⊎ ((m : ℕ) × Marks rows p m × IsTrue (is_fresh (row rows r) (row earlier r) renewed m))) =
+    ap (λ o. IsTrue (has o p) ⊎ ((m : ℕ) × Marks rows p m × IsTrue (is_fresh set before renewed m))) (g ∙ e)
+    ∙ ap (λ o. Marks rows p r ⊎ ((m : ℕ) × Marks rows p m × IsTrue (is_fresh o before renewed m))) e
+    ∙ ap (λ o. Marks rows p r ⊎ ((m : ℕ) × Marks rows p m × IsTrue (is_fresh (row rows r) o renewed m))) f in
+    let known = subst (λ T. IsTrue (has new p) ↔ T) same h in
+    (λ n. x.0 (known.0 n), λ t. known.1 (x.1 t))
+
+-- ---- the round before the last
+
+pub earlier_is : (rounds : List (Vec (Vec ℕ))) → 2 ≤ length rounds → earlier rounds ≡ matrix rounds (length rounds - 2)
+earlier_is rounds two =
+    let step : length rounds - 1 ≡ suc (length rounds - 2) = omega arith in
+    ap (λ k. slice_index_or ([] ∷ map (λ v. v.items) rounds) k []) step
+
+pub earlier_pushed : (rounds : List (Vec (Vec ℕ))) (x : Vec (Vec ℕ)) → 0 < length rounds → earlier (rounds ++ x ∷ []) ≡ last rounds
+earlier_pushed rounds x some =
+    let more : length (rounds ++ x ∷ []) ≡ length rounds + 1 = length-append rounds (x ∷ []) in
+    let step : length (rounds ++ x ∷ []) - 1 ≡ suc (length rounds - 1) = omega arith in
+    ap (λ k. slice_index_or ([] ∷ map (λ v. v.items) (rounds ++ x ∷ [])) k []) step ∙ below_pushed (λ v. v.items) rounds x (length rounds - 1) (omega arith)

@@ -1,15 +1,12 @@
 -- Rows of bits as sets.
-use Rattle.std.proofs.Common.{◌≡◌, ◌≢◌, ℕ, zero, suc, not, ◌+◌, ◌*◌, ◌/◌, ◌%◌, ◌^◌, ◌<◌, ◌≤◌, inl, inr, Bool, true, false, ◌||◌, ◌==◌, List, length, refl, sym, ◌∙◌, ap, subst, arith, slice_index, slice_set, bit_or, bit_and, max, min, ◌&&◌, w64, take, IsTrue}
+use Rattle.std.proofs.Common.{◌≡◌, ℕ, not, ◌+◌, ◌*◌, ◌/◌, ◌%◌, ◌^◌, ◌<◌, ◌≤◌, inl, inr, Bool, true, false, ◌||◌, ◌==◌, List, length, refl, sym, ◌∙◌, ap, subst, arith, slice_index, slice_set, bit_or, bit_and, max, min, ◌&&◌, w64, take}
 use Rattle.std.specs.Int.{bit_at}
 use Rattle.std.specs.Int.Bits.{bit_xor}
-use Rattle.std.proofs.Math.Nat.{pow-suc}
-use Rattle.std.proofs.lemmas.Nat.{and_le_l}
 use Rattle.std.proofs.lemmas.Bool.{cases_eq, cases_lt, eq-eqb, ne_eqb}
 use Rattle.std.proofs.lemmas.List.{get_or-set_other, get_or_past, length-set}
 use Rattle.std.proofs.lemmas.Grind.{get_or-set_at, common_steps}
-use Rattle.std.proofs.lemmas.Nat.Bits.{bit_at_or, bit_at_and, bit_at_set_same, bit_at_set_other, bit_at-lt, bit_at-zero, bit_at_xor, bit_at_lowest, bit_at-suc}
+use Rattle.std.proofs.lemmas.Nat.Bits.{bit_at_or, bit_at_and, bit_at_set_same, bit_at_set_other, bit_at-lt, bit_at-zero, bit_at_xor}
 use Rattle.hq_order.specs.Bits.{has}
-use Rattle.hq_order.specs.Matrix.{Grown}
 
 -- a number is its word and its bit
 apart : (p n : ℕ) → p / 64 ≡ n / 64 → p % 64 ≡ n % 64 → p ≡ n
@@ -144,74 +141,5 @@ less_bool a b l m = elim (cases_eq a 1) [
 abbrev pub less_word : ℕ → ℕ → ℕ
 less_word a b = bit_and a (bit_xor a b)
 
-pub has_less : (old other new : List ℕ) (p : ℕ) → Joined less_word old other new → has new p ≡ (has old p && not (has other p))
-has_less old other new p u = elim (cases_lt (p / 64) (length old)) [
-  | inl low ↦
-      let x : ℕ = slice_index old (p / 64) in
-      let y : ℕ = slice_index other (p / 64) in
-      let a : ℕ = bit_at x (p % 64) in
-      let b : ℕ = bit_at y (p % 64) in
-      ap (λ w. bit_at w (p % 64) == 1) (u.words (p / 64) low)
-      ∙ ap (λ m. m == 1) (bit_at_and x (bit_xor x y) (p % 64) ∙ ap (min a) (bit_at_xor x y (p % 64)))
-      ∙ less_bool a b (bit_at-lt x (p % 64)) (bit_at-lt y (p % 64))
-  | inr high ↦
-      let x : slice_index new (p / 64) ≡ 0 = beyond new (p / 64) (omega (arith, u.len)) in
-      let z : slice_index old (p / 64) ≡ 0 = beyond old (p / 64) high in
-      let none : (bit_at 0 (p % 64) == 1) ≡ false = ap (λ m. m == 1) (bit_at-zero (p % 64)) in
-      ap (λ w. bit_at w (p % 64) == 1) x ∙ none ∙ sym (ap (λ w. (bit_at w (p % 64) == 1) && not (has other p)) z ∙ ap (λ c. c && not (has other p)) none)
-]
-
--- and its words are no greater
-pub words_less : (old other new : List ℕ) → Joined less_word old other new → Grown new old
-words_less old other new u = record {
-  len = sym u.len;
-  words = λ i. elim (cases_lt i (length old)) [
-    | inl low ↦ let x = u.words i low in omega (arith, x, and_le_l (slice_index old i) (bit_xor (slice_index old i) (slice_index other i)))
-    | inr high ↦ let z : slice_index new i ≡ 0 = beyond new i (omega (arith, u.len)) in omega (arith, z)
-  ];
-}
-
--- ---- a set without a number
-
-pub has_removed : (row : List ℕ) (n p word : ℕ) → n / 64 < length row → bit_at word (n % 64) ≡ 0 → ((i : ℕ) → i < 64 → i ≢ n % 64 → bit_at word i ≡ bit_at (slice_index row (n / 64)) i) → has (slice_set row (n / 64) word) p ≡ (has row p && not (p == n))
-has_removed row n p word l clear same = elim (cases_eq (p / 64) (n / 64)) [
-  | inl e ↦
-      let here : slice_index (slice_set row (n / 64) word) (p / 64) ≡ word = get_or-set_at row (n / 64) (p / 64) word 0 e l in
-      elim (cases_eq (p % 64) (n % 64)) [
-        | inl bit ↦
-            let one : p ≡ n = apart p n e bit in
-            ap (λ w. bit_at w (p % 64) == 1) here ∙ ap (λ k. bit_at word k == 1) bit ∙ ap (λ b. b == 1) clear ∙ sym (ap (λ b. has row p && not b) (eq-eqb p n one) ∙ and_false (has row p))
-        | inr other ↦
-            ap (λ w. bit_at w (p % 64) == 1) here ∙ ap (λ b. b == 1) (same (p % 64) (omega arith) other) ∙ ap (λ w. bit_at w (p % 64) == 1) (ap (slice_index row) (sym e)) ∙ sym (ap (λ b. has row p && not b) (ne_eqb p n (λ f. other (ap (λ m. m % 64) f))) ∙ and_true (has row p))
-      ]
-  | inr other ↦
-      ap (λ w. bit_at w (p % 64) == 1) (get_or-set_other row (n / 64) (p / 64) word 0 other) ∙ sym (ap (λ b. has row p && not b) (ne_eqb p n (λ f. other (ap (λ m. m / 64) f))) ∙ and_true (has row p))
-]
-
-pub words_removed : (row : List ℕ) (n word : ℕ) → n < length row → word ≤ slice_index row n → Grown (slice_set row n word) row
-words_removed row n word l le = record {
-  len = sym (length-set row n word);
-  words = λ i. elim (cases_eq i n) [
-    | inl e ↦ omega (arith, get_or-set_at row n i word 0 e l, ap (slice_index row) e)
-    | inr d ↦ omega (arith, get_or-set_other row n i word 0 d)
-  ];
-}
-
--- what has a number has a word for it
-pub has_place : (row : List ℕ) (n : ℕ) → IsTrue (has row n) → n / 64 < length row
-has_place row n h = elim (cases_lt (n / 64) (length row)) [
-  | inl low ↦ low
-  | inr high ↦
-      let zero_bit : has row n ≡ false = ap (λ w. bit_at w (n % 64) == 1) (beyond row (n / 64) high) ∙ ap (λ b. b == 1) (bit_at-zero (n % 64)) in
-      let never : true ≡ false = sym h ∙ zero_bit in
-      absurd (cc)
-]
-
--- ---- the highest bit
-
-pub top_bit : (n j : ℕ) → 2 ^ j ≤ n → n < 2 ^ suc j → bit_at n j ≡ 1
-top_bit n zero low high = bit_at_lowest n ∙ (let one : n ≡ 1 = omega arith in ap (λ k. k % 2) one)
-top_bit n (suc j) low high =
-    let half : 2 ^ suc j ≡ 2 ^ j * 2 = pow-suc 2 j in
-    let more : 2 ^ suc (suc j) ≡ 2 ^ suc j * 2 = pow-suc 2 (suc j) in
-    bit_at-suc n j ∙ top_bit (n / 2) j (omega arith) (omega arith)
+pub less_at : (a b i : ℕ) → (bit_at (less_word a b) i == 1) ≡ ((bit_at a i == 1) && not (bit_at b i == 1))
+less_at a b i = ap (λ m. m == 1) (bit_at_and a (bit_xor a b) i ∙ ap (min (bit_at a i)) (bit_at_xor a b i)) ∙ less_bool (bit_at a i) (bit_at b i) (bit_at-lt a i) (bit_at-lt b i)

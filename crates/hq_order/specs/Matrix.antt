@@ -49,6 +49,10 @@ matrix rounds k = slice_index_or (map (λ v. v.items) rounds) k []
 abbrev pub last : List (Vec (Vec ℕ)) → List (Vec ℕ)
 last rounds = matrix rounds (length rounds - 1)
 
+-- those of the round before the last, and none where there is none
+abbrev pub earlier : List (Vec (Vec ℕ)) → List (Vec ℕ)
+earlier rounds = slice_index_or ([] ∷ map (λ v. v.items) rounds) (length rounds - 1) []
+
 -- Round after round, each pair that is within it.
 pub record AreRounds (job : Job) (rounds : List (Vec (Vec ℕ))) : Type 0 where
   pub some : 0 < length rounds

@@ -1,22 +1,31 @@
 -- What stands before some packets, taken in together.
-use Rattle.std.specs.Prelude.{ℕ, ◌⊎◌, IsTrue, List}
+use Rattle.std.specs.Prelude.{◌≡◌, ℕ, ◌+◌, ◌*◌, ◌<◌, ◌⊎◌, ◌&&◌, not, Bool, IsTrue, List, length}
 use Rattle.std.specs.Global.{Vec}
+use Rattle.std.specs.Int.{bit_at}
 use Rattle.hq_order.specs.Bits.{has}
-use Rattle.hq_order.specs.Matrix.{Marks, Grown}
+use Rattle.hq_order.specs.Matrix.{row, Marks}
 
--- the row of m has all that its packets' rows have
-pub record IsFull (rows : List (Vec ℕ)) (m : ℕ) : Type 0 where
-  pub has_all : (x p : ℕ) → Marks rows x m → Marks rows p x → Marks rows p m
+-- p is before one of those that the choice takes from a group of four packets, each by its bit
+abbrev pub OfChoice : List (Vec ℕ) → ℕ → ℕ → ℕ → Type 0
+OfChoice rows group choice p = (bit : ℕ) × (bit < 4) × (bit_at choice bit ≡ 1) × Marks rows p (group * 4 + bit)
 
--- so have the rows of all in the set
-pub record Settled (rows : List (Vec ℕ)) (settled : List ℕ) : Type 0 where
-  pub all : (m : ℕ) → IsTrue (has settled m) → IsFull rows m
+-- for each choice from each group the row of all that is before one of its packets
+pub record AreUnions (rows : List (Vec ℕ)) (words : ℕ) (unions : List (Vec ℕ)) : Type 0 where
+  pub len : length unions ≡ words * 256
+  pub width : (k : ℕ) → k < words * 256 → length (row unions k) ≡ words
+  pub has_all : (group choice p : ℕ) → group < words * 16 → choice < 16 → OfChoice rows group choice p → Marks unions p (group * 16 + choice)
+  pub only : (group choice p : ℕ) → group < words * 16 → choice < 16 → Marks unions p (group * 16 + choice) → OfChoice rows group choice p
 
--- Of the packets that were left, those that aren't any more have all that is before them taken in, and nothing else was.
-pub record United (rows : List (Vec ℕ)) (left old left' new : List ℕ) : Type 0 where
-  pub grown : Grown old new
-  pub only : (p : ℕ) → IsTrue (has new p) → IsTrue (has old p) ⊎ ((m : ℕ) × Marks rows p m × IsTrue (has left m))
-  pub kept : (p : ℕ) → IsTrue (has old p) → IsTrue (has new p)
-  pub less : Grown left' left
-  pub within : (m : ℕ) → IsTrue (has left' m) → IsTrue (has left m)
-  pub all : (m p : ℕ) → IsTrue (has left m) → Marks rows p m → IsTrue (has left' m) ⊎ IsTrue (has new p)
+-- p is before r by these rows, or by two of them
+abbrev pub Through : List (Vec ℕ) → ℕ → ℕ → Type 0
+Through rows p r = Marks rows p r ⊎ ((m : ℕ) × Marks rows p m × Marks rows m r)
+
+-- The rows have all that the earlier ones give by two of them; and where a row has more than that, its packet is noted as renewed.
+pub record Stepped (earlier rows : List (Vec ℕ)) (renewed : List ℕ) : Type 0 where
+  pub known : (p r : ℕ) → Marks earlier p r → Marks rows p r
+  pub joined : (p m r : ℕ) → Marks earlier p m → Marks earlier m r → Marks rows p r
+  pub rests : (p m : ℕ) → Marks rows p m → IsTrue (has renewed m) ⊎ Through earlier p m
+
+-- m is in the row, and new there or renewed
+abbrev pub is_fresh : List ℕ → List ℕ → List ℕ → ℕ → Bool
+is_fresh row earlier renewed m = has row m && not (has earlier m && not (has renewed m))

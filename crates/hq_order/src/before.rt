@@ -5,13 +5,15 @@ ghost use Rattle.hq_job.specs.Plan.{plan};
 ghost use Rattle.hq_model.specs.Order as order;
 ghost use Rattle.hq_order.specs.Rounds.{Direct, Next, IsFirstWithin, Between, IsMiddle};
 ghost use Rattle.hq_order.specs.Placing.{AllAre, Completing};
-ghost use Rattle.hq_order.specs.Matrix.{row, words_for, Marks, IsSquare, Grown, AreRounds, IsClosed, matrix, lag, Differ, IsMarkedNowhere, IsMarkedFirst};
+ghost use Rattle.hq_order.specs.Matrix.{row, words_for, Marks, IsSquare, Grown, AreRounds, IsClosed, matrix, last, earlier, lag, Differ, IsMarkedNowhere, IsMarkedFirst};
+ghost use Rattle.hq_order.specs.Uniting.{AreUnions, Stepped};
 
 use crate::bits;
 use crate::columns::{WORDS, all_turned, between};
 use crate::completing::completing;
 use crate::direct::{direct_row, go_on};
 use crate::fault::OrderFault;
+use crate::gathering::{Known, all_unions};
 use crate::rounds::next_row;
 use hq_job::Job;
 use std::alloc::{AllocError, Global};
@@ -48,25 +50,29 @@ fn first_rows(
     Ok(rows)
 }
 
-/// The rows after one more round.
+/// The rows after one more round. Notes the packets before which an either puts more than the rows give.
 fn next_rows(
     alloc: Global,
     job: &Job,
     completing: &[Vec<u64>],
-    rows: &[Vec<u64>],
+    known: &Known,
+    renewed: &mut [u64],
 ) -> Result<Vec<Vec<u64>>, AllocError>
-    requires square { IsSquare (length job.now.packets) rows.now }
+    requires square { IsSquare (length job.now.packets) known.now.rows.now }
+    requires unions { AreUnions known.now.rows.now (words_for (length job.now.packets)) known.now.unions.now }
+    requires stepped { Stepped known.now.earlier.now known.now.rows.now known.now.renewed.now }
     requires completing { AllAre (λ s set. Completing (plan job.now) s set.items × (length set.items ≡ words_for (length job.now.packets))) completing.now }
     requires signals { length completing.now ≡ length job.now.signals }
+    requires room { length known.now.rows.now ≤ length renewed.old * 64 }
     ensures square { IfOk result (λ new. IsSquare (length job.now.packets) new.items) }
-    ensures grown { IfOk result (λ new. (r : ℕ) → Grown (row rows.now r) (row new.items r)) }
-    ensures exact { IfOk result (λ new. (p r : ℕ) → Marks new.items p r ↔ Next (plan job.now) (Marks rows.now) p r) }
+    ensures grown { IfOk result (λ new. (r : ℕ) → Grown (row known.now.rows.now r) (row new.items r)) }
+    ensures exact { IfOk result (λ new. (p r : ℕ) → Marks new.items p r ↔ Next (plan job.now) (Marks known.now.rows.now) p r) }
+    ensures stepped { IfOk result (λ new. Stepped known.now.rows.now new.items renewed.new) }
 {
     job.valid();
-    let mut new = Vec::with_capacity(alloc, rows.len())?;
-    let mut settled = bits::empty(alloc, WORDS)?;
-    for r in 0..rows.len() {
-        new.push(next_row(alloc, job, completing, rows, &mut settled, r)?)?;
+    let mut new = Vec::with_capacity(alloc, known.rows.len())?;
+    for r in 0..known.rows.len() {
+        new.push(next_row(alloc, job, completing, known, renewed, r)?)?;
     }
     Ok(new)
 }
@@ -85,26 +91,91 @@ fn are_same(left: &[Vec<u64>], right: &[Vec<u64>]) -> bool
     true
 }
 
-/// Adds the next round, and answers true, unless it would be the same as the last.
+/// The rows of a round; none where there is none.
+fn rows_of(rounds: &[Vec<Vec<u64>>], k: usize) -> &[Vec<u64>]
+    ensures { result.now ≡ matrix rounds.now k }
+{
+    match rounds.get(k) {
+        Some(rows) => rows,
+        None => &[],
+    }
+}
+
+/// The rows of the last round.
+fn last_rows(rounds: &[Vec<Vec<u64>>]) -> &[Vec<u64>]
+    requires { 0 < length rounds.now }
+    ensures { result.now ≡ last rounds.now }
+{
+    rows_of(rounds, rounds.len() - 1)
+}
+
+/// The rows of the round before the last; none where there is none.
+fn earlier_rows(rounds: &[Vec<Vec<u64>>]) -> &[Vec<u64>]
+    ensures { result.now ≡ earlier rounds.now }
+{
+    if rounds.len() < 2 {
+        return &[];
+    }
+    rows_of(rounds, rounds.len() - 2)
+}
+
+/// The rows of the round after these. `renewed` has the packets whose rows in the last round have more than two of the rows
+/// before give, and `new` is to have those of the next.
+fn following(
+    alloc: Global,
+    job: &Job,
+    completing: &[Vec<u64>],
+    rounds: &[Vec<Vec<u64>>],
+    renewed: &[u64],
+    new: &mut [u64],
+) -> Result<Vec<Vec<u64>>, AllocError>
+    requires rounds { AreRounds (plan job.now) rounds.now }
+    requires stepped { Stepped (earlier rounds.now) (last rounds.now) renewed.now }
+    requires completing { AllAre (λ s set. Completing (plan job.now) s set.items × (length set.items ≡ words_for (length job.now.packets))) completing.now }
+    requires signals { length completing.now ≡ length job.now.signals }
+    requires room { length job.now.packets ≤ length new.old * 64 }
+    ensures square { IfOk result (λ rows. IsSquare (length job.now.packets) rows.items) }
+    ensures grown { IfOk result (λ rows. (r : ℕ) → Grown (row (last rounds.now) r) (row rows.items r)) }
+    ensures exact { IfOk result (λ rows. (p r : ℕ) → Marks rows.items p r ↔ Next (plan job.now) (Marks (last rounds.now)) p r) }
+    ensures stepped { IfOk result (λ rows. Stepped (last rounds.now) rows.items new.new) }
+{
+    let rows = last_rows(rounds);
+    let unions = all_unions(alloc, rows, words_of(job))?;
+    let known = Known {
+        rows,
+        earlier: earlier_rows(rounds),
+        renewed,
+        unions: &unions,
+    };
+    next_rows(alloc, job, completing, &known, new)
+}
+
+/// Adds the next round, and answers true, unless it would be the same as the last. `renewed` has the packets whose rows in the
+/// last round have more than two of the rows before give.
 fn add_round(
     alloc: Global,
     job: &Job,
     completing: &[Vec<u64>],
     rounds: &mut Vec<Vec<Vec<u64>>>,
+    renewed: &mut Vec<u64>,
 ) -> Result<bool, AllocError>
     requires rounds { AreRounds (plan job.now) rounds.old.items }
+    requires stepped { Stepped (earlier rounds.old.items) (last rounds.old.items) renewed.old.items }
     requires completing { AllAre (λ s set. Completing (plan job.now) s set.items × (length set.items ≡ words_for (length job.now.packets))) completing.now }
     requires signals { length completing.now ≡ length job.now.signals }
     ensures rounds { IfOk result (λ _. AreRounds (plan job.now) rounds.new.items) }
+    ensures stepped { IfOk result (λ more. IsTrue more → Stepped (earlier rounds.new.items) (last rounds.new.items) renewed.new.items) }
     ensures falls { IfOk result (λ more. IsTrue more → lag rounds.new.items < lag rounds.old.items) }
     ensures closed { IfOk result (λ more. more ≡ false → IsClosed (plan job.now) rounds.new.items) }
 {
-    let last = &rounds[rounds.len() - 1];
-    let next = next_rows(alloc, job, completing, last)?;
-    if are_same(&next, last) {
+    job.valid();
+    let mut new = bits::empty(alloc, WORDS)?;
+    let next = following(alloc, job, completing, rounds, renewed, &mut new)?;
+    if are_same(&next, last_rows(rounds)) {
         return Ok(false);
     }
     rounds.push(next)?;
+    *renewed = new;
     Ok(true)
 }
 
@@ -113,10 +184,12 @@ fn all_rounds(alloc: Global, job: &Job) -> Result<Vec<Vec<Vec<u64>>>, AllocError
     ensures rounds { IfOk result (λ rounds. AreRounds (plan job.now) rounds.items) }
     ensures closed { IfOk result (λ rounds. IsClosed (plan job.now) rounds.items) }
 {
+    job.valid();
     let completing = completing(alloc, job, words_of(job))?;
     let mut rounds = Vec::new(alloc);
     rounds.push(first_rows(alloc, job, &completing)?)?;
-    'rounds: while add_round(alloc, job, &completing, &mut rounds)? {}
+    let mut renewed = bits::full(alloc, WORDS)?;
+    'rounds: while add_round(alloc, job, &completing, &mut rounds, &mut renewed)? {}
     Ok(rounds)
 }
 

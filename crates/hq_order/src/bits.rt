@@ -77,28 +77,6 @@ pub fn meet(row: &mut [u64], other: &[u64])
     }
 }
 
-/// Takes out all that the other set has.
-pub fn subtract(row: &mut [u64], other: &[u64])
-    requires { length row.old ≡ length other.now }
-    ensures less { Grown row.new row.old }
-    ensures exact { (p : ℕ) → has row.new p ≡ (has row.old p && not (has other.now p)) }
-{
-    let other = &other[..row.len()];
-    for (i, word) in row.iter_mut().enumerate() {
-        *word &= *word ^ other[i];
-    }
-}
-
-/// Takes the number out, which is there.
-pub fn remove(row: &mut [u64], number: usize)
-    requires { IsTrue (has row.old number) }
-    ensures less { Grown row.new row.old }
-    ensures lesser { slice_index row.new (number / 64) < slice_index row.old (number / 64) }
-    ensures exact { (p : ℕ) → has row.new p ≡ (has row.old p && not (p == number)) }
-{
-    row[number / 64] = without(row[number / 64], number % 64);
-}
-
 /// Whether two rows are the same.
 pub fn is_same(left: &[u64], right: &[u64]) -> bool
     ensures same { IsTrue result ↔ (left.now ≡ right.now) }
@@ -140,13 +118,11 @@ pub fn lowest(word: u64) -> usize
     word.trailing_zeros() as usize
 }
 
-/// The highest bit of a word that has some.
-pub fn highest(word: u64) -> usize
-    requires { 0 < word }
-    ensures low { result < 64 }
-    ensures has { bit_at word result ≡ 1 }
+/// The bits of a word that another hasn't.
+pub fn less(word: u64, other: u64) -> u64
+    ensures { (bit : ℕ) → (bit_at result bit == 1) ≡ ((bit_at word bit == 1) && not (bit_at other bit == 1)) }
 {
-    63 - word.leading_zeros() as usize
+    word & (word ^ other)
 }
 
 /// The word without one of its bits.

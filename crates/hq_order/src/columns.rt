@@ -77,7 +77,7 @@ pub fn all_turned(alloc: Global, rounds: &[Vec<Vec<u64>>]) -> Result<Vec<Vec<u64
 }
 
 /// The row of r; none where there is no such packet.
-fn row_of(rows: &[Vec<u64>], r: usize) -> &[u64]
+pub fn row_of(rows: &[Vec<u64>], r: usize) -> &[u64]
     ensures { result.now ≡ row rows.now r }
 {
     match rows.get(r) {

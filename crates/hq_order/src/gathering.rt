@@ -1,59 +1,151 @@
-//! What stands before some packets, taken in together.
+//! What stands before some packets, taken in together: four packets at a time.
 
-ghost use Rattle.std.specs.Prelude.{◌≡◌, ◌+◌, ◌*◌, ◌/◌, ◌<◌, ◌≤◌, ◌↔◌, ◌⊎◌, ℕ, IsTrue, length, slice_index};
+ghost use Rattle.std.specs.Prelude.{◌≡◌, ◌≢◌, ◌+◌, ◌*◌, ◌/◌, ◌%◌, ◌<◌, ◌≤◌, ◌↔◌, ◌⊎◌, ◌&&◌, ◌==◌, not, ℕ, IsTrue, IfOk, length};
+ghost use Rattle.std.specs.Int.{bit_at};
 ghost use Rattle.hq_order.specs.Bits.{has};
 ghost use Rattle.hq_order.specs.Matrix.{row, Marks, Grown};
-ghost use Rattle.hq_order.specs.Uniting.{Settled, United};
+ghost use Rattle.hq_order.specs.Uniting.{OfChoice, AreUnions, is_fresh};
 
-use crate::bits::{has, highest, remove, subtract, unite, word_at};
-use crate::columns::WORDS;
+use crate::bits::{empty, less, lowest, unite, without, word_at};
+use crate::columns::row_of;
+use std::alloc::{AllocError, Global};
 
-/// Takes in what is before m, and takes m out of what is left to do; and where the row of m is settled, so are all that are
-/// before m.
-fn unite_one(new: &mut [u64], left: &mut [u64], rows: &[Vec<u64>], settled: &[u64], m: usize)
-    requires width { (k : ℕ) → k < length rows.now → length (row rows.now k) ≡ length new.old }
-    requires same { length left.old ≡ length new.old }
-    requires settled { Settled rows.now settled.now }
-    requires there { IsTrue (has left.old m) }
-    ensures united { United rows.now left.old new.old left.new new.new }
-    ensures lesser { slice_index left.new (m / 64) < slice_index left.old (m / 64) }
+/// How many choices there are from a group of four packets.
+const CHOICES: usize = 16;
+
+/// What the next round is worked out from.
+#[derive(Clone, Copy)]
+pub struct Known<'a> {
+    /// The rows of the last round.
+    pub rows: &'a [Vec<u64>],
+    /// Those of the round before that; none where there is none.
+    pub earlier: &'a [Vec<u64>],
+    /// The packets whose rows got more in the last round than two of the earlier rows give.
+    pub renewed: &'a [u64],
+    /// For each choice from each group of four packets what is before one of them by the rows.
+    pub unions: &'a [Vec<u64>],
+}
+
+/// The choice without its first packet.
+fn lesser(choice: usize, bit: usize) -> usize
+    requires low { choice < 16 }
+    requires has { bit_at choice bit ≡ 1 }
+    ensures clear { bit_at result bit ≡ 0 }
+    ensures same { (i : ℕ) → i < 64 → i ≢ bit → bit_at result i ≡ bit_at choice i }
+    ensures less { result < choice }
+    ensures low { bit < 4 }
 {
-    remove(left, m);
+    without(choice as u64, bit) as usize
+}
+
+/// Takes in what is before m, where there is such a packet.
+fn unite_row(union: &mut [u64], rows: &[Vec<u64>], m: usize)
+    requires width { (k : ℕ) → k < length rows.now → length (row rows.now k) ≡ length union.old }
+    ensures exact { (p : ℕ) → IsTrue (has union.new p) ↔ (IsTrue (has union.old p) ⊎ Marks rows.now p m) }
+{
     if m < rows.len() {
-        unite(new, &rows[m]);
-        if has(settled, m) {
-            subtract(left, &rows[m]);
-        }
+        unite(union, row_of(rows, m));
     }
 }
 
-/// Takes in what is before the packets of a word that are left.
-fn unite_word(new: &mut [u64], left: &mut [u64], rows: &[Vec<u64>], settled: &[u64], place: usize)
-    requires width { (k : ℕ) → k < length rows.now → length (row rows.now k) ≡ length new.old }
-    requires same { length left.old ≡ length new.old }
-    requires settled { Settled rows.now settled.now }
-    requires place { place < 16 }
-    ensures united { United rows.now left.old new.old left.new new.new }
-    ensures empty { slice_index left.new place ≡ 0 }
+/// What is before the packets of a choice; `unions` has that for the choices ahead of it.
+fn union_of(
+    alloc: Global,
+    rows: &[Vec<u64>],
+    unions: &[Vec<u64>],
+    words: usize,
+    entry: usize,
+) -> Result<Vec<u64>, AllocError>
+    requires width { (k : ℕ) → k < length rows.now → length (row rows.now k) ≡ words }
+    requires few { words ≤ 16 }
+    requires len { length unions.now ≡ entry }
+    requires wide { (k : ℕ) → k < entry → length (row unions.now k) ≡ words }
+    requires entry { entry < words * 256 }
+    requires exact { (k p : ℕ) → k < entry → Marks unions.now p k ↔ OfChoice rows.now (k / 16) (k % 16) p }
+    ensures len { IfOk result (λ union. length union.items ≡ words) }
+    ensures exact { IfOk result (λ union. (p : ℕ) → IsTrue (has union.items p) ↔ OfChoice rows.now (entry / 16) (entry % 16) p) }
 {
-    let mut rest = word_at(left, place);
-    'each: while rest != 0 {
-        unite_one(new, left, rows, settled, place * 64 + highest(rest));
-        rest = word_at(left, place);
+    let choice = entry % CHOICES;
+    if choice == 0 {
+        return empty(alloc, words);
     }
+    let bit = lowest(choice as u64);
+    let ahead = row_of(unions, entry - choice + lesser(choice, bit));
+    let mut union = ahead.to_vec(alloc)?;
+    unite_row(&mut union, rows, entry / CHOICES * 4 + bit);
+    Ok(union)
 }
 
-/// Takes in what is before the packets that are left, and leaves none. Those of the greatest numbers come first: what is before
-/// them needn't be gone through again where their rows are settled.
-pub fn unite_all(new: &mut [u64], left: &mut [u64], rows: &[Vec<u64>], settled: &[u64])
-    requires width { (k : ℕ) → k < length rows.now → length (row rows.now k) ≡ length new.old }
-    requires same { length left.old ≡ length new.old }
-    requires settled { Settled rows.now settled.now }
-    requires few { length left.old ≤ 16 }
+/// What is before the packets of each choice.
+pub fn all_unions(
+    alloc: Global,
+    rows: &[Vec<u64>],
+    words: usize,
+) -> Result<Vec<Vec<u64>>, AllocError>
+    requires width { (k : ℕ) → k < length rows.now → length (row rows.now k) ≡ words }
+    requires few { words ≤ 16 }
+    ensures { IfOk result (λ unions. AreUnions rows.now words unions.items) }
+{
+    let count = words * 256;
+    let mut unions = Vec::with_capacity(alloc, count)?;
+    for entry in 0..count {
+        unions.push(union_of(alloc, rows, &unions, words, entry)?)?;
+    }
+    Ok(unions)
+}
+
+/// Takes in what is before the packets of a choice.
+fn unite_choice(new: &mut [u64], known: &Known, group: usize, choice: usize)
+    requires unions { AreUnions known.now.rows.now (length new.old) known.now.unions.now }
+    requires group { group < length new.old * 16 }
+    requires few { length new.old ≤ 16 }
+    requires choice { choice < 16 }
     ensures grown { Grown new.old new.new }
-    ensures exact { (p : ℕ) → IsTrue (has new.new p) ↔ (IsTrue (has new.old p) ⊎ ((m : ℕ) × Marks rows.now p m × IsTrue (has left.old m))) }
+    ensures exact { (p : ℕ) → IsTrue (has new.new p) ↔ (IsTrue (has new.old p) ⊎ OfChoice known.now.rows.now group choice p) }
 {
-    for turn in 0..WORDS {
-        unite_word(new, left, rows, settled, WORDS - 1 - turn);
+    if choice != 0 {
+        unite(new, row_of(known.unions, group * CHOICES + choice));
+    }
+}
+
+/// Takes in what is before the packets of a word; `place` is its place in its row.
+fn unite_word(new: &mut [u64], known: &Known, place: usize, word: u64)
+    requires unions { AreUnions known.now.rows.now (length new.old) known.now.unions.now }
+    requires place { place < length new.old }
+    requires few { length new.old ≤ 16 }
+    ensures grown { Grown new.old new.new }
+    ensures exact { (p : ℕ) → IsTrue (has new.new p) ↔ (IsTrue (has new.old p) ⊎ ((bit : ℕ) × (bit < 64) × (bit_at word bit ≡ 1) × Marks known.now.rows.now p (place * 64 + bit))) }
+{
+    for group in 0..16 {
+        unite_choice(
+            new,
+            known,
+            place * 16 + group,
+            (word >> (4 * group)) as usize % CHOICES,
+        );
+    }
+}
+
+/// The packets of a word of the row that are fresh.
+fn fresh_word(row: &[u64], earlier: &[u64], renewed: &[u64], place: usize) -> u64
+    ensures { (bit : ℕ) → bit < 64 → (bit_at result bit == 1) ≡ is_fresh row.now earlier.now renewed.now (place * 64 + bit) }
+{
+    let old = less(word_at(earlier, place), word_at(renewed, place));
+    less(word_at(row, place), old)
+}
+
+/// Takes in what is before those packets of the set that aren't among the earlier ones, or are renewed.
+pub fn unite_fresh(new: &mut [u64], known: &Known, set: &[u64], earlier: &[u64], renewed: &[u64])
+    requires unions { AreUnions known.now.rows.now (length new.old) known.now.unions.now }
+    requires few { length new.old ≤ 16 }
+    requires same { length set.now ≡ length new.old }
+    ensures grown { Grown new.old new.new }
+    ensures exact { (p : ℕ) → IsTrue (has new.new p) ↔ (IsTrue (has new.old p) ⊎ ((m : ℕ) × Marks known.now.rows.now p m × IsTrue (is_fresh set.now earlier.now renewed.now m))) }
+{
+    for place in 0..set.len() {
+        let word = fresh_word(set, earlier, renewed, place);
+        if word != 0 {
+            unite_word(new, known, place, word);
+        }
     }
 }

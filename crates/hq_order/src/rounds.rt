@@ -1,71 +1,52 @@
 //! One round: what follows by one rule from what is known.
 
-ghost use Rattle.std.specs.Prelude.{OnOk, Some, slice_get, ◌≡◌, ℕ, ◌<◌, ◌↔◌, ◌⊎◌, ◌*◌, ◌≤◌, IsTrue, IfOk, length};
+ghost use Rattle.std.specs.Prelude.{OnOk, Some, slice_get, ◌≡◌, ℕ, ◌/◌, ◌<◌, ◌↔◌, ◌⊎◌, ◌*◌, ◌≤◌, ◌||◌, IsTrue, IfOk, false, length};
 ghost use Rattle.hq_job.specs.Plan.{plan};
 ghost use Rattle.hq_model.specs.Job.{IsPacket};
 ghost use Rattle.hq_order.specs.Bits.{has};
 ghost use Rattle.hq_order.specs.Rounds.{Next, Reaches, ByEither};
 ghost use Rattle.hq_order.specs.Matrix.{row, Marks, Square, Grown};
 ghost use Rattle.hq_order.specs.Placing.{AllAre, Completing};
-ghost use Rattle.hq_order.specs.Uniting.{Settled};
+ghost use Rattle.hq_order.specs.Uniting.{AreUnions, Stepped, Through};
 
-use crate::bits::{self, is_same};
-use crate::gathering::unite_all;
+use crate::bits;
+use crate::columns::row_of;
+use crate::gathering::{Known, unite_fresh};
 use hq_job::Job;
 use hq_packet::Packet;
 use std::alloc::{AllocError, Global};
 
-/// Notes r as settled where its new row, with all that is before the packets before r, is its old one.
-fn settle(settled: &mut [u64], rows: &[Vec<u64>], new: &[u64], r: usize)
-    requires settled { Settled rows.now settled.old }
-    requires r_is { r < length rows.now }
-    requires room { length rows.now ≤ length settled.old * 64 }
-    requires exact { (p : ℕ) → IsTrue (has new.now p) ↔ (Marks rows.now p r ⊎ ((m : ℕ) × Marks rows.now p m × Marks rows.now m r)) }
-    ensures { Settled rows.now settled.new }
-{
-    if is_same(new, &rows[r]) {
-        bits::insert(settled, r);
-    }
-}
-
 /// The packets of a set, and all that are before them.
-fn reached(
-    alloc: Global,
-    set: &[u64],
-    rows: &[Vec<u64>],
-    settled: &[u64],
-) -> Result<Vec<u64>, AllocError>
-    requires width { (k : ℕ) → k < length rows.now → length (row rows.now k) ≡ length set.now }
-    requires settled { Settled rows.now settled.now }
+fn reached(alloc: Global, set: &[u64], known: &Known) -> Result<Vec<u64>, AllocError>
+    requires unions { AreUnions known.now.rows.now (length set.now) known.now.unions.now }
     requires few { length set.now ≤ 16 }
-    ensures grown { IfOk result (λ reached. Grown set.now reached.items) }
-    ensures exact { IfOk result (λ reached. (p : ℕ) → IsTrue (has reached.items p) ↔ (IsTrue (has set.now p) ⊎ ((m : ℕ) × Marks rows.now p m × IsTrue (has set.now m)))) }
+    ensures len { IfOk result (λ reached. length reached.items ≡ length set.now) }
+    ensures exact { IfOk result (λ reached. (p : ℕ) → IsTrue (has reached.items p) ↔ (IsTrue (has set.now p) ⊎ ((m : ℕ) × Marks known.now.rows.now p m × IsTrue (has set.now m)))) }
 {
     let mut reached = set.to_vec(alloc)?;
-    let mut left = set.to_vec(alloc)?;
-    unite_all(&mut reached, &mut left, rows, settled);
+    unite_fresh(&mut reached, known, set, &[], &[]);
     Ok(reached)
 }
 
-/// The packets that are before r by what is known, or before one of those. Notes r as settled where that is no more than is
-/// known.
-fn through_row(
-    alloc: Global,
-    rows: &[Vec<u64>],
-    settled: &mut [u64],
-    r: usize,
-) -> Result<Vec<u64>, AllocError>
-    requires width { (k : ℕ) → k < length rows.now → length (row rows.now k) ≡ length (row rows.now r) }
-    requires settled { Settled rows.now settled.old }
-    requires r_is { r < length rows.now }
-    requires room { length rows.now ≤ length settled.old * 64 }
-    requires few { length (row rows.now r) ≤ 16 }
-    ensures grown { IfOk result (λ new. Grown (row rows.now r) new.items) }
-    ensures exact { IfOk result (λ new. (p : ℕ) → IsTrue (has new.items p) ↔ (Marks rows.now p r ⊎ ((m : ℕ) × Marks rows.now p m × Marks rows.now m r))) }
-    ensures settled { IfOk result (λ _. Settled rows.now settled.new) }
+/// The packets that are before r by what is known, or before one of those. Only those that are fresh in its row, or are
+/// renewed, bring anything new.
+fn through_row(alloc: Global, known: &Known, r: usize) -> Result<Vec<u64>, AllocError>
+    requires unions { AreUnions known.now.rows.now (length (row known.now.rows.now r)) known.now.unions.now }
+    requires stepped { Stepped known.now.earlier.now known.now.rows.now known.now.renewed.now }
+    requires r_is { r < length known.now.rows.now }
+    requires few { length (row known.now.rows.now r) ≤ 16 }
+    ensures grown { IfOk result (λ new. Grown (row known.now.rows.now r) new.items) }
+    ensures exact { IfOk result (λ new. (p : ℕ) → IsTrue (has new.items p) ↔ Through known.now.rows.now p r) }
 {
-    let new = reached(alloc, &rows[r], rows, settled)?;
-    settle(settled, rows, &new, r);
+    let row = row_of(known.rows, r);
+    let mut new = row.to_vec(alloc)?;
+    unite_fresh(
+        &mut new,
+        known,
+        row,
+        row_of(known.earlier, r),
+        known.renewed,
+    );
     Ok(new)
 }
 
@@ -75,18 +56,17 @@ fn meet_branch(
     shared: &mut [u64],
     job: &Job,
     completing: &[Vec<u64>],
-    rows: &[Vec<u64>],
-    settled: &[u64],
+    known: &Known,
     signal: u16,
 ) -> Result<(), AllocError>
-    requires square { Square (length job.now.packets) (length shared.old) rows.now }
+    requires square { Square (length job.now.packets) (length shared.old) known.now.rows.now }
+    requires unions { AreUnions known.now.rows.now (length shared.old) known.now.unions.now }
     requires completing { AllAre (λ s set. Completing (plan job.now) s set.items × (length set.items ≡ length shared.old)) completing.now }
-    requires settled { Settled rows.now settled.now }
     requires few { length shared.old ≤ 16 }
     requires low { signal < length completing.now }
-    ensures { OnOk result ((p : ℕ) → IsTrue (has shared.new p) ↔ (IsTrue (has shared.old p) × Reaches (plan job.now) (Marks rows.now) p signal)) }
+    ensures { OnOk result ((p : ℕ) → IsTrue (has shared.new p) ↔ (IsTrue (has shared.old p) × Reaches (plan job.now) (Marks known.now.rows.now) p signal)) }
 {
-    let branch = reached(alloc, &completing[signal as usize], rows, settled)?;
+    let branch = reached(alloc, &completing[signal as usize], known)?;
     bits::meet(shared, &branch);
     Ok(())
 }
@@ -97,83 +77,101 @@ fn meet_branches(
     shared: &mut [u64],
     job: &Job,
     completing: &[Vec<u64>],
-    rows: &[Vec<u64>],
-    settled: &[u64],
+    known: &Known,
     slots: &[Option<u16>],
 ) -> Result<(), AllocError>
-    requires square { Square (length job.now.packets) (length shared.old) rows.now }
+    requires square { Square (length job.now.packets) (length shared.old) known.now.rows.now }
+    requires unions { AreUnions known.now.rows.now (length shared.old) known.now.unions.now }
     requires completing { AllAre (λ s set. Completing (plan job.now) s set.items × (length set.items ≡ length shared.old)) completing.now }
-    requires settled { Settled rows.now settled.now }
     requires few { length shared.old ≤ 16 }
     requires low { (slot s : ℕ) → slice_get slots.now slot ≡ Some (Some s) → s < length completing.now }
-    ensures { OnOk result ((p : ℕ) → IsTrue (has shared.new p) ↔ (IsTrue (has shared.old p) × ((slot s : ℕ) → slice_get slots.now slot ≡ Some (Some s) → Reaches (plan job.now) (Marks rows.now) p s))) }
+    ensures { OnOk result ((p : ℕ) → IsTrue (has shared.new p) ↔ (IsTrue (has shared.old p) × ((slot s : ℕ) → slice_get slots.now slot ≡ Some (Some s) → Reaches (plan job.now) (Marks known.now.rows.now) p s))) }
 {
     for slot in slots {
         if let Some(signal) = slot {
-            meet_branch(alloc, shared, job, completing, rows, settled, *signal)?;
+            meet_branch(alloc, shared, job, completing, known, *signal)?;
         }
     }
     Ok(())
 }
 
-/// Takes in the packets that are complete whichever dependency of r is over, where r is a barrier-OR.
+/// Takes in the packets that are complete whichever dependency of r is over, where r is a barrier-OR. Whether any of them is
+/// new.
 fn unite_shared(
     alloc: Global,
     new: &mut [u64],
     job: &Job,
     completing: &[Vec<u64>],
-    rows: &[Vec<u64>],
-    settled: &[u64],
+    known: &Known,
     r: usize,
-) -> Result<(), AllocError>
-    requires square { Square (length job.now.packets) (length new.old) rows.now }
+) -> Result<bool, AllocError>
+    requires square { Square (length job.now.packets) (length new.old) known.now.rows.now }
+    requires unions { AreUnions known.now.rows.now (length new.old) known.now.unions.now }
     requires completing { AllAre (λ s set. Completing (plan job.now) s set.items × (length set.items ≡ length new.old)) completing.now }
     requires signals { length completing.now ≡ length job.now.signals }
-    requires settled { Settled rows.now settled.now }
     requires few { length new.old ≤ 16 }
     requires r_is { IsPacket (plan job.now) r }
     ensures grown { OnOk result (Grown new.old new.new) }
-    ensures exact { OnOk result ((p : ℕ) → IsTrue (has new.new p) ↔ (IsTrue (has new.old p) ⊎ ByEither (plan job.now) (Marks rows.now) p r)) }
+    ensures exact { OnOk result ((p : ℕ) → IsTrue (has new.new p) ↔ (IsTrue (has new.old p) ⊎ ByEither (plan job.now) (Marks known.now.rows.now) p r)) }
+    ensures more { IfOk result (λ more. more ≡ false → (p : ℕ) → IsTrue (has new.new p) → IsTrue (has new.old p)) }
 {
     job.valid();
     let placed = job.packet(r);
     if let Packet::Or(_) = placed.packet {
         let mut shared = bits::full(alloc, new.len())?;
-        meet_branches(
-            alloc,
-            &mut shared,
-            job,
-            completing,
-            rows,
-            settled,
-            &placed.slots,
-        )?;
-        bits::unite(new, &shared);
+        meet_branches(alloc, &mut shared, job, completing, known, &placed.slots)?;
+        return Ok(unite_more(new, &shared));
     }
-    Ok(())
+    Ok(false)
 }
 
-/// The packets before r by what is known, or by one rule from that. Notes r where it is settled.
+/// Takes in all that the other set has. Whether any of it is new.
+fn unite_more(row: &mut [u64], other: &[u64]) -> bool
+    requires { length row.old ≡ length other.now }
+    ensures grown { Grown row.old row.new }
+    ensures exact { (p : ℕ) → has row.new p ≡ (has row.old p || has other.now p) }
+    ensures more { result ≡ false → (p : ℕ) → IsTrue (has row.new p) → IsTrue (has row.old p) }
+{
+    let more = !bits::covers(row, other);
+    bits::unite(row, other);
+    more
+}
+
+/// Notes r as renewed where there is more.
+fn note(renewed: &mut [u64], r: usize, more: bool)
+    requires room { r / 64 < length renewed.old }
+    ensures kept { (m : ℕ) → IsTrue (has renewed.old m) → IsTrue (has renewed.new m) }
+    ensures noted { IsTrue more → IsTrue (has renewed.new r) }
+{
+    if more {
+        bits::insert(renewed, r);
+    }
+}
+
+/// The packets before r by what is known, or by one rule from that. Notes r as renewed where an either gives more than the rows.
 pub fn next_row(
     alloc: Global,
     job: &Job,
     completing: &[Vec<u64>],
-    rows: &[Vec<u64>],
-    settled: &mut [u64],
+    known: &Known,
+    renewed: &mut [u64],
     r: usize,
 ) -> Result<Vec<u64>, AllocError>
-    requires square { Square (length job.now.packets) (length (row rows.now r)) rows.now }
-    requires completing { AllAre (λ s set. Completing (plan job.now) s set.items × (length set.items ≡ length (row rows.now r))) completing.now }
+    requires square { Square (length job.now.packets) (length (row known.now.rows.now r)) known.now.rows.now }
+    requires unions { AreUnions known.now.rows.now (length (row known.now.rows.now r)) known.now.unions.now }
+    requires stepped { Stepped known.now.earlier.now known.now.rows.now known.now.renewed.now }
+    requires completing { AllAre (λ s set. Completing (plan job.now) s set.items × (length set.items ≡ length (row known.now.rows.now r))) completing.now }
     requires signals { length completing.now ≡ length job.now.signals }
-    requires settled { Settled rows.now settled.old }
-    requires room { length rows.now ≤ length settled.old * 64 }
-    requires few { length (row rows.now r) ≤ 16 }
+    requires room { length known.now.rows.now ≤ length renewed.old * 64 }
+    requires few { length (row known.now.rows.now r) ≤ 16 }
     requires r_is { IsPacket (plan job.now) r }
-    ensures grown { IfOk result (λ new. Grown (row rows.now r) new.items) }
-    ensures exact { IfOk result (λ new. (p : ℕ) → IsTrue (has new.items p) ↔ Next (plan job.now) (Marks rows.now) p r) }
-    ensures settled { IfOk result (λ _. Settled rows.now settled.new) }
+    ensures grown { IfOk result (λ new. Grown (row known.now.rows.now r) new.items) }
+    ensures exact { IfOk result (λ new. (p : ℕ) → IsTrue (has new.items p) ↔ Next (plan job.now) (Marks known.now.rows.now) p r) }
+    ensures kept { OnOk result ((m : ℕ) → IsTrue (has renewed.old m) → IsTrue (has renewed.new m)) }
+    ensures rests { IfOk result (λ new. (p : ℕ) → IsTrue (has new.items p) → IsTrue (has renewed.new r) ⊎ Through known.now.rows.now p r) }
 {
-    let mut new = through_row(alloc, rows, settled, r)?;
-    unite_shared(alloc, &mut new, job, completing, rows, settled, r)?;
+    let mut new = through_row(alloc, known, r)?;
+    let more = unite_shared(alloc, &mut new, job, completing, known, r)?;
+    note(renewed, r, more);
     Ok(new)
 }

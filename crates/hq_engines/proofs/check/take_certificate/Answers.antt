@@ -1,15 +1,15 @@
 use Rattle.std.proofs.Common.{codes}
 use Rattle.hq_engines.specs.Reports.{Reported, with_feed}
 use Rattle.hq_engines.specs.Check.{NoCertificate}
-use Rattle.hq_engines.specs.Check.NoCertificate.{no_memory, no_text}
-use Rattle.hq_engines.specs.declared.status.Status.TheVariants.{Memory, File}
-use Rattle.hq_engines.proofs.Checks.{always}
+use Rattle.hq_engines.specs.Check.NoCertificate.{no_text}
+use Rattle.hq_engines.specs.declared.status.Status.TheVariants.{File}
+use Rattle.hq_engines.proofs.Checks.{always, unread_said}
 use Rattle.hq_engines.proofs.check.take_certificate.Goals as goal
 
-pub returns-in-Err-Read-clause-refused : goal.returns-in-Err-Read-clause-refused
-returns-in-Err-Read-clause-refused g c =
+pub returns-in-Err-Reader-clause-refused : goal.returns-in-Err-Reader-clause-refused
+returns-in-Err-Reader-clause-refused g c =
     always (g.R.Read.remaining c.args.reader.now) (λ text. Reported (NoCertificate text) (g.W.Write.contents c.args.writer.now) (g.W.Write.contents c.say_file.new.writer) c.say_file.result) (λ text. (with_feed (codes "file fault"), File, no_text, c.say_file.ensures))
 
-pub returns-in-Err-Memory-clause-refused : goal.returns-in-Err-Memory-clause-refused
-returns-in-Err-Memory-clause-refused g c =
-    always (g.R.Read.remaining c.args.reader.now) (λ text. Reported (NoCertificate text) (g.W.Write.contents c.args.writer.now) (g.W.Write.contents c.say_memory.new.writer) c.say_memory.result) (λ text. (with_feed (codes "out of memory"), Memory, no_memory, c.say_memory.ensures))
+pub returns-in-Err-Text-clause-refused : goal.returns-in-Err-Text-clause-refused
+returns-in-Err-Text-clause-refused g c =
+    unread_said (g.R.Read.remaining c.args.reader.now) c.in-Err-Text.field-0 c.in-Err-Text.fault (g.W.Write.contents c.args.writer.now) (g.W.Write.contents c.say_no_certificate.new.writer) c.say_no_certificate.result c.in-Err-Text.field-0-is c.in-Err-Text.ensures.fault c.say_no_certificate.ensures

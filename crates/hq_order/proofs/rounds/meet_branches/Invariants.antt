@@ -6,4 +6,4 @@ use Rattle.hq_order.specs.Matrix.{Marks}
 use Rattle.hq_order.proofs.rounds.meet_branches.Given as goal
 
 abbrev pub invariant-loop-slot : goal.invariant-loop-slot
-invariant-loop-slot l = (p : ℕ) → IsTrue (has l.shared p) ↔ (IsTrue (has l.fn.shared p) × ((slot s : ℕ) → slot < l.slot-index → slice_get l.slots slot ≡ Some (Some s) → Reaches (plan l.job) (Marks l.rows) p s))
+invariant-loop-slot l = (p : ℕ) → IsTrue (has l.shared p) ↔ (IsTrue (has l.fn.shared p) × ((slot s : ℕ) → slot < l.slot-index → slice_get l.slots slot ≡ Some (Some s) → Reaches (plan l.job) (Marks l.known.rows.now) p s))

@@ -1,11 +1,14 @@
-use Rattle.std.proofs.Common.{◌≡◌, ◌↔◌, ◌⊎◌, ℕ, sym, ◌∙◌, subst, IsTrue}
+use Rattle.std.proofs.Common.{◌≡◌, ◌↔◌, length, sym, ◌∙◌, ap, subst, IsTrue}
 use Rattle.hq_order.specs.Bits.{has}
-use Rattle.hq_order.specs.Matrix.{row, Marks}
-use Rattle.hq_order.proofs.Rows.{row_is}
+use Rattle.hq_order.specs.Uniting.{Through}
+use Rattle.hq_order.proofs.Rows.{given_back}
+use Rattle.hq_order.proofs.Gathered.{through_exact}
 use Rattle.hq_order.proofs.rounds.through_row.Goals as goal
 
 pub returns-clause-exact : goal.returns-clause-exact
 returns-clause-exact c = λ p.
-    let rows = c.args.rows.now in
-    let known : c.deref.result.now ≡ row rows c.args.r = c.deref.ensures.value ∙ sym (row_is rows c.args.r c.index-rows-r.result c.requires.r_is c.index-rows-r.is) in
-    subst (λ set. IsTrue (has c.in_ok-new.new.items p) ↔ (IsTrue (has set p) ⊎ ((m : ℕ) × Marks rows p m × IsTrue (has set m)))) known (c.in_ok-new.ensures.exact p)
+    let known = c.args.known.now in
+    let back = given_back c.in_ok-new.new.len c.in_ok-new.new.items c.unite_fresh.new.new (sym c.in_ok-new.new.ok.0) (c.unite_fresh.auto.new ∙ ap length c.deref_mut.ensures.value) in
+    let first : c.deref_mut.result.now ≡ c.row_of-row.result.now = c.deref_mut.ensures.value ∙ c.in_ok-new.ensures.items_if_clones_equal (λ y e h. h) in
+    subst (λ words. IsTrue (has words p) ↔ Through known.rows.now p c.args.r) (sym back)
+    (through_exact known.earlier.now known.rows.now known.renewed.now c.row_of-row.result.now c.row_of.result.now c.deref_mut.result.now c.unite_fresh.new.new p c.args.r c.row_of-row.ensures c.row_of.ensures first c.requires.stepped (c.unite_fresh.ensures.exact p))

@@ -1,9 +1,10 @@
-use Rattle.std.proofs.Common.{◌≡◌, ◌<◌, length, set, ap, sym, subst, ◌∙◌}
+use Rattle.std.proofs.Common.{◌≡◌, ◌<◌, length, set, refl, ap, sym, subst, ◌∙◌}
 use Rattle.std.specs.FinMap as finite
 use Rattle.hq_copies.specs.Copies.{CopiesValue, held, stored_run}
 use Rattle.hq_copies.specs.Overlays.{run_at, dirty_over}
 use Rattle.hq_copies.proofs.Gathered.{same_held}
 use Rattle.hq_copies.proofs.StoredRuns.{held_run, get_held_run, stored_is}
+use Rattle.hq_copies.proofs.Spans.{lane_kept}
 use Rattle.hq_copies.proofs.Within.{level_at}
 use Rattle.hq_copies.proofs.copies.Copies.store_run.Goals as goal
 
@@ -23,3 +24,9 @@ returns-clause-ok c =
     ap (λ m. record old { lanes = set lanes c.args.lane m }) new
     ∙ sym (stored_is old c.args.lane c.args.byte bytes there)
     ∙ ap (λ t. stored_run t c.args.lane c.args.byte bytes) c.self.view_is
+
+pub invariant_of-self-2 : goal.invariant_of-self-2
+invariant_of-self-2 c =
+    let is = c.self.inside in
+    lane_kept is.memory.items is.agents.items is.lanes.items is.lane_agents.items is.holding is.marked c.with-self-inside.result c.with-self-inside-2.result is.agents.items c.args.lane c.set_run.new.self c.self.invariant refl
+    c.with-self-inside.ensures.these c.with-self-inside.ensures.one c.with-self-inside-2.ensures.these c.with-self-inside-2.ensures.one

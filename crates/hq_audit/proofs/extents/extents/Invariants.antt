@@ -1,6 +1,0 @@
-use Rattle.std.proofs.Common.{take}
-use Rattle.hq_audit.proofs.Bounds.{AreOf}
-use Rattle.hq_audit.proofs.extents.extents.Given as goal
-
-abbrev pub invariant-loop-packet : goal.invariant-loop-packet
-invariant-loop-packet l = AreOf l.extents.items (take l.packet-index l.job.packets)
