@@ -1,8 +1,10 @@
 //! The program `hsaq`: orders the packets of HSA user-mode queues, and proves it.
 #![tactic(auto)]
 
+mod explaining;
 mod input;
 
+use explaining::{explain, explain_unopened};
 use hq_engines::{
     Status, audit_engine, check_engine, pack_engine, replay_engine, say_file, say_memory,
     show_engine,
@@ -23,8 +25,14 @@ fn flushed<W: Write>(writer: &mut W, status: Status) -> Status {
     }
 }
 
-/// Writes why an input can't be read.
-fn say_unopened<W: Write>(error: &io::Error, writer: &mut W) -> Status {
+/// Writes that a file can't be opened, and says why.
+fn say_unopened<W: Write>(
+    rt: &HostRuntime,
+    path: &str,
+    error: &io::Error,
+    writer: &mut W,
+) -> Status {
+    explain_unopened(rt, path, error);
     match error.kind() {
         io::ErrorKind::OutOfMemory => say_memory(writer),
         _ => say_file(writer),
@@ -34,14 +42,14 @@ fn say_unopened<W: Write>(error: &io::Error, writer: &mut W) -> Status {
 fn show<W: Write>(rt: &HostRuntime, job: &str, writer: &mut W) -> Status {
     match open(rt, job) {
         Ok(mut input) => show_engine(rt.alloc(), &mut input, writer),
-        Err(error) => say_unopened(&error, writer),
+        Err(error) => say_unopened(rt, job, &error, writer),
     }
 }
 
 fn audit<W: Write>(rt: &HostRuntime, job: &str, writer: &mut W) -> Status {
     match open(rt, job) {
         Ok(mut input) => audit_engine(rt.alloc(), &mut input, writer),
-        Err(error) => say_unopened(&error, writer),
+        Err(error) => say_unopened(rt, job, &error, writer),
     }
 }
 
@@ -57,7 +65,8 @@ fn check<W: Write>(
         (Ok(mut input), Ok(mut file)) => {
             check_engine(threads, rt.alloc(), &mut input, &mut file, writer)
         }
-        (Err(error), _) | (_, Err(error)) => say_unopened(&error, writer),
+        (Err(error), _) => say_unopened(rt, job, &error, writer),
+        (_, Err(error)) => say_unopened(rt, certificate, &error, writer),
     }
 }
 
@@ -65,7 +74,8 @@ fn check<W: Write>(
 fn replay<W: Write>(rt: &HostRuntime, job: &str, timeline: &str, writer: &mut W) -> Status {
     match (open(rt, job), open_file(rt, timeline)) {
         (Ok(mut input), Ok(mut file)) => replay_engine(rt.alloc(), &mut input, &mut file, writer),
-        (Err(error), _) | (_, Err(error)) => say_unopened(&error, writer),
+        (Err(error), _) => say_unopened(rt, job, &error, writer),
+        (_, Err(error)) => say_unopened(rt, timeline, &error, writer),
     }
 }
 
@@ -91,7 +101,9 @@ fn run(rt: &HostRuntime, threads: &(impl Threads + Sync), asked: &Asked<'_>) -> 
     match BufWriter::new(rt.alloc(), &mut stdout) {
         Ok(mut writer) => {
             let status = answer(rt, threads, asked, &mut writer);
-            flushed(&mut writer, status)
+            let status = flushed(&mut writer, status);
+            explain(rt, status);
+            status
         }
         Err(_) => say_memory(&mut rt.stdout()),
     }

@@ -11,6 +11,27 @@ use std::alloc::{AllocError, Global};
 /// The program's version.
 const VERSION: &str = "1.0.0";
 
+const SHOW_STATUS: &str = "Exit status: 0; 3 where the text is no job.";
+
+const AUDIT_STATUS: &str =
+    "Exit status: 0 with a certificate, 4 with a conflict that nothing orders, 5 with packets that can never complete; 3 where the text is no job.";
+
+const CHECK_STATUS: &str =
+    "Exit status: 0 where the certificate holds, 6 where it doesn't; 3 where the text is no job.";
+
+const REPLAY_STATUS: &str =
+    "Exit status: 0; 7 where the timeline is none, or an event isn't enabled; 3 where the text is no job.";
+
+/// The words of each kind of packet.
+const PACK_WORDS: &str = "The words of a packet, DONE being its completion signal:
+  kernel BIT ACQ REL SETUP WX WY WZ GX GY GZ PRIVATE GROUP OBJECT KERNARG DONE
+  agent BIT ACQ REL TYPE RETURN A0 A1 A2 A3 DONE
+  and BIT ACQ REL D0 D1 D2 D3 D4 DONE
+  or BIT ACQ REL D0 D1 D2 D3 D4 DONE
+BIT is the barrier bit, 0 or 1. ACQ and REL are the scopes of the fences: none, agent or system. All else is numbers.
+
+Exit status: 0; 2 where the words are none of these; 3 where the bytes are no packet.";
+
 /// The argument JOB.
 fn job<'a>(alloc: Global) -> Arg<'a>
     ensures rule { rule_of result ≡ job_rule }
@@ -51,6 +72,8 @@ fn show<'a>(alloc: Global) -> Result<Command<'a>, AllocError>
 {
     Command::new(alloc, "show")
         .about("Prints a job's packets, one line each")
+        .override_usage("hsaq show <JOB>")
+        .after_help(SHOW_STATUS)
         .arg(job(alloc))
 }
 
@@ -63,6 +86,8 @@ fn audit<'a>(alloc: Global) -> Result<Command<'a>, AllocError>
         .about(
             "Prints a certificate that orders every conflict, or the conflict that nothing orders",
         )
+        .override_usage("hsaq audit <JOB>")
+        .after_help(AUDIT_STATUS)
         .arg(job(alloc))
 }
 
@@ -73,6 +98,8 @@ fn check<'a>(alloc: Global) -> Result<Command<'a>, AllocError>
 {
     Command::new(alloc, "check")
         .about("Checks a certificate against a job")
+        .override_usage("hsaq check <JOB> <CERT>")
+        .after_help(CHECK_STATUS)
         .arg(job(alloc))?
         .arg(certificate(alloc))
 }
@@ -84,6 +111,8 @@ fn replay<'a>(alloc: Global) -> Result<Command<'a>, AllocError>
 {
     Command::new(alloc, "replay")
         .about("Replays a timeline on a job, and prints the buffers as it leaves them")
+        .override_usage("hsaq replay <JOB> <TIMELINE>")
+        .after_help(REPLAY_STATUS)
         .arg(job(alloc))?
         .arg(timeline(alloc))
 }
@@ -96,9 +125,11 @@ fn pack<'a>(alloc: Global) -> Result<Command<'a>, AllocError>
     let fields = Arg::new(alloc, "WORDS")
         .required(true)
         .action(ArgAction::Append)
-        .help("kernel, agent, and, or; and then the packet's fields in turn");
+        .help("The packet's kind, and then its fields in turn");
     Command::new(alloc, "pack")
         .about("Prints the 64 bytes of a packet as hexadecimal digits")
+        .override_usage("hsaq pack <WORDS>...")
+        .after_help(PACK_WORDS)
         .arg(fields)
 }
 
@@ -108,6 +139,7 @@ fn program<'a>(alloc: Global) -> Command<'a>
 {
     Command::new(alloc, "hsaq")
         .about("Orders the packets of HSA user-mode queues, and proves it")
+        .after_help("In place of JOB, @ is standard input, and no words at all mean `audit @`.")
         .version(VERSION)
         .no_binary_name(true)
         .subcommand_required(true)

@@ -6,4 +6,4 @@ use Rattle.hq_words.proofs.command.check.Goals as goal
 
 pub returns-clause-app : goal.returns-clause-app
 returns-clause-app c =
-    IfOk-weaker c.arg-2.result _ _ (λ r adds. adds.shape c.certificate.ensures.local ∙ ap₂ with_rule (c.in_ok-arg.ensures.shape c.job.ensures.local ∙ ap₂ with_rule (ap app_of_fields c.about.ensures ∙ c.new.ensures.app) c.job.ensures.rule) c.certificate.ensures.rule) c.arg-2.ensures
+    IfOk-weaker c.arg-2.result _ _ (λ r adds. adds.shape c.certificate.ensures.local ∙ ap₂ with_rule (c.in_ok-arg.ensures.shape c.job.ensures.local ∙ ap₂ with_rule (ap app_of_fields c.after_help.ensures ∙ ap app_of_fields c.override_usage.ensures ∙ ap app_of_fields c.about.ensures ∙ c.new.ensures.app) c.job.ensures.rule) c.certificate.ensures.rule) c.arg-2.ensures
