@@ -21,3 +21,4 @@ pub mod EachStore
 pub mod Released
 pub mod FenceBacks
 pub mod Delivered
+pub mod Filled

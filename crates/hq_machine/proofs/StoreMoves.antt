@@ -1,5 +1,5 @@
 -- Stores.
-use Rattle.std.proofs.Common.{◌≡◌, ℕ, zero, suc, length-append, ◌+◌, ◌<◌, inl, inr, List, [], ◌∷◌, ◌++◌, true, false, cond, eqb, length, replicate, unwrap_or, set, get_or, slice_index, refl, sym, ◌∙◌, ap, subst, arith, length-set, get_or-set_same, get_or-set_other}
+use Rattle.std.proofs.Common.{◌≡◌, ℕ, zero, suc, length-append, ◌+◌, ◌<◌, inl, inr, List, [], ◌∷◌, true, false, cond, eqb, length, replicate, unwrap_or, set, get_or, slice_index, refl, sym, ◌∙◌, ap, subst, arith, length-set, get_or-set_same, get_or-set_other}
 use Rattle.std.proofs.lemmas.Bool.{cases_eq}
 use Rattle.std.proofs.lemmas.List.{length-replicate, get_or_past}
 use Rattle.hq_footprint.specs.Tasks.{Suits}
@@ -16,9 +16,6 @@ use Rattle.hq_machine.specs.State.{StateValue, StoresValue, no_stores}
 use Rattle.hq_machine.specs.View.{IsStateOf, IsRow, AreStores, Moved, Enabled, MayStore, NextStores, marked, restored, state_of, stores_of}
 use Rattle.hq_machine.proofs.Places.{row_put2, row_set}
 use Rattle.hq_machine.proofs.Within.{within_step}
-
-pub listed_more : (n : ℕ) (f : ℕ → ℕ) → listed (n + 1) f ≡ listed n f ++ f n ∷ []
-listed_more n f = let e : n + 1 ≡ suc n = omega arith in ap (λ m. listed m f) e
 
 kept : (job : Job) (v : StateValue) (p i : ℕ) (s : StoresValue) (copies : CopiesValue) → IsStateOf job v → MayStore job (state_of job v) p i → NextStores job v p i s → (q : ℕ) → IsPacket job q → AreStores job (restored v p s copies) q
 kept job v p i s copies k may next q there = elim (cases_eq q p) [

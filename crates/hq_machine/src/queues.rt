@@ -135,7 +135,7 @@ impl State {
     {
         self.is_in(number, Phase::InQueue)
             && self.bit_is_over(job, number)
-            && self.barriers_over(job, number)
+            && (has_bit(job, number) || self.barriers_over(job, number))
     }
 
     /// The packet of the queue that may be launched, if one may.

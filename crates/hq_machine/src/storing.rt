@@ -4,7 +4,7 @@ ghost use Rattle.std.specs.Prelude.{◌≡◌, ◌<◌, ◌↔◌, ℕ, IsTrue, 
 ghost use Rattle.hq_copies.specs.Copies.{stored};
 ghost use Rattle.hq_footprint.specs.Tasks.{Suits, result_of};
 ghost use Rattle.hq_job.specs.Plan.{plan};
-ghost use Rattle.hq_model.specs.Job.{IsPacket, packet as packet_of};
+ghost use Rattle.hq_model.specs.Job.{Job as JobOfNumbers, IsPacket, packet as packet_of};
 ghost use Rattle.hq_model.specs.Machine.{bytes_read, bytes_stored, listed};
 ghost use Rattle.hq_model.specs.Machine.Event.{Store};
 ghost use Rattle.hq_machine.specs.View.{IsStateOf, MayStore, NextStores, Moved, Refused, row_of, stores_of, marked, recopied, restored, state_of};
@@ -46,17 +46,24 @@ impl State {
         self.alloc
     }
 
+    /// Fills the slice with the bytes that a packet has read, in order, and with 0 where it has read none.
+    fn copy_reads(&self, packet: usize, bytes: &mut [u8])
+        requires { packet < length self.now.reads }
+        ensures { (job : JobOfNumbers) → (i : ℕ) → i < length bytes.old → slice_index bytes.new i ≡ unwrap_or ((state_of job self.now).read packet i) 0 }
+    {
+        for (entry, slot) in bytes.iter_mut().enumerate() {
+            *slot = self.read_byte(packet, entry).unwrap_or(0);
+        }
+    }
+
     /// The bytes that a packet has read, in order.
-    #[tactic(auto, using(crate::proofs::StoreMoves::listed_more))]
     fn bytes_read(&self, job: &Job, packet: usize) -> Result<Vec<u8>, AllocError>
         requires is { IsStateOf (plan job.now) self.now }
         requires packet { IsPacket (plan job.now) packet }
         ensures { IfOk result (λ bytes. bytes.items ≡ bytes_read (plan job.now) (state_of (plan job.now) self.now) packet) }
     {
-        let mut bytes = Vec::new(self.allocator());
-        for entry in 0..read_count(job, packet) {
-            bytes.push(self.read_byte(packet, entry).unwrap_or(0))?;
-        }
+        let mut bytes = vec![in self.allocator(); 0; read_count(job, packet)]?;
+        self.copy_reads(packet, &mut bytes);
         Ok(bytes)
     }
 

@@ -1,13 +1,15 @@
-use Rattle.std.proofs.Common.{ℕ, ◌++◌, ◌∷◌, [], List, Option, unwrap_or, sym, ◌∙◌, ap}
+use Rattle.std.proofs.Common.{◌≡◌, ℕ, length, drop, unwrap_or, ◌∙◌, ap, arith}
 use Rattle.hq_job.specs.Plan.{plan}
 use Rattle.hq_model.specs.Machine.{listed}
 use Rattle.hq_machine.specs.View.{state_of}
-use Rattle.hq_machine.proofs.StoreMoves.{listed_more}
+use Rattle.hq_machine.proofs.Filled.{all_filled}
 use Rattle.hq_machine.proofs.state.State.bytes_read.Goals as goal
 
-pub loop-entry-preserved : goal.loop-entry-preserved
-loop-entry-preserved c =
-    let f = λ (i : ℕ). unwrap_or ((state_of (plan c.args.job.now) c.args.self.now).read c.args.packet i) 0 in
-    c.in_ok-push.ensures.items ∙ ap (λ (l : List ℕ). l ++ c.unwrap_or.result ∷ []) c.loop-entry.invariant
-    ∙ ap (λ (x : ℕ). listed c.loop-entry.entry f ++ x ∷ []) (c.unwrap_or.ensures ∙ ap (λ (o : Option ℕ). unwrap_or o 0) (c.read_byte.ensures (plan c.args.job.now)))
-    ∙ sym (listed_more c.loop-entry.entry f)
+pub returns : goal.returns
+returns c =
+    let job = plan c.args.job.now in
+    let f = λ (i : ℕ). unwrap_or ((state_of job c.args.self.now).read c.args.packet i) 0 in
+    let bytes = c.copy_reads.new.bytes in
+    let len : length bytes ≡ c.in_ok-bytes.bytes.len = omega (arith, c.copy_reads.auto.bytes, c.deref_mut.ensures.len, c.in_ok-bytes.bytes.ok.0) in
+    all_filled c.in_ok-bytes.bytes.len f bytes (drop (length bytes) c.in_ok-bytes.bytes.items) len (λ k l. c.copy_reads.ensures job k (omega (arith, l, len, c.copy_reads.auto.bytes)))
+    ∙ ap (λ n. listed n f) (c.in_ok-bytes.ensures.len ∙ c.read_count.ensures)
