@@ -1,5 +1,5 @@
 -- Pair lines are added.
-use Rattle.std.proofs.Common.{◌≡◌, ℕ, ◌+◌, ◌<◌, ◌⊎◌, inl, inr, List, [], ◌∷◌, ◌++◌, length, refl, sym, ◌∙◌, ap, subst, arith, Some, Result, Ok, Err, slice_get, slice_index_or, map}
+use Rattle.std.proofs.Common.{◌≡◌, ℕ, ◌+◌, ◌<◌, ◌⊎◌, inl, inr, List, [], ◌∷◌, ◌++◌, length, refl, sym, ◌∙◌, ap, subst, arith, Option, Some, None, Result, Ok, Err, slice_get, slice_index_or, map}
 use Rattle.std.specs.Prelude.{IsTrue, IsSome, IsOk, OnOk, MatchResult}
 use Rattle.std.specs.Global.{Vec}
 use Rattle.std.proofs.lemmas.Bool.{cases_eq}
@@ -21,7 +21,7 @@ use Rattle.hq_audit.specs.declared.directed.Directed.{Directed}
 use Rattle.hq_audit.specs.declared.directed.Unshown.{Unshown}
 use Rattle.hq_audit.specs.declared.lines.Lines.{Lines}
 use Rattle.hq_audit.specs.Kept.{lines_of, Kept, Grown}
-use Rattle.hq_audit.specs.Paired.{Fenced, pairs_of, AllHold, Longer, PairsGo, HasPairIn, HasAll, RowPaired, RowsPaired}
+use Rattle.hq_audit.specs.Paired.{Fenced, pairs_of, AllHold, Longer, PairsGo, HasPairIn, HasAll, RowPaired, RowsPaired, ShowsNone}
 use Rattle.hq_audit.specs.Refused.{ShownOneWay, IsDirected, IsUnshown}
 use Rattle.hq_audit.proofs.Adding.{goes_same, goes_more}
 use Rattle.hq_audit.proofs.Fencing.{fences_more}
@@ -112,6 +112,30 @@ result_has job a b d ps (Err e) i h = tt
 pub one_later : (job : Job) (ps qs : List model.Pair) (p r : ℕ) → Longer ps qs → HasAll job ps p r ⊎ HasAll job ps r p → HasAll job qs p r ⊎ HasAll job qs r p
 one_later job ps qs p r l (inl h) = inl (all_later job ps qs p r l h)
 one_later job ps qs p r l (inr h) = inr (all_later job ps qs r p l h)
+
+-- ---- where nothing is shown
+
+some_not_none : {A : Type 0} (o : Option A) → o ≡ None → IsSome o → ⊥
+some_not_none (Some x) e s = let never : ⊥ = cc in absurd never
+some_not_none None e s = let never : ⊥ = cc in absurd never
+
+pub none_has : (job : Job) (p r : ℕ) (shown : Shown) → Shows job p r shown → ShowsNone shown → HasAll job [] p r
+none_has job p r shown s n = λ kind. all kind
+  where
+    all : (kind : Conflict) → Conflicts job kind p r → HasPairIn [] p r kind
+    all WriteRead c = absurd (some_not_none shown.wr n.wr (s.has_wr.1 c))
+    all WriteWrite c = absurd (some_not_none shown.ww n.ww (s.has_ww.1 c))
+    all ReadWrite c = let there : IsTrue shown.rw = s.has_rw.1 c in let never : ⊥ = cc (there, n.rw) in absurd never
+
+pub none_one_way : (job : Job) (a b : ℕ) (d : Directed) → IsDirected job a b d → ShowsNone d.shown → HasAll job [] a b ⊎ HasAll job [] b a
+none_one_way job a b d i n = one_of job a b d [] i (none_has job d.first d.second d.shown i.shows n)
+
+-- pair lines are added to none
+from_none : (ps : List model.Pair) → Longer [] ps
+from_none ps = record { pairs = λ k pair e. let never : ⊥ = cc in absurd never }
+
+pub row_from_none : (job : Job) (a b : ℕ) (ps : List model.Pair) → RowPaired job [] a b → RowPaired job ps a b
+row_from_none job a b ps h = λ s above low is. one_later job [] ps a s (from_none ps) (h s above low is)
 
 pub row_paired_next : (job : Job) (a b : ℕ) (ps qs : List model.Pair) → RowPaired job ps a b → Longer ps qs → HasAll job qs a b ⊎ HasAll job qs b a → RowPaired job qs a (b + 1)
 row_paired_next job a b ps qs h l o = λ s above low is. elim (cases_eq s b) [

@@ -1,5 +1,5 @@
 -- What is known of pair lines as they are gathered.
-use Rattle.std.specs.Prelude.{◌≡◌, ℕ, ◌<◌, ◌⊎◌, List, [], length, map, Some, slice_get, All}
+use Rattle.std.specs.Prelude.{◌≡◌, ℕ, ◌<◌, ◌⊎◌, List, [], length, map, Some, None, false, slice_get, slice_index, All}
 use Rattle.hq_cert.specs.declared.certificate.Pair.{Pair}
 use Rattle.hq_cert.specs.declared.certificate.Fences.{Fences}
 use Rattle.hq_cert.specs.declared.citation.Citation.{Citation}
@@ -11,6 +11,7 @@ use Rattle.hq_model.specs.Certificate as model
 use Rattle.hq_model.specs.Certificate.{Says, Cites, FencesHold, ReleaseHolds, AcquireHolds, kind_of}
 use Rattle.hq_fence.specs.Judgement.{end_of, first_of}
 use Rattle.hq_fence.specs.declared.shown.Release.{Release}
+use Rattle.hq_fence.specs.declared.shown.Shown.{Shown}
 use Rattle.hq_fence.specs.declared.shown.Acquire.{Acquire}
 use Rattle.hq_audit.specs.declared.pairs.CitedRelease.{CitedRelease}
 use Rattle.hq_audit.specs.declared.pairs.CitedAcquire.{CitedAcquire}
@@ -77,6 +78,17 @@ RowPaired job pairs a b = (s : ℕ) → a < s → s < b → IsPacket job s → H
 -- for all pairs whose lesser packet is below a
 abbrev pub RowsPaired : Job → List model.Pair → ℕ → Type 0
 RowsPaired job pairs a = (q s : ℕ) → q < a → q < s → IsPacket job s → HasAll job pairs q s ⊎ HasAll job pairs s q
+
+-- no kind of conflict is shown
+pub record ShowsNone (shown : Shown) : Type 0 where
+  pub wr : shown.wr ≡ None
+  pub ww : shown.ww ≡ None
+  pub rw : shown.rw ≡ false
+
+-- where a packet is to have no pair lines with those above it, none are needed
+pub record AreRooms (job : Job) (rooms : List ℕ) : Type 0 where
+  pub len : length rooms ≡ length job.packets
+  pub none : (a : ℕ) → a < length rooms → slice_index rooms a ≡ 0 → RowPaired job [] a (length job.packets)
 
 -- and for all pairs
 abbrev pub AllPaired : Job → List model.Pair → Type 0

@@ -5,6 +5,7 @@ ghost use Rattle.hq_job.specs.Plan.{plan};
 ghost use Rattle.hq_model.specs.Certificate.{CertHolds};
 ghost use Rattle.hq_model.specs.Fence.{Ordered};
 ghost use Rattle.hq_model.specs.Order.{OrderList};
+ghost use Rattle.hq_audit.specs.Paired.{AreRooms};
 ghost use Rattle.hq_audit.specs.Parts.{AreParts};
 ghost use Rattle.hq_audit.specs.Refused.{AllShown, IsRefused};
 ghost use Rattle.hq_audit.specs.declared.fault.AuditNo.TheVariants.{Memory};
@@ -31,25 +32,28 @@ fn widened(alloc: Global, numbers: &[u16]) -> Result<Vec<u32>, AllocError>
     Ok(wide)
 }
 
-/// The certificate of an order list and of these needs, which has so many pair lines.
+/// The certificate of an order list and of these needs, which has so many pair lines; `rooms` says how many each packet has with
+/// those above it.
 fn certified(
     alloc: Global,
     before: &Before,
     parts: &Parts,
     order: &[u16],
     needs: Needs,
+    rooms: &[usize],
     room: usize,
 ) -> Result<Certificate, AllocError>
     requires order { OrderList before.now order.now }
     requires parts { AreParts before.now parts.now }
     requires shown { AllShown before.now }
+    requires rooms { AreRooms before.now rooms.now }
     ensures { IfOk result (λ c. CertHolds before.now c) }
 {
     let facts = needs.facts(alloc, before)?;
     let mut lines = Lines::new(alloc, before, needs, facts.len())?;
     lines.add_all(alloc, before, &facts)?;
     drop(facts);
-    let pairs = all_pairs(&mut lines, alloc, before, parts, room)?;
+    let pairs = all_pairs(&mut lines, alloc, before, parts, rooms, room)?;
     let order = widened(alloc, order)?;
     Ok(Certificate::new(order, lines.into_lines(), pairs))
 }
@@ -71,7 +75,8 @@ pub fn audit(alloc: Global, job: &Job) -> Result<Certificate, AuditNo>
     let before = Before::build(alloc, job)?;
     let parts = Parts::build(alloc, job)?;
     let mut needs = Needs::new(alloc, &before)?;
-    let room = need_all(&mut needs, &before, &parts)?;
-    let certificate = certified(alloc, &before, &parts, &order, needs, room)?;
+    let mut rooms = vec![in alloc; 0; before.len()]?;
+    let room = need_all(&mut needs, &before, &parts, &mut rooms)?;
+    let certificate = certified(alloc, &before, &parts, &order, needs, &rooms, room)?;
     Ok(certificate)
 }

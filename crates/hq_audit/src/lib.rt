@@ -20,6 +20,3 @@ mod slots;
 pub use auditing::audit;
 pub use fault::AuditNo;
 pub use hq_fence::{Kind, Why};
-
-#[cfg(test)]
-mod tests;

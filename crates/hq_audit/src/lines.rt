@@ -72,8 +72,7 @@ impl Lines {
         ensures { OnOk result (Kept before.now self.new) }
     {
         for fact in facts {
-            let round = round_of(before, fact.p as usize, fact.r as usize);
-            self.number(alloc, before, round, fact.p as usize, fact.r as usize)?;
+            self.number(alloc, before, fact.p as usize, fact.r as usize)?;
         }
         Ok(())
     }
@@ -144,10 +143,27 @@ impl Lines {
         Ok(number)
     }
 
-    /// The number of the line that p is before r, which comes first in this round. Where there is none yet, it goes in, behind
-    /// those that it cites.
-    #[cycle(number)]
+    /// The number of the line that p is before r. Where there is none yet, it goes in, behind those that it cites.
     pub fn number(
+        &mut self,
+        alloc: Global,
+        before: &Before,
+        p: usize,
+        r: usize,
+    ) -> Result<u32, AllocError>
+        requires kept { Kept before.now self.old }
+        requires before { order.Before before.now p r }
+        ensures { IfOk result (λ k. Numbered before.now self.old self.new p r k) }
+    {
+        if let Some(number) = self.known(p, r) {
+            return Ok(number);
+        }
+        self.numbered(alloc, before, round_of(before, p, r), p, r)
+    }
+
+    /// Adds the line that p is before r, which comes first in this round, behind those that it cites; answers its number.
+    #[cycle(number)]
+    fn numbered(
         &mut self,
         alloc: Global,
         before: &Before,
@@ -159,11 +175,28 @@ impl Lines {
         requires first { IsFirstWithin before.now round p r }
         ensures { IfOk result (λ k. Numbered before.now self.old self.new p r k) }
     {
+        let rule = self.rule(alloc, before, round, p, r)?;
+        self.add(p, r, rule)
+    }
+
+    /// The number of the line that p is before r by lower rounds. Where there is none yet, it goes in.
+    #[cycle(number)]
+    fn cited(
+        &mut self,
+        alloc: Global,
+        before: &Before,
+        round: usize,
+        p: usize,
+        r: usize,
+    ) -> Result<u32, AllocError>
+        requires kept { Kept before.now self.old }
+        requires below { Below before.now round p r }
+        ensures { IfOk result (λ k. Numbered before.now self.old self.new p r k) }
+    {
         if let Some(number) = self.known(p, r) {
             return Ok(number);
         }
-        let rule = self.rule(alloc, before, round, p, r)?;
-        self.add(p, r, rule)
+        self.numbered(alloc, before, round_of(before, p, r), p, r)
     }
 
     /// The rule by which p is before r, with the lines that it cites.
@@ -205,8 +238,8 @@ impl Lines {
         requires middle { ByMiddle before.now round p r m }
         ensures { IfOk result (λ rule. Ruled before.now self.old self.new p r rule) }
     {
-        let first = self.number(alloc, before, round_of(before, p, m), p, m)?;
-        let second = self.number(alloc, before, round_of(before, m, r), m, r)?;
+        let first = self.cited(alloc, before, round, p, m)?;
+        let second = self.cited(alloc, before, round, m, r)?;
         Ok(Rule::Through(first, second))
     }
 
@@ -273,7 +306,7 @@ impl Lines {
         if d == p {
             return Ok(Citation::same());
         }
-        let number = self.number(alloc, before, round_of(before, p, d), p, d)?;
+        let number = self.cited(alloc, before, round, p, d)?;
         Ok(Citation::line(number))
     }
 }

@@ -9,10 +9,10 @@ ghost use Rattle.hq_audit.specs.Parts.{AreParts};
 ghost use Rattle.hq_audit.specs.Refused.{ShownOneWay, RowShown, AllShown};
 ghost use Rattle.hq_packet.specs.declared.packet.Scope.TheVariants as scope;
 ghost use Rattle.hq_audit.specs.Kept.{lines_of, Kept, Numbered};
-ghost use Rattle.hq_audit.specs.Paired.{Cited, ReleaseCited, AcquireCited, Fenced, pairs_of, AllHold, PairsGo, HasPairIn, HasAll, RowPaired, AllPaired};
+ghost use Rattle.hq_audit.specs.Paired.{Cited, ReleaseCited, AcquireCited, Fenced, pairs_of, AllHold, PairsGo, HasPairIn, HasAll, RowPaired, AreRooms, AllPaired};
 
 use crate::directed::direct;
-use crate::lines::{Lines, round_of};
+use crate::lines::Lines;
 use crate::parts::Parts;
 use hq_cert::{Citation, Fences, Pair, ReadChain, WriteChain};
 use hq_fence::{Acquire, Release, Shown};
@@ -31,7 +31,7 @@ fn line(
     requires before { order.Before before.now p r }
     ensures { IfOk result (λ k. Numbered before.now lines.old lines.new p r k) }
 {
-    lines.number(alloc, before, round_of(before, p, r), p, r)
+    lines.number(alloc, before, p, r)
 }
 
 /// The citation that p is x, or before it.
@@ -435,23 +435,27 @@ fn add_row(
     Ok(())
 }
 
-/// The pair lines of all packets, so many.
+/// The pair lines of all packets, so many; `rooms` says how many each packet has with those above it.
 pub fn all_pairs(
     lines: &mut Lines,
     alloc: Global,
     before: &Before,
     parts: &Parts,
+    rooms: &[usize],
     room: usize,
 ) -> Result<Vec<Pair>, AllocError>
     requires kept { Kept before.now lines.old }
     requires parts { AreParts before.now parts.now }
     requires shown { AllShown before.now }
+    requires rooms { AreRooms before.now rooms.now }
     ensures goes { IfOk result (λ pairs. PairsGo before.now lines.old lines.new [] (pairs_of pairs)) }
     ensures paired { IfOk result (λ pairs. AllPaired before.now (pairs_of pairs)) }
 {
     let mut pairs = Vec::with_capacity(alloc, room)?;
     for a in 0..before.len() {
-        add_row(&mut pairs, lines, alloc, before, parts, a)?;
+        if rooms[a] != 0 {
+            add_row(&mut pairs, lines, alloc, before, parts, a)?;
+        }
     }
     Ok(pairs)
 }

@@ -27,6 +27,3 @@ pub use fault::{CertFault, CertReason};
 pub use printing::{PrintFault, print};
 pub use reader::{ReadFault, read};
 pub use reading::parse;
-
-#[cfg(test)]
-mod tests;

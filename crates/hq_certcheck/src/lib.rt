@@ -25,6 +25,3 @@ pub use accepted::Accepted;
 pub use checking::check;
 pub use fault::CheckNo;
 pub use wide::check_wide;
-
-#[cfg(test)]
-mod tests;

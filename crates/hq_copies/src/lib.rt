@@ -9,6 +9,3 @@ mod span;
 
 pub use copies::Copies;
 pub use fault::CopiesFault;
-
-#[cfg(test)]
-mod tests;

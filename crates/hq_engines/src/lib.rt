@@ -24,6 +24,3 @@ pub use replay::replay_engine;
 pub use saying::{say_file, say_memory};
 pub use show::show_engine;
 pub use status::Status;
-
-#[cfg(test)]
-mod tests;

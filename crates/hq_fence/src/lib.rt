@@ -14,6 +14,3 @@ mod span;
 
 pub use judging::judge;
 pub use shown::{Acquire, Kind, NotShown, Release, Shown, Why};
-
-#[cfg(test)]
-mod tests;

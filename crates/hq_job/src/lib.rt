@@ -31,6 +31,3 @@ pub use hq_text::{TextFault, take_text};
 pub use job::Job;
 pub use reading::{read, read_text};
 pub use rows::{Block, Kernel, Placed, Queue};
-
-#[cfg(test)]
-mod tests;

@@ -10,6 +10,3 @@ mod words;
 pub use fault::LineFault;
 pub use line::{Line, Version};
 pub use read::{first_line, line_behind_end, read_line};
-
-#[cfg(test)]
-mod tests;

@@ -25,6 +25,3 @@ pub use fault::StepFault;
 pub use journal::Journal;
 pub use phase::Phase;
 pub use state::State;
-
-#[cfg(test)]
-mod tests;

@@ -128,6 +128,13 @@ fresh_bits rows fresh place word p A B same h = (
   λ t. elim t [ inl a ↦ h.1 (inl a) | inr o ↦ h.1 (inr (o.0, o.1, eqb-true (bit_at word o.0) 1 (same o.0 o.1 ∙ o.2), o.3)) ],
 )
 
+-- the bits of a word, each gone through
+pub bits_of_all : (Old A : Type 0) (rows : List (Vec ℕ)) (place word p : ℕ) → A ↔ (Old ⊎ ((bit : ℕ) × (bit < 64) × (IsTrue (bit_at word bit == 1) × Marks rows p (place * 64 + bit)))) → A ↔ (Old ⊎ OfBits rows place word p)
+bits_of_all Old A rows place word p h = (
+  λ a. elim (h.0 a) [ inl o ↦ inl o | inr x ↦ inr (x.0, x.1, eqb-true (bit_at word x.0) 1 x.2.0, x.2.1) ],
+  λ t. elim t [ inl o ↦ h.1 (inl o) | inr x ↦ h.1 (inr (x.0, x.1, (eq-eqb (bit_at word x.0) 1 x.2, x.3))) ],
+)
+
 pub fresh_none : (rows : List (Vec ℕ)) (fresh : ℕ → Bool) (place word p : ℕ) → word ≡ 0 → ((bit : ℕ) → bit < 64 → (bit_at word bit == 1) ≡ fresh (place * 64 + bit)) → OfFresh rows fresh p place → ⊥
 fresh_none rows fresh place word p z same o =
     let one : bit_at word o.0 ≡ 1 = eqb-true (bit_at word o.0) 1 (same o.0 o.1 ∙ o.2) in

@@ -94,10 +94,10 @@ pub record Turned (rows : List (Vec ℕ)) (table : List ℕ) : Type 0 where
   pub len : length table ≡ 16384
   pub exact : (p r : ℕ) → p < 1024 → r < 1024 → IsTrue (has table (p * 1024 + r)) ↔ Marks rows p r
 
--- so it is for each round
+-- so it is for each round but the last
 pub record AreTurned (rounds : List (Vec (Vec ℕ))) (tables : List (Vec ℕ)) : Type 0 where
-  pub len : length tables ≡ length rounds
-  pub each : (k : ℕ) → k < length rounds → Turned (matrix rounds k) (row tables k)
+  pub len : length tables + 1 ≡ length rounds
+  pub each : (k : ℕ) → k < length tables → Turned (matrix rounds k) (row tables k)
 
 -- m is the least packet that p is before by these rows, and that is before r
 pub record IsMarkedBetween (rows : List (Vec ℕ)) (p r m : ℕ) : Type 0 where

@@ -16,6 +16,11 @@ pub record AreUnions (rows : List (Vec ℕ)) (words : ℕ) (unions : List (Vec �
   pub has_all : (group choice p : ℕ) → group < words * 16 → choice < 16 → OfChoice rows group choice p → Marks unions p (group * 16 + choice)
   pub only : (group choice p : ℕ) → group < words * 16 → choice < 16 → Marks unions p (group * 16 + choice) → OfChoice rows group choice p
 
+-- Each row has so many words, and where there are unions they are those of the rows.
+pub record CanUnite (rows : List (Vec ℕ)) (words : ℕ) (unions : List (Vec ℕ)) : Type 0 where
+  pub width : (k : ℕ) → k < length rows → length (row rows k) ≡ words
+  pub are : 0 < length unions → AreUnions rows words unions
+
 -- p is before r by these rows, or by two of them
 abbrev pub Through : List (Vec ℕ) → ℕ → ℕ → Type 0
 Through rows p r = Marks rows p r ⊎ ((m : ℕ) × Marks rows p m × Marks rows m r)

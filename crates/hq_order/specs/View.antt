@@ -8,7 +8,7 @@ use Rattle.hq_order.specs.Matrix.{AreRounds, IsClosed, AreTurned}
 abbrev pub order_of : Inside → Job
 order_of b = plan b.job.now
 
--- its rounds are all that there are, and its columns are those turned round
+-- its rounds are all that there are, and its columns are those but the last turned round
 pub record IsOrder (b : Inside) : Type 0 where
   pub rounds : AreRounds (order_of b) b.rounds.items
   pub closed : IsClosed (order_of b) b.rounds.items

@@ -6,14 +6,14 @@ ghost use Rattle.hq_model.specs.Order as order;
 ghost use Rattle.hq_order.specs.Rounds.{Direct, Next, IsFirstWithin, Between, IsMiddle};
 ghost use Rattle.hq_order.specs.Placing.{AllAre, Completing};
 ghost use Rattle.hq_order.specs.Matrix.{row, words_for, Marks, IsSquare, Grown, AreRounds, IsClosed, matrix, last, earlier, lag, Differ, IsMarkedNowhere, IsMarkedFirst};
-ghost use Rattle.hq_order.specs.Uniting.{AreUnions, Stepped};
+ghost use Rattle.hq_order.specs.Uniting.{CanUnite, Stepped};
 
 use crate::bits;
 use crate::columns::{WORDS, all_turned, between};
 use crate::completing::completing;
 use crate::direct::{direct_row, go_on};
 use crate::fault::OrderFault;
-use crate::gathering::{Known, all_unions};
+use crate::gathering::{Known, unions_if_many};
 use crate::rounds::next_row;
 use hq_job::Job;
 use std::alloc::{AllocError, Global};
@@ -59,7 +59,7 @@ fn next_rows(
     renewed: &mut [u64],
 ) -> Result<Vec<Vec<u64>>, AllocError>
     requires square { IsSquare (length job.now.packets) known.now.rows.now }
-    requires unions { AreUnions known.now.rows.now (words_for (length job.now.packets)) known.now.unions.now }
+    requires unions { CanUnite known.now.rows.now (words_for (length job.now.packets)) known.now.unions.now }
     requires stepped { Stepped known.now.earlier.now known.now.rows.now known.now.renewed.now }
     requires completing { AllAre (λ s set. Completing (plan job.now) s set.items × (length set.items ≡ words_for (length job.now.packets))) completing.now }
     requires signals { length completing.now ≡ length job.now.signals }
@@ -140,10 +140,11 @@ fn following(
     ensures stepped { IfOk result (λ rows. Stepped (last rounds.now) rows.items new.new) }
 {
     let rows = last_rows(rounds);
-    let unions = all_unions(alloc, rows, words_of(job))?;
+    let earlier = earlier_rows(rounds);
+    let unions = unions_if_many(alloc, rows, earlier, renewed, words_of(job))?;
     let known = Known {
         rows,
-        earlier: earlier_rows(rounds),
+        earlier,
         renewed,
         unions: &unions,
     };
@@ -221,7 +222,7 @@ fn first_round(rounds: &[Vec<Vec<u64>>], p: usize, r: usize) -> Option<usize>
 pub struct Before<'a> {
     job: &'a Job,
     rounds: Vec<Vec<Vec<u64>>>,
-    /// For each round the rows turned round: what a packet is before.
+    /// For each round but the last the rows turned round: what a packet is before.
     columns: Vec<Vec<u64>>,
 }
 

@@ -1,10 +1,10 @@
-//! What stands before some packets, taken in together: four packets at a time.
+//! What stands before some packets, taken in together: four packets at a time where there are many, else one by one.
 
 ghost use Rattle.std.specs.Prelude.{◌≡◌, ◌≢◌, ◌+◌, ◌*◌, ◌/◌, ◌%◌, ◌<◌, ◌≤◌, ◌↔◌, ◌⊎◌, ◌&&◌, ◌==◌, not, ℕ, IsTrue, IfOk, length};
 ghost use Rattle.std.specs.Int.{bit_at};
 ghost use Rattle.hq_order.specs.Bits.{has};
 ghost use Rattle.hq_order.specs.Matrix.{row, Marks, Grown};
-ghost use Rattle.hq_order.specs.Uniting.{OfChoice, AreUnions, is_fresh};
+ghost use Rattle.hq_order.specs.Uniting.{OfChoice, AreUnions, CanUnite, is_fresh};
 
 use crate::bits::{empty, less, lowest, unite, without, word_at};
 use crate::columns::row_of;
@@ -12,6 +12,9 @@ use std::alloc::{AllocError, Global};
 
 /// How many choices there are from a group of four packets.
 const CHOICES: usize = 16;
+
+/// From so many packets on the unions of all choices cost less than to go through the packets one by one.
+const MANY: u32 = 16_384;
 
 /// What the next round is worked out from.
 #[derive(Clone, Copy)]
@@ -22,7 +25,8 @@ pub struct Known<'a> {
     pub earlier: &'a [Vec<u64>],
     /// The packets whose rows got more in the last round than two of the earlier rows give.
     pub renewed: &'a [u64],
-    /// For each choice from each group of four packets what is before one of them by the rows.
+    /// For each choice from each group of four packets what is before one of them by the rows; none at all where few packets
+    /// are to be gone through.
     pub unions: &'a [Vec<u64>],
 }
 
@@ -41,6 +45,7 @@ fn lesser(choice: usize, bit: usize) -> usize
 /// Takes in what is before m, where there is such a packet.
 fn unite_row(union: &mut [u64], rows: &[Vec<u64>], m: usize)
     requires width { (k : ℕ) → k < length rows.now → length (row rows.now k) ≡ length union.old }
+    ensures grown { Grown union.old union.new }
     ensures exact { (p : ℕ) → IsTrue (has union.new p) ↔ (IsTrue (has union.old p) ⊎ Marks rows.now p m) }
 {
     if m < rows.len() {
@@ -77,11 +82,7 @@ fn union_of(
 }
 
 /// What is before the packets of each choice.
-pub fn all_unions(
-    alloc: Global,
-    rows: &[Vec<u64>],
-    words: usize,
-) -> Result<Vec<Vec<u64>>, AllocError>
+fn all_unions(alloc: Global, rows: &[Vec<u64>], words: usize) -> Result<Vec<Vec<u64>>, AllocError>
     requires width { (k : ℕ) → k < length rows.now → length (row rows.now k) ≡ words }
     requires few { words ≤ 16 }
     ensures { IfOk result (λ unions. AreUnions rows.now words unions.items) }
@@ -92,6 +93,44 @@ pub fn all_unions(
         unions.push(union_of(alloc, rows, &unions, words, entry)?)?;
     }
     Ok(unions)
+}
+
+/// How many packets of the row are fresh.
+fn count_fresh(row: &[u64], earlier: &[u64], renewed: &[u64]) -> u32 {
+    let mut count = 0u32;
+    for place in 0..row.len() {
+        let word = fresh_word(row, earlier, renewed, place);
+        count = count.saturating_add(word.count_ones());
+    }
+    count
+}
+
+/// Whether many packets are fresh, in all rows together.
+fn are_many(rows: &[Vec<u64>], earlier: &[Vec<u64>], renewed: &[u64]) -> bool {
+    let mut count = 0u32;
+    for (r, row) in rows.iter().enumerate() {
+        count = count.saturating_add(count_fresh(row, row_of(earlier, r), renewed));
+    }
+    count > MANY
+}
+
+/// What is before the packets of each choice, where many packets are to be gone through; else none.
+pub fn unions_if_many(
+    alloc: Global,
+    rows: &[Vec<u64>],
+    earlier: &[Vec<u64>],
+    renewed: &[u64],
+    words: usize,
+) -> Result<Vec<Vec<u64>>, AllocError>
+    requires width { (k : ℕ) → k < length rows.now → length (row rows.now k) ≡ words }
+    requires few { words ≤ 16 }
+    ensures { IfOk result (λ unions. CanUnite rows.now words unions.items) }
+{
+    if are_many(rows, earlier, renewed) {
+        all_unions(alloc, rows, words)
+    } else {
+        Ok(Vec::new(alloc))
+    }
 }
 
 /// Takes in what is before the packets of a choice.
@@ -108,8 +147,23 @@ fn unite_choice(new: &mut [u64], known: &Known, group: usize, choice: usize)
     }
 }
 
-/// Takes in what is before the packets of a word; `place` is its place in its row.
-fn unite_word(new: &mut [u64], known: &Known, place: usize, word: u64)
+/// Takes in what is before each packet of a word, one after the other; `place` is its place in its row.
+fn unite_each(new: &mut [u64], rows: &[Vec<u64>], place: usize, word: u64)
+    requires width { (k : ℕ) → k < length rows.now → length (row rows.now k) ≡ length new.old }
+    requires place { place < 16 }
+    ensures grown { Grown new.old new.new }
+    ensures exact { (p : ℕ) → IsTrue (has new.new p) ↔ (IsTrue (has new.old p) ⊎ ((bit : ℕ) × (bit < 64) × (bit_at word bit ≡ 1) × Marks rows.now p (place * 64 + bit))) }
+{
+    let mut rest = word;
+    'each: while rest != 0 {
+        let bit = lowest(rest);
+        unite_row(new, rows, place * 64 + bit);
+        rest = without(rest, bit);
+    }
+}
+
+/// Takes in what is before the packets of a word, four at a time; `place` is its place in its row.
+fn unite_groups(new: &mut [u64], known: &Known, place: usize, word: u64)
     requires unions { AreUnions known.now.rows.now (length new.old) known.now.unions.now }
     requires place { place < length new.old }
     requires few { length new.old ≤ 16 }
@@ -126,6 +180,21 @@ fn unite_word(new: &mut [u64], known: &Known, place: usize, word: u64)
     }
 }
 
+/// Takes in what is before the packets of a word; `place` is its place in its row.
+fn unite_word(new: &mut [u64], known: &Known, place: usize, word: u64)
+    requires unions { CanUnite known.now.rows.now (length new.old) known.now.unions.now }
+    requires place { place < length new.old }
+    requires few { length new.old ≤ 16 }
+    ensures grown { Grown new.old new.new }
+    ensures exact { (p : ℕ) → IsTrue (has new.new p) ↔ (IsTrue (has new.old p) ⊎ ((bit : ℕ) × (bit < 64) × (bit_at word bit ≡ 1) × Marks known.now.rows.now p (place * 64 + bit))) }
+{
+    if known.unions.is_empty() {
+        unite_each(new, known.rows, place, word);
+    } else {
+        unite_groups(new, known, place, word);
+    }
+}
+
 /// The packets of a word of the row that are fresh.
 fn fresh_word(row: &[u64], earlier: &[u64], renewed: &[u64], place: usize) -> u64
     ensures { (bit : ℕ) → bit < 64 → (bit_at result bit == 1) ≡ is_fresh row.now earlier.now renewed.now (place * 64 + bit) }
@@ -136,7 +205,7 @@ fn fresh_word(row: &[u64], earlier: &[u64], renewed: &[u64], place: usize) -> u6
 
 /// Takes in what is before those packets of the set that aren't among the earlier ones, or are renewed.
 pub fn unite_fresh(new: &mut [u64], known: &Known, set: &[u64], earlier: &[u64], renewed: &[u64])
-    requires unions { AreUnions known.now.rows.now (length new.old) known.now.unions.now }
+    requires unions { CanUnite known.now.rows.now (length new.old) known.now.unions.now }
     requires few { length new.old ≤ 16 }
     requires same { length set.now ≡ length new.old }
     ensures grown { Grown new.old new.new }

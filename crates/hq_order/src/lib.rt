@@ -20,6 +20,3 @@ mod scheduling;
 pub use before::Before;
 pub use fault::OrderFault;
 pub use scheduling::schedule;
-
-#[cfg(test)]
-mod tests;

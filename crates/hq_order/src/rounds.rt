@@ -7,7 +7,7 @@ ghost use Rattle.hq_order.specs.Bits.{has};
 ghost use Rattle.hq_order.specs.Rounds.{Next, Reaches, ByEither};
 ghost use Rattle.hq_order.specs.Matrix.{row, Marks, Square, Grown};
 ghost use Rattle.hq_order.specs.Placing.{AllAre, Completing};
-ghost use Rattle.hq_order.specs.Uniting.{AreUnions, Stepped, Through};
+ghost use Rattle.hq_order.specs.Uniting.{CanUnite, Stepped, Through};
 
 use crate::bits;
 use crate::columns::row_of;
@@ -18,7 +18,7 @@ use std::alloc::{AllocError, Global};
 
 /// The packets of a set, and all that are before them.
 fn reached(alloc: Global, set: &[u64], known: &Known) -> Result<Vec<u64>, AllocError>
-    requires unions { AreUnions known.now.rows.now (length set.now) known.now.unions.now }
+    requires unions { CanUnite known.now.rows.now (length set.now) known.now.unions.now }
     requires few { length set.now ≤ 16 }
     ensures len { IfOk result (λ reached. length reached.items ≡ length set.now) }
     ensures exact { IfOk result (λ reached. (p : ℕ) → IsTrue (has reached.items p) ↔ (IsTrue (has set.now p) ⊎ ((m : ℕ) × Marks known.now.rows.now p m × IsTrue (has set.now m)))) }
@@ -31,7 +31,7 @@ fn reached(alloc: Global, set: &[u64], known: &Known) -> Result<Vec<u64>, AllocE
 /// The packets that are before r by what is known, or before one of those. Only those that are fresh in its row, or are
 /// renewed, bring anything new.
 fn through_row(alloc: Global, known: &Known, r: usize) -> Result<Vec<u64>, AllocError>
-    requires unions { AreUnions known.now.rows.now (length (row known.now.rows.now r)) known.now.unions.now }
+    requires unions { CanUnite known.now.rows.now (length (row known.now.rows.now r)) known.now.unions.now }
     requires stepped { Stepped known.now.earlier.now known.now.rows.now known.now.renewed.now }
     requires r_is { r < length known.now.rows.now }
     requires few { length (row known.now.rows.now r) ≤ 16 }
@@ -60,7 +60,7 @@ fn meet_branch(
     signal: u16,
 ) -> Result<(), AllocError>
     requires square { Square (length job.now.packets) (length shared.old) known.now.rows.now }
-    requires unions { AreUnions known.now.rows.now (length shared.old) known.now.unions.now }
+    requires unions { CanUnite known.now.rows.now (length shared.old) known.now.unions.now }
     requires completing { AllAre (λ s set. Completing (plan job.now) s set.items × (length set.items ≡ length shared.old)) completing.now }
     requires few { length shared.old ≤ 16 }
     requires low { signal < length completing.now }
@@ -81,7 +81,7 @@ fn meet_branches(
     slots: &[Option<u16>],
 ) -> Result<(), AllocError>
     requires square { Square (length job.now.packets) (length shared.old) known.now.rows.now }
-    requires unions { AreUnions known.now.rows.now (length shared.old) known.now.unions.now }
+    requires unions { CanUnite known.now.rows.now (length shared.old) known.now.unions.now }
     requires completing { AllAre (λ s set. Completing (plan job.now) s set.items × (length set.items ≡ length shared.old)) completing.now }
     requires few { length shared.old ≤ 16 }
     requires low { (slot s : ℕ) → slice_get slots.now slot ≡ Some (Some s) → s < length completing.now }
@@ -106,7 +106,7 @@ fn unite_shared(
     r: usize,
 ) -> Result<bool, AllocError>
     requires square { Square (length job.now.packets) (length new.old) known.now.rows.now }
-    requires unions { AreUnions known.now.rows.now (length new.old) known.now.unions.now }
+    requires unions { CanUnite known.now.rows.now (length new.old) known.now.unions.now }
     requires completing { AllAre (λ s set. Completing (plan job.now) s set.items × (length set.items ≡ length new.old)) completing.now }
     requires signals { length completing.now ≡ length job.now.signals }
     requires few { length new.old ≤ 16 }
@@ -158,7 +158,7 @@ pub fn next_row(
     r: usize,
 ) -> Result<Vec<u64>, AllocError>
     requires square { Square (length job.now.packets) (length (row known.now.rows.now r)) known.now.rows.now }
-    requires unions { AreUnions known.now.rows.now (length (row known.now.rows.now r)) known.now.unions.now }
+    requires unions { CanUnite known.now.rows.now (length (row known.now.rows.now r)) known.now.unions.now }
     requires stepped { Stepped known.now.earlier.now known.now.rows.now known.now.renewed.now }
     requires completing { AllAre (λ s set. Completing (plan job.now) s set.items × (length set.items ≡ length (row known.now.rows.now r))) completing.now }
     requires signals { length completing.now ≡ length job.now.signals }

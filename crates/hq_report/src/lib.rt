@@ -8,6 +8,3 @@ mod shown;
 
 pub use refusals::{FootCode, JobRefusal, PacketCode, PacketRefusal, ReasonCode};
 pub use shown::ShownPacket;
-
-#[cfg(test)]
-mod tests;

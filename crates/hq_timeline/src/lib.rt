@@ -19,6 +19,3 @@ pub use fault::{ReplayFault, TimeFault, TimeReason};
 pub use printing::{PrintFault, print};
 pub use reading::parse;
 pub use replaying::replay;
-
-#[cfg(test)]
-mod tests;

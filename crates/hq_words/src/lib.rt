@@ -5,6 +5,3 @@ mod command;
 mod words;
 
 pub use words::{Asked, WordsFault, command_of};
-
-#[cfg(test)]
-mod tests;

@@ -1,6 +1,7 @@
-use Rattle.std.proofs.Common.{◌+◌, arith}
+use Rattle.std.proofs.Common.{◌+◌, [], arith}
 use Rattle.hq_audit.specs.Refused.{IsFirstOfRow}
-use Rattle.hq_audit.proofs.Parting.{row_skipped}
+use Rattle.hq_audit.proofs.Pairing.{longer_same, row_paired_next}
+use Rattle.hq_audit.proofs.Parting.{row_skipped, row_paired_skipped}
 use Rattle.hq_audit.proofs.Turning.{row_next, handed_on}
 use Rattle.hq_audit.proofs.marking.need_row.Goals as goal
 
@@ -10,6 +11,7 @@ others-init c =
     record {
       above = omega (arith, next.above);
       shown = row_skipped c.args.before.now c.args.a (c.args.a + 1) c.next-b.result (λ s above low is. absurd (omega arith)) next.apart;
+      none = λ zero. row_paired_skipped c.args.before.now [] c.args.a (c.args.a + 1) c.next-b.result (λ s above low is. absurd (omega arith)) next.apart;
     }
 
 pub others-preserved : goal.others-preserved
@@ -19,10 +21,15 @@ others-preserved c =
     record {
       above = omega (arith, next.above, c.others.invariant.above);
       shown = row_skipped job c.args.a (c.others.b + 1) c.next-b-in-others.result (row_next job c.args.a c.others.b c.others.invariant.shown c.in_ok-need_pair.ensures.shown) next.apart;
+      none = λ zero. row_paired_skipped job [] c.args.a (c.others.b + 1) c.next-b-in-others.result
+          (row_paired_next job c.args.a c.others.b [] [] (c.others.invariant.none (omega (arith, zero, c.saturating_add-count.ensures))) (longer_same []) (c.in_ok-need_pair.ensures.none (omega (arith, zero, c.saturating_add-count.ensures)))) next.apart;
     }
 
 pub returns-clause-shown : goal.returns-clause-shown
 returns-clause-shown c = λ s above low is. c.others.invariant.shown s above (omega (arith, c.others-test.false, c.len.ensures, low)) is
+
+pub returns-clause-none : goal.returns-clause-none
+returns-clause-none c = λ zero s above low is. c.others.invariant.none zero s above (omega (arith, c.others-test.false, c.len.ensures, low)) is
 
 pub returns-in_err-need_pair-clause-unshown : goal.returns-in_err-need_pair-clause-unshown
 returns-in_err-need_pair-clause-unshown c =

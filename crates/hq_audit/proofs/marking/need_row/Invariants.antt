@@ -1,9 +1,14 @@
-use Rattle.std.proofs.Common.{◌<◌, ◌-◌, length}
+use Rattle.std.proofs.Common.{◌≡◌, ◌<◌, ◌-◌, [], length}
+use Rattle.hq_audit.specs.Paired.{RowPaired}
 use Rattle.hq_audit.specs.Refused.{RowShown}
 use Rattle.hq_audit.proofs.marking.need_row.Given as goal
 
 abbrev pub invariant-others : goal.invariant-others
-invariant-others l = record { above : l.a < l.b; shown : RowShown l.before l.a l.b }
+invariant-others l = record {
+  above : l.a < l.b;
+  shown : RowShown l.before l.a l.b;
+  none : l.count ≡ 0 → RowPaired l.before [] l.a l.b;
+}
 
 abbrev pub decreases-others : goal.decreases-others
 decreases-others l = length l.before.packets - l.b

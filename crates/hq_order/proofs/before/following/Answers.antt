@@ -2,12 +2,12 @@ use Rattle.std.proofs.Common.{◌-◌, ◌↔◌, ℕ, IfOk, length, sym, ◌∙
 use Rattle.hq_order.specs.Matrix.{words_for, Marks, IsSquare, last, earlier}
 use Rattle.hq_job.specs.Plan.{plan}
 use Rattle.hq_order.specs.Rounds.{Next}
-use Rattle.hq_order.specs.Uniting.{AreUnions, Stepped}
+use Rattle.hq_order.specs.Uniting.{CanUnite, Stepped}
 use Rattle.hq_order.proofs.Single.{count}
 use Rattle.hq_order.proofs.before.following.Goals as goal
 
-pub all_unions-requires-clause-width : goal.all_unions-requires-clause-width
-all_unions-requires-clause-width c = λ k l.
+pub unions_if_many-requires-clause-width : goal.unions_if_many-requires-clause-width
+unions_if_many-requires-clause-width c = λ k l.
     let some = c.requires.rounds.some in
     let rounds = c.args.rounds.now in
     let square = subst (IsSquare (length c.args.job.now.packets)) (sym c.last_rows-rows.ensures) (subst (λ n. IsSquare n (last rounds)) (count c.args.job.now) (c.requires.rounds.square (length rounds - 1) (omega arith))) in
@@ -22,12 +22,12 @@ next_rows-requires-clause-square c =
 
 pub next_rows-requires-clause-unions : goal.next_rows-requires-clause-unions
 next_rows-requires-clause-unions c =
-    subst (λ unions. AreUnions c.last_rows-rows.result.now (words_for (length c.args.job.now.packets)) unions) (sym c.deref.ensures.value)
-    (subst (λ words. AreUnions c.last_rows-rows.result.now words c.in_ok-unions.unions.items) c.words_of.ensures.words c.in_ok-unions.ensures)
+    subst (λ unions. CanUnite c.last_rows-rows.result.now (words_for (length c.args.job.now.packets)) unions) (sym c.deref.ensures.value)
+    (subst (λ words. CanUnite c.last_rows-rows.result.now words c.in_ok-unions.unions.items) c.words_of.ensures.words c.in_ok-unions.ensures)
 
 pub next_rows-requires-clause-stepped : goal.next_rows-requires-clause-stepped
 next_rows-requires-clause-stepped c =
-    subst (λ rows. Stepped rows c.last_rows-rows.result.now c.args.renewed.now) (sym c.earlier_rows.ensures)
+    subst (λ rows. Stepped rows c.last_rows-rows.result.now c.args.renewed.now) (sym c.earlier_rows-earlier.ensures)
     (subst (λ rows. Stepped (earlier c.args.rounds.now) rows c.args.renewed.now) (sym c.last_rows-rows.ensures) c.requires.stepped)
 
 pub returns-clause-exact : goal.returns-clause-exact

@@ -3,7 +3,7 @@ use Rattle.std.proofs.lemmas.Bool.{cases_lt}
 use Rattle.hq_job.specs.Plan.{plan}
 use Rattle.hq_order.specs.Bits.{has}
 use Rattle.hq_order.specs.Matrix.{row, Marks, Grown}
-use Rattle.hq_order.specs.Uniting.{AreUnions, Through}
+use Rattle.hq_order.specs.Uniting.{CanUnite, Through}
 use Rattle.hq_order.specs.Rounds.{Next}
 use Rattle.hq_order.proofs.Single.{count}
 use Rattle.hq_order.proofs.Rows.{marked_below, grown_beyond}
@@ -23,7 +23,7 @@ pub next_row-requires-clause-unions : goal.next_row-requires-clause-unions
 next_row-requires-clause-unions c =
     let high = c.requires.square.height in
     let low = c.loop-r-test.true in
-    subst (λ words. AreUnions c.args.known.now.rows.now words c.args.known.now.unions.now) (sym (c.requires.square.width c.loop-r.r (omega arith))) c.requires.unions
+    subst (λ words. CanUnite c.args.known.now.rows.now words c.args.known.now.unions.now) (sym (c.requires.square.width c.loop-r.r (omega arith))) c.requires.unions
 
 pub loop-r-preserved : goal.loop-r-preserved
 loop-r-preserved c =

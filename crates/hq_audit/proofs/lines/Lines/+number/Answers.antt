@@ -1,4 +1,4 @@
-use Rattle.std.proofs.Common.{◌≡◌, ℕ, ◌<◌, ◌+◌, [], ◌∷◌, ◌++◌, Option, Some, length, sym, ◌∙◌, ap, subst, arith, map, take}
+use Rattle.std.proofs.Common.{◌≡◌, ℕ, ◌<◌, ◌+◌, [], ◌∷◌, ◌++◌, Option, Some, length, sym, ◌∙◌, ap, subst, arith, rules, map, take}
 use Rattle.std.specs.Prelude.{MatchOption}
 use Rattle.std.proofs.lemmas.Option.{MatchOption-at_some}
 use Rattle.hq_cert.specs.View.{cited}
@@ -16,8 +16,11 @@ use Rattle.hq_audit.proofs.lines.Lines.+number.Goals.{branches-in-Some+in_ok-bra
 lower : (job : Job) (round p s : ℕ) (o : Option ℕ) (d : ℕ) → MatchOption o ((d : ℕ) → ByBranch job round p s d → ⊥) (λ d. ByBranch job round p s d) → o ≡ Some d → (d ≡ p → ⊥) → Below job round p d
 lower job round p s o d h e ban = branch_before job round p s d (MatchOption-at_some ((d : ℕ) → ByBranch job round p s d → ⊥) (λ d. ByBranch job round p s d) d e h) ban
 
-pub branch-round_of-requires : goal.branch-round_of-requires
-branch-round_of-requires t c = below_before c.args.before.now c.args.round c.args.p c.unwrap-d.result (lower c.args.before.now c.args.round c.args.p c.args.signal c.branch_of.result c.unwrap-d.result c.branch_of.ensures c.unwrap-d.ensures c.if-d-p.false)
+pub branch-cited-requires : goal.branch-cited-requires
+branch-cited-requires t c = (
+  search rules,
+  (c.requires.kept, lower c.args.before.now c.args.round c.args.p c.args.signal c.branch_of.result c.unwrap-d.result c.branch_of.ensures c.unwrap-d.ensures c.if-d-p.false),
+)
 
 pub branches-loop-slot-preserved : goal.branches-loop-slot-preserved
 branches-loop-slot-preserved t c =
@@ -50,40 +53,37 @@ either-returns t c =
           (either_follows job c.args.self.now new c.args.p c.args.r slots c.in_ok-citations.citations.items (Below job c.args.round) c.requires.either same c.in_ok-citations.ensures);
     }
 
-pub number-returns-in-Some : goal.number-returns-in-Some
-number-returns-in-Some t c = record {
+pub cited-returns-in-Some : goal.cited-returns-in-Some
+cited-returns-in-Some t c = record {
   goes = goes_same c.args.before.now c.args.self.now c.requires.kept;
   says = c.in-Some.ensures.0;
   small = c.in-Some.ensures.1;
 }
 
-pub number-add-requires-clause-p_is : goal.number-add-requires-clause-p_is
-number-add-requires-clause-p_is t c =
+pub numbered-add-requires-clause-p_is : goal.numbered-add-requires-clause-p_is
+numbered-add-requires-clause-p_is t c =
     let low : c.args.p < length c.args.before.now.packets = within_first c.args.before.now c.args.round c.args.p c.args.r c.requires.first.within in
     let few = c.requires.kept.few in
     omega arith
 
-pub number-add-requires-clause-r_is : goal.number-add-requires-clause-r_is
-number-add-requires-clause-r_is t c =
+pub numbered-add-requires-clause-r_is : goal.numbered-add-requires-clause-r_is
+numbered-add-requires-clause-r_is t c =
     let low : c.args.r < length c.args.before.now.packets = within_second c.args.before.now c.args.round c.args.p c.args.r c.requires.first.within in
     let few = c.requires.kept.few in
     omega arith
 
-pub number-returns : goal.number-returns
-number-returns t c =
+pub numbered-returns : goal.numbered-returns
+numbered-returns t c =
     let w = c.requires.first.within in
     add_answers c.args.before.now c.args.self.now c.rule.new.self c.add.new.self c.args.p c.args.r c.in_ok-rule.rule c.add.result c.in_ok-rule.ensures.goes
     (within_first c.args.before.now c.args.round c.args.p c.args.r w) (within_second c.args.before.now c.args.round c.args.p c.args.r w) c.in_ok-rule.ensures.follows
     c.add.ensures.lines c.add.ensures.number c.add.ensures.small
 
-pub through-round_of-requires : goal.through-round_of-requires
-through-round_of-requires t c = below_before c.args.before.now c.args.round c.args.p c.args.m c.requires.middle.first
-
-pub through-round_of-requires-2 : goal.through-round_of-requires-2
-through-round_of-requires-2 t c = below_before c.args.before.now c.args.round c.args.m c.args.r c.requires.middle.second
+pub cited-round_of-requires : goal.cited-round_of-requires
+cited-round_of-requires t c = below_before c.args.before.now c.args.round c.args.p c.args.r c.requires.below
 
 pub through-returns : goal.through-returns
 through-returns t c = record {
-  goes = goes_more c.args.before.now c.args.self.now c.number.new.self c.number-2.new.self c.in_ok-first.ensures.goes c.in_ok-second.ensures.goes;
-  follows = through_follows c.args.before.now c.args.self.now c.number.new.self c.number-2.new.self c.args.p c.args.m c.args.r c.in_ok-first.first c.in_ok-second.second c.in_ok-first.ensures c.in_ok-second.ensures;
+  goes = goes_more c.args.before.now c.args.self.now c.cited.new.self c.cited-2.new.self c.in_ok-first.ensures.goes c.in_ok-second.ensures.goes;
+  follows = through_follows c.args.before.now c.args.self.now c.cited.new.self c.cited-2.new.self c.args.p c.args.m c.args.r c.in_ok-first.first c.in_ok-second.second c.in_ok-first.ensures c.in_ok-second.ensures;
 }

@@ -5,8 +5,8 @@ use Rattle.hq_order.proofs.Middles.{few_rows}
 use Rattle.hq_order.proofs.Single.{count}
 use Rattle.hq_order.proofs.before.Before.build.Goals as goal
 
-pub all_turned-requires : goal.all_turned-requires
-all_turned-requires c = λ k l.
+pub all_turned-requires-clause-few : goal.all_turned-requires-clause-few
+all_turned-requires-clause-few c = λ k l.
     let few : length (plan c.args.job.now).packets ≤ 1024 = omega (arith, c.valid.ensures.limits.packets, count c.args.job.now) in
     let rounds = subst (AreRounds (plan c.args.job.now)) (sym c.deref.ensures.value) c.in_ok-rounds.ensures.rounds in
     few_rows (plan c.args.job.now) c.deref.result.now k rounds few l

@@ -19,7 +19,7 @@ pub index-requires-2 : goal.index-requires-2
 index-requires-2 c =
     let view : order_of c.self.inside ≡ c.args.self.now = cc c.self.view_is in
     let low : c.args.round < length c.self.inside.rounds.items = first_low (order_of c.self.inside) c.self.inside.rounds.items c.args.round c.args.p c.args.r c.self.invariant.rounds c.self.invariant.closed (subst (λ job. IsFirstWithin job c.args.round c.args.p c.args.r) (sym view) c.requires.first) in
-    omega (arith, c.self.inside.columns.ok.0, c.self.invariant.turned.len)
+    omega (arith, c.self.inside.columns.ok.0, c.self.invariant.turned.len, c.if-round-eq0.false)
 
 pub between-requires-clause-turned : goal.between-requires-clause-turned
 between-requires-clause-turned c =
@@ -27,10 +27,10 @@ between-requires-clause-turned c =
     let k = c.args.round - 1 in
     let low : c.args.round < length c.self.inside.rounds.items = first_low (order_of c.self.inside) c.self.inside.rounds.items c.args.round c.args.p c.args.r c.self.invariant.rounds c.self.invariant.closed (subst (λ job. IsFirstWithin job c.args.round c.args.p c.args.r) (sym view) c.requires.first) in
     let here : k < length c.self.inside.rounds.items = omega arith in
-    let there : k < length c.self.inside.columns.items = omega (arith, c.self.invariant.turned.len) in
+    let there : k < length c.self.inside.columns.items = omega (arith, c.self.invariant.turned.len, c.if-round-eq0.false) in
     let rows = matrix_is c.self.inside.rounds.items k c.index.result.now here c.index.ensures ∙ sym c.deref.ensures.value in
     let table = row_is c.self.inside.columns.items k c.index-2.result.now there c.index-2.ensures ∙ sym c.deref-2.ensures.value in
-    subst (λ rs. Turned rs c.deref-2.result.now) rows (subst (λ t. Turned (matrix c.self.inside.rounds.items k) t) table (c.self.invariant.turned.each k here))
+    subst (λ rs. Turned rs c.deref-2.result.now) rows (subst (λ t. Turned (matrix c.self.inside.rounds.items k) t) table (c.self.invariant.turned.each k there))
 
 pub between-requires-clause-few : goal.between-requires-clause-few
 between-requires-clause-few c =

@@ -1,4 +1,4 @@
-use super::*;
+use hq_engines::{accept, audit_engine, pack_engine, replay_engine, show_engine};
 use std::io;
 use std::io::{Read, Write};
 use std::test::*;

@@ -2,7 +2,7 @@ use Rattle.std.proofs.Common.{◌↔◌, ◌⊎◌, ◌/◌, ◌%◌, ◌*◌, �
 use Rattle.hq_order.specs.Bits.{has}
 use Rattle.hq_order.specs.Matrix.{Grown}
 use Rattle.hq_order.specs.Uniting.{OfChoice}
-use Rattle.hq_order.proofs.gathering.unite_word.Given as goal
+use Rattle.hq_order.proofs.gathering.unite_groups.Given as goal
 
 abbrev pub invariant-loop-group : goal.invariant-loop-group
 invariant-loop-group l = record {

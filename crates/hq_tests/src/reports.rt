@@ -1,6 +1,6 @@
-use super::*;
 use hq_job::{JobFault, Reason};
 use hq_packet::PacketFault;
+use hq_report::{JobRefusal, PacketRefusal};
 use std::test::*;
 
 #[test]

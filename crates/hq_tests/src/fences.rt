@@ -1,4 +1,4 @@
-use super::*;
+use hq_fence::{Acquire, Kind, NotShown, Release, Shown, Why, judge};
 use hq_job::read_text;
 use hq_order::Before;
 use std::test::*;

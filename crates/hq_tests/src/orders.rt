@@ -1,5 +1,5 @@
-use super::*;
 use hq_job::read_text;
+use hq_order::{Before, OrderFault, schedule};
 use std::test::*;
 
 #[test]

@@ -1,4 +1,4 @@
-use super::*;
+use hq_words::{Asked, WordsFault, command_of};
 use std::test::*;
 
 #[test]

@@ -1,6 +1,6 @@
 ghost use Rattle.std.specs.Prelude.{◌≡◌, length, IsTrue};
 
-use super::*;
+use hq_copies::{Copies, CopiesFault};
 use hq_packet::Scope;
 use std::test::*;
 

@@ -1,4 +1,4 @@
-use super::*;
+use hq_job::{JobFault, Reason, read, read_text};
 use std::io;
 use std::io::Read;
 use std::test::*;

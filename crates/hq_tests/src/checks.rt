@@ -1,5 +1,5 @@
-use super::*;
 use hq_cert::{Certificate, Fences, Line, Pair, Rule};
+use hq_certcheck::{CheckNo, check, check_wide};
 use hq_job::read_text;
 use std::test::*;
 

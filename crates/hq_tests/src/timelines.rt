@@ -1,5 +1,5 @@
-use super::*;
 use hq_machine::{Event, Journal};
+use hq_timeline::{TimeFault, TimeReason, parse, print};
 use std::alloc::Global;
 use std::process::Abort;
 use std::test::*;

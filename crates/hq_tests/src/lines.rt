@@ -1,5 +1,5 @@
-use super::*;
 use hq_footprint::Code;
+use hq_lines::{Line, LineFault, Version, first_line, line_behind_end, read_line};
 use hq_packet::{Packet, PacketFault};
 use hq_text::Name;
 use std::alloc::Global;

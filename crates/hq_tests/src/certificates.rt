@@ -1,4 +1,4 @@
-use super::*;
+use hq_cert::{CertFault, CertReason, Citation, ReadFault, parse, print, read};
 use std::alloc::Global;
 use std::io;
 use std::io::Read;

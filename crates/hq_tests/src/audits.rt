@@ -1,4 +1,4 @@
-use super::*;
+use hq_audit::{AuditNo, Kind, Why, audit};
 use hq_cert::{Fences, Rule};
 use hq_job::read_text;
 use std::test::*;

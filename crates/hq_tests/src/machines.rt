@@ -1,8 +1,8 @@
 ghost use Rattle.hq_job.specs.Plan.{plan};
 ghost use Rattle.hq_machine.specs.View.{IsStateOf};
 
-use super::*;
 use hq_job::{Job, read_text};
+use hq_machine::{Event, Journal, State, StepFault};
 use std::alloc::{AllocError, Global};
 use std::test::*;
 

@@ -3,7 +3,7 @@ use Rattle.hq_order.specs.Bits.{has}
 use Rattle.hq_order.specs.Uniting.{OfChoice}
 use Rattle.hq_order.proofs.Rows.{grown_more, gather_more}
 use Rattle.hq_order.proofs.Gathered.{word_done}
-use Rattle.hq_order.proofs.gathering.unite_word.Goals as goal
+use Rattle.hq_order.proofs.gathering.unite_groups.Goals as goal
 
 pub loop-group-preserved : goal.loop-group-preserved
 loop-group-preserved c = record {
