@@ -2,7 +2,7 @@
 use Rattle.std.proofs.Common.{◌≡◌, ℕ, zero, suc, ◌+◌, ◌<◌, ◌≤◌, ◌↔◌, inl, inr, List, [], ◌∷◌, ◌++◌, Bool, false, Option, Some, None, is_some, Result, Ok, Err, IfErr, length, map, filter, count_by, replicate, set, get_or, slice_index, refl, sym, ◌∙◌, ap, subst, arith, length-set, get_or-set_same, get_or-set_other}
 use Rattle.std.specs.Result.{IsErrAnd}
 use Rattle.std.proofs.lemmas.Bool.{cases_eq, cases_lt, cases_Bool, cond-true, cond-false, true≢false}
-use Rattle.std.proofs.lemmas.List.{get_or_past, length-replicate, map-append}
+use Rattle.std.proofs.lemmas.List.{get_or_past, get_or_default, get_or-map, length-map, length-replicate, map-append, same_lists}
 use Rattle.std.proofs.lemmas.List.Sums.{length-filter}
 use Rattle.hq_model.specs.Job.{Job, packet, IsPacket}
 use Rattle.hq_model.specs.Order.{In}
@@ -138,21 +138,46 @@ fetched_more job v p n value row k may f few is =
       rest = λ j l. get_or-set_other row n j (Some value) None (omega arith) ∙ f.rest j (omega arith);
     }
 
--- what fetches may find, up to n
-fetched_rows : (job : Job) (v : StateValue) (p : ℕ) → IsStateOf job v → MayFetch job (state_of job v) p → 0 < length (packet job p).reads → (n : ℕ) → n ≤ length (packet job p).reads → (row : List (Option ℕ)) × FetchedUpTo job v p n row
-fetched_rows job v p k may some zero l = (empty, fetched_first job v p empty k may some (length-replicate (length (packet job p).reads) None) (λ j. of_replicate (length (packet job p).reads) j None))
+-- what fetches may find, up to n: what is seen
+abbrev pub FetchedRow : Job → StateValue → ℕ → ℕ → Type 0
+FetchedRow job v p n = (row : List (Option ℕ)) × (FetchedUpTo job v p n row × ((i : ℕ) → i < n → get_or row i None ≡ Some (lane_sees job (state_of job v) p (slice_index (packet job p).reads i))))
+
+fetched_rows : (job : Job) (v : StateValue) (p : ℕ) → IsStateOf job v → MayFetch job (state_of job v) p → 0 < length (packet job p).reads → (n : ℕ) → n ≤ length (packet job p).reads → FetchedRow job v p n
+fetched_rows job v p k may some zero l = (empty, (fetched_first job v p empty k may some (length-replicate (length (packet job p).reads) None) (λ j. of_replicate (length (packet job p).reads) j None), λ i low. absurd (omega arith)))
   where
     empty : List (Option ℕ)
     empty = replicate (length (packet job p).reads) None
 fetched_rows job v p k may some (suc n) l =
-    let (row, f) = fetched_rows job v p k may some n (omega arith) in
+    let (row, (f, old)) = fetched_rows job v p k may some n (omega arith) in
     let e : n + 1 ≡ suc n = omega arith in
-    (set row n (Some (lane_sees job (state_of job v) p (slice_index (packet job p).reads n))), subst (λ m. FetchedUpTo job v p m (set row n (Some (lane_sees job (state_of job v) p (slice_index (packet job p).reads n))))) e (fetched_more job v p n (lane_sees job (state_of job v) p (slice_index (packet job p).reads n)) row k may f (omega arith) refl))
+    let value : ℕ = lane_sees job (state_of job v) p (slice_index (packet job p).reads n) in
+    let high : n < length row = omega (arith, f.whole, l) in
+    (set row n (Some value), (
+      subst (λ m. FetchedUpTo job v p m (set row n (Some value))) e (fetched_more job v p n value row k may f (omega arith) refl),
+      λ i low. elim (cases_eq i n) [
+        | inl same ↦ ap (λ m. get_or (set row n (Some value)) m None) same ∙ get_or-set_same row n (Some value) None high ∙ ap (λ m. Some (lane_sees job (state_of job v) p (slice_index (packet job p).reads m))) (sym same)
+        | inr apart ↦ get_or-set_other row n i (Some value) None apart ∙ old i (omega arith)
+      ],
+    ))
 
 pub fetch_possible : (job : Job) (v : StateValue) (p : ℕ) → IsStateOf job v → IsPacket job p → MayFetch job (state_of job v) p → 0 < length (packet job p).reads → Possible job v (Fetch p)
 fetch_possible job v p k there may some =
-    let (row, f) = fetched_rows job v p k may some (length (packet job p).reads) (omega arith) in
+    let (row, (f, all)) = fetched_rows job v p k may some (length (packet job p).reads) (omega arith) in
     (state_of job (rereading v p row), (there, f.steps))
+
+-- all that is seen, read in order
+pub fetched_whole : (job : Job) (v : StateValue) (p : ℕ) (bytes : List ℕ) → IsStateOf job v → MayFetch job (state_of job v) p → 0 < length (packet job p).reads → bytes ≡ map (lane_sees job (state_of job v) p) (packet job p).reads
+    → FetchedUpTo job v p (length (packet job p).reads) (map Some bytes)
+fetched_whole job v p bytes k may some e =
+    let sees = lane_sees job (state_of job v) p in
+    let reads = (packet job p).reads in
+    let (row, (f, all)) = fetched_rows job v p k may some (length reads) (omega arith) in
+    let count : length bytes ≡ length reads = ap length e ∙ length-map reads sees in
+    let len : length row ≡ length (map Some bytes) = f.whole ∙ sym count ∙ sym (length-map bytes Some) in
+    let each : (i : ℕ) (d : Option ℕ) → i < length row → get_or row i d ≡ get_or (map Some bytes) i d = λ i d low.
+        let below : i < length reads = omega (arith, low, f.whole) in
+        get_or_default row i d None low ∙ all i below ∙ ap Some (sym (ap (λ (xs : List ℕ). get_or xs i 0) e ∙ get_or-map sees reads i 0 0 below)) ∙ sym (get_or-map Some bytes i 0 d (omega (arith, below, count))) in
+    subst (FetchedUpTo job v p (length reads)) (same_lists row (map Some bytes) len each) f
 
 not_some : (o : Option ℕ) → is_some o ≡ false → o ≡ None
 not_some None e = refl

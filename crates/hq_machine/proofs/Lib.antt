@@ -22,3 +22,4 @@ pub mod Released
 pub mod FenceBacks
 pub mod Delivered
 pub mod Filled
+pub mod Wholes

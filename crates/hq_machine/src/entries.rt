@@ -86,12 +86,7 @@ impl State {
         ensures { IfOk result (λ row. FetchedUpTo (plan job.now) self.now packet (length (packet_of (plan job.now) packet).reads) row) }
     {
         let bytes = self.bytes_to_read(job, packet)?;
-        let mut row = Reads::new(self.allocator());
-        row.open(bytes.len())?;
-        for (entry, byte) in bytes.iter().enumerate() {
-            row.set(entry, *byte);
-        }
-        Ok(row)
+        Ok(Reads::all(self.allocator(), bytes))
     }
 
     /// The packet has read this row.
@@ -171,7 +166,7 @@ impl State {
     {
         job.valid();
         let first = first_write(job, packet);
-        let stores = Stores::whole(self.allocator(), bytes)?;
+        let stores = Stores::whole(self.allocator(), bytes);
         match self.copies.store_run(packet, first, stores.bytes()) {
             Ok(()) => {
                 self.put_stores(packet, stores);

@@ -9,37 +9,63 @@ use std::marker::Model;
 /// The bytes that a packet has read; takes no memory before the first.
 #[derive(Drop)]
 pub struct Reads {
+    /// All of them, where they were read at once.
+    whole: Vec<u8>,
+    /// Else each entry by itself.
     bytes: Vec<Option<u8>>,
     count: usize,
 }
 
 impl Model for Reads {
-    ghost use Rattle.std.specs.Prelude.{◌≡◌, ℕ, List, Option, count_by, is_some};
+    ghost use Rattle.std.specs.Prelude.{List, Option, ℕ};
+    ghost use Rattle.hq_machine.specs.Rows.{entries_read, AreReads};
 
     ghost Value = { List (Option ℕ) };
 
-    ghost view = { λ r. r.bytes.items };
+    ghost view = { entries_read };
 
-    ghost invariant = { λ r. r.count ≡ count_by is_some r.bytes.items };
+    ghost invariant = { AreReads };
 }
 
 impl Reads {
-    ghost use Rattle.std.specs.Prelude.{[], count_by, is_some};
+    ghost use Rattle.std.specs.Prelude.{[], count_by, is_some, map};
 
     /// Nothing read.
     pub fn new(alloc: Global) -> Reads
         ensures { result ≡ [] }
     {
         Reads {
+            whole: Vec::new(alloc),
             bytes: Vec::new(alloc),
             count: 0,
         }
+    }
+
+    /// All of these read.
+    pub fn all(alloc: Global, bytes: Vec<u8>) -> Reads
+        ensures { result ≡ map Some bytes.items }
+    {
+        Reads {
+            whole: bytes,
+            bytes: Vec::new(alloc),
+            count: 0,
+        }
+    }
+
+    /// All bytes, where they were read at once; else none.
+    pub fn whole(&self) -> &[u8]
+        ensures { 0 < length result.now → self.now ≡ map Some result.now }
+    {
+        &self.whole
     }
 
     /// The byte of an entry, if it was read.
     pub fn get(&self, entry: usize) -> Option<u8>
         ensures { result ≡ slice_index_or self.now entry None }
     {
+        if let Some(byte) = self.whole.get(entry) {
+            return Some(*byte);
+        }
         match self.bytes.get(entry) {
             Some(byte) => *byte,
             None => None,
@@ -50,7 +76,11 @@ impl Reads {
     pub fn count(&self) -> usize
         ensures { result ≡ count_by is_some self.now }
     {
-        self.count
+        if self.whole.is_empty() {
+            self.count
+        } else {
+            self.whole.len()
+        }
     }
 
     /// Makes room for so many entries, where there is none yet.
@@ -60,7 +90,7 @@ impl Reads {
         ensures same { OnOk result ((i : ℕ) → slice_index_or self.new i None ≡ slice_index_or self.old i None) }
         ensures err { OnErr result (self.new ≡ self.old) }
     {
-        if self.bytes.is_empty() {
+        if self.whole.is_empty() && self.bytes.is_empty() {
             self.bytes.resize(total, None)?;
         }
         Ok(())
@@ -94,19 +124,20 @@ impl Reads {
 #[derive(Drop)]
 pub struct Stores {
     bytes: Vec<u8>,
+    /// Of each byte whether it is stored; nothing where all of them are.
     stored: Vec<bool>,
     count: usize,
 }
 
 impl Model for Stores {
-    ghost use Rattle.std.specs.Prelude.{◌≡◌, count_by};
     ghost use Rattle.hq_machine.specs.State.{StoresValue};
+    ghost use Rattle.hq_machine.specs.Rows.{value_of_stores, AreStoresOf};
 
     ghost Value = { StoresValue };
 
-    ghost view = { λ s. record { bytes = s.bytes.items; stored = s.stored.items } };
+    ghost view = { value_of_stores };
 
-    ghost invariant = { λ s. s.count ≡ count_by (λ b. b) s.stored.items };
+    ghost invariant = { AreStoresOf };
 }
 
 impl Stores {
@@ -137,17 +168,14 @@ impl Stores {
     }
 
     /// These bytes, all of them stored.
-    #[tactic(auto, using(crate::proofs::Delivered::all_counted))]
-    pub fn whole(alloc: Global, bytes: Vec<u8>) -> Result<Stores, AllocError>
-        ensures { IfOk result (λ s. s ≡ record { bytes = bytes.items; stored = replicate (length bytes.items) true }) }
+    pub fn whole(alloc: Global, bytes: Vec<u8>) -> Stores
+        ensures { result ≡ record { bytes = bytes.items; stored = replicate (length bytes.items) true } }
     {
-        let count = bytes.len();
-        let stored = vec![in alloc; true; count]?;
-        Ok(Stores {
+        Stores {
             bytes,
-            stored,
-            count,
-        })
+            stored: Vec::new(alloc),
+            count: 0,
+        }
     }
 
     /// The bytes.
@@ -161,7 +189,7 @@ impl Stores {
     pub fn is_empty(&self) -> bool
         ensures { IsTrue result ↔ (length self.now.stored ≡ 0) }
     {
-        self.stored.is_empty()
+        self.bytes.is_empty()
     }
 
     /// A byte that the packet stores.
@@ -176,6 +204,9 @@ impl Stores {
     pub fn is_stored(&self, entry: usize) -> bool
         ensures { result ≡ slice_index_or self.now.stored entry false }
     {
+        if self.stored.is_empty() {
+            return entry < self.bytes.len();
+        }
         match self.stored.get(entry) {
             Some(stored) => *stored,
             None => false,
@@ -186,7 +217,11 @@ impl Stores {
     pub fn count(&self) -> usize
         ensures { result ≡ count_by (λ b. b) self.now.stored }
     {
-        self.count
+        if self.stored.is_empty() {
+            self.bytes.len()
+        } else {
+            self.count
+        }
     }
 
     /// The byte is stored.

@@ -1,6 +1,6 @@
 //! Stores.
 
-ghost use Rattle.std.specs.Prelude.{◌≡◌, ◌<◌, ◌↔◌, ℕ, IsTrue, length, IfOk, IfErr, OnOk, OnErr, MatchOption, slice_index, slice_index_or, unwrap_or, false, All};
+ghost use Rattle.std.specs.Prelude.{◌≡◌, ◌<◌, ◌↔◌, ℕ, IsTrue, length, IfOk, IfErr, OnOk, OnErr, MatchOption, slice_index, slice_index_or, unwrap_or, false, All, Some, map};
 ghost use Rattle.hq_copies.specs.Copies.{stored};
 ghost use Rattle.hq_footprint.specs.Tasks.{Suits, result_of};
 ghost use Rattle.hq_job.specs.Plan.{plan};
@@ -67,6 +67,14 @@ impl State {
         Ok(bytes)
     }
 
+    /// All bytes that a packet has read, where it read them at once; else none.
+    fn whole_reads(&self, packet: usize) -> &[u8]
+        requires { packet < length self.now.reads }
+        ensures { 0 < length result.now → row_of self.now.reads packet ≡ map Some result.now }
+    {
+        self.reads[packet].whole()
+    }
+
     /// The bytes that the packet's task makes of those that it has read.
     #[tactic(auto, using(crate::proofs::StoreMoves::length_listed))]
     pub(crate) fn task_bytes(&self, job: &Job, packet: usize) -> Result<Vec<u8>, AllocError>
@@ -75,9 +83,14 @@ impl State {
         ensures bytes { IfOk result (λ bytes. bytes.items ≡ bytes_stored (plan job.now) (state_of (plan job.now) self.now) packet) }
         ensures count { IfOk result (λ bytes. length bytes.items ≡ length (packet_of (plan job.now) packet).writes) }
     {
-        let reads = self.bytes_read(job, packet)?;
+        let task = task_of(job, packet);
         let count = write_count(job, packet);
-        evaluated(self.allocator(), task_of(job, packet), &reads, count)
+        let whole = self.whole_reads(packet);
+        if !whole.is_empty() {
+            return evaluated(self.allocator(), task, whole, count);
+        }
+        let reads = self.bytes_read(job, packet)?;
+        evaluated(self.allocator(), task, &reads, count)
     }
 
     /// Whether a packet hasn't stored a byte.

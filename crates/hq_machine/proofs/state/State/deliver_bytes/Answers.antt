@@ -15,13 +15,13 @@ returns-in-Ok-clause-ok c =
     let first = c.first_write-first.result in
     let items = c.args.bytes.items in
     let whole : StoresValue = record { bytes = items; stored = replicate (length items) true } in
-    let stores : c.in_ok-stores.stores ≡ whole = c.in_ok-stores.ensures in
+    let stores : c.whole-stores.result ≡ whole = c.whole-stores.ensures in
     let copies : c.self.inside.copies ≡ v.copies = ap (λ (x : StateValue). x.copies) c.self.view_is in
     let given = c.bytes.ensures ∙ ap (λ (s : StoresValue). s.bytes) stores in
     let run : c.store_run.new.self ≡ stored_run v.copies p first items = c.in-Ok.ensures.ok ∙ ap₂ (λ (x : CopiesValue) bs. stored_run x p first bs) copies given in
     let new : c.put_stores.new.self ≡ restored v p whole (stored_run v.copies p first items) =
     c.put_stores.ensures
-    ∙ ap (λ (x : StateValue). restored x p c.in_ok-stores.stores c.store_run.new.self) c.self.view_is
+    ∙ ap (λ (x : StateValue). restored x p c.whole-stores.result c.store_run.new.self) c.self.view_is
     ∙ ap₂ (λ (s : StoresValue) (k : CopiesValue). restored v p s k) stores run in
     subst (Applied job v (Deliver p)) (sym new)
     (delivered_all job v p first items c.valid.ensures.valid c.requires.is c.requires.packet c.requires.may c.requires.some c.requires.bytes c.requires.count c.first_write-first.ensures.at)
