@@ -151,14 +151,16 @@ fetched_rows job v p k may some (suc n) l =
     let (row, (f, old)) = fetched_rows job v p k may some n (omega arith) in
     let e : n + 1 ≡ suc n = omega arith in
     let value : ℕ = lane_sees job (state_of job v) p (slice_index (packet job p).reads n) in
-    let high : n < length row = omega (arith, f.whole, l) in
-    (set row n (Some value), (
-      subst (λ m. FetchedUpTo job v p m (set row n (Some value))) e (fetched_more job v p n value row k may f (omega arith) refl),
-      λ i low. elim (cases_eq i n) [
-        | inl same ↦ ap (λ m. get_or (set row n (Some value)) m None) same ∙ get_or-set_same row n (Some value) None high ∙ ap (λ m. Some (lane_sees job (state_of job v) p (slice_index (packet job p).reads m))) (sym same)
-        | inr apart ↦ get_or-set_other row n i (Some value) None apart ∙ old i (omega arith)
-      ],
-    ))
+    let high : n < length row = omega (arith, f.whole, l) in (
+      set row n (Some value),
+      (
+        subst (λ m. FetchedUpTo job v p m (set row n (Some value))) e (fetched_more job v p n value row k may f (omega arith) refl),
+        λ i low. elim (cases_eq i n) [
+          | inl same ↦ ap (λ m. get_or (set row n (Some value)) m None) same ∙ get_or-set_same row n (Some value) None high ∙ ap (λ m. Some (lane_sees job (state_of job v) p (slice_index (packet job p).reads m))) (sym same)
+          | inr apart ↦ get_or-set_other row n i (Some value) None apart ∙ old i (omega arith)
+        ],
+      ),
+    )
 
 pub fetch_possible : (job : Job) (v : StateValue) (p : ℕ) → IsStateOf job v → IsPacket job p → MayFetch job (state_of job v) p → 0 < length (packet job p).reads → Possible job v (Fetch p)
 fetch_possible job v p k there may some =
@@ -175,8 +177,8 @@ fetched_whole job v p bytes k may some e =
     let count : length bytes ≡ length reads = ap length e ∙ length-map reads sees in
     let len : length row ≡ length (map Some bytes) = f.whole ∙ sym count ∙ sym (length-map bytes Some) in
     let each : (i : ℕ) (d : Option ℕ) → i < length row → get_or row i d ≡ get_or (map Some bytes) i d = λ i d low.
-        let below : i < length reads = omega (arith, low, f.whole) in
-        get_or_default row i d None low ∙ all i below ∙ ap Some (sym (ap (λ (xs : List ℕ). get_or xs i 0) e ∙ get_or-map sees reads i 0 0 below)) ∙ sym (get_or-map Some bytes i 0 d (omega (arith, below, count))) in
+    let below : i < length reads = omega (arith, low, f.whole) in
+    get_or_default row i d None low ∙ all i below ∙ ap Some (sym (ap (λ (xs : List ℕ). get_or xs i 0) e ∙ get_or-map sees reads i 0 0 below)) ∙ sym (get_or-map Some bytes i 0 d (omega (arith, below, count))) in
     subst (FetchedUpTo job v p (length reads)) (same_lists row (map Some bytes) len each) f
 
 not_some : (o : Option ℕ) → is_some o ≡ false → o ≡ None
