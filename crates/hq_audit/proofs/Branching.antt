@@ -8,7 +8,7 @@ use Rattle.hq_cert.specs.declared.certificate.Rule.{Rule}
 use Rattle.hq_cert.specs.View.{cited, rule_of}
 use Rattle.hq_model.specs.Job.{Job, packet, IsPacket, Decrements}
 use Rattle.hq_model.specs.Certificate as model
-use Rattle.hq_model.specs.Certificate.{Says, Cites, Follows, signals}
+use Rattle.hq_model.specs.Certificate.{Cites, Follows, signals}
 use Rattle.hq_model.specs.Certificate.Rule.{Or as ByOr, Through as ByThrough}
 use Rattle.hq_order.specs.Rounds.{ByEither}
 use Rattle.hq_audit.specs.declared.lines.Lines.{Lines}

@@ -11,7 +11,7 @@ use Rattle.hq_model.specs.Order.{OrderList}
 use Rattle.hq_model.specs.Fence.{Conflict, Conflicts, Ordered}
 use Rattle.hq_model.specs.Fence.Conflict.{WriteRead, WriteWrite, ReadWrite}
 use Rattle.hq_model.specs.Certificate as model
-use Rattle.hq_model.specs.Certificate.{Certificate, CertHolds, HasPairs, FencesHold}
+use Rattle.hq_model.specs.Certificate.{Certificate, CertHolds, HasPairs}
 use Rattle.hq_audit.specs.declared.fault.AuditNo.{AuditNo}
 use Rattle.hq_audit.specs.declared.fault.AuditNo.TheVariants as audit
 use Rattle.hq_audit.specs.declared.directed.Unshown.{Unshown}

@@ -16,7 +16,7 @@ use Rattle.hq_model.specs.Job.{Job, IsPacket}
 use Rattle.hq_model.specs.Fence.{Conflict, Conflicts}
 use Rattle.hq_model.specs.Fence.Conflict.{WriteRead, WriteWrite, ReadWrite}
 use Rattle.hq_model.specs.Certificate as model
-use Rattle.hq_model.specs.Certificate.{FencesHold, kind_of}
+use Rattle.hq_model.specs.Certificate.{FencesHold}
 use Rattle.hq_audit.specs.declared.directed.Directed.{Directed}
 use Rattle.hq_audit.specs.declared.directed.Unshown.{Unshown}
 use Rattle.hq_audit.specs.declared.lines.Lines.{Lines}

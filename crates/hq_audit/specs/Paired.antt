@@ -8,7 +8,7 @@ use Rattle.std.specs.Global.{Vec}
 use Rattle.hq_model.specs.Job.{Job, IsPacket}
 use Rattle.hq_model.specs.Fence.{Conflict, Conflicts}
 use Rattle.hq_model.specs.Certificate as model
-use Rattle.hq_model.specs.Certificate.{Says, Cites, FencesHold, ReleaseHolds, AcquireHolds, kind_of}
+use Rattle.hq_model.specs.Certificate.{Cites, FencesHold, ReleaseHolds, AcquireHolds, kind_of}
 use Rattle.hq_fence.specs.Judgement.{end_of, first_of}
 use Rattle.hq_fence.specs.declared.shown.Release.{Release}
 use Rattle.hq_fence.specs.declared.shown.Shown.{Shown}

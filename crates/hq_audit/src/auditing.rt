@@ -1,6 +1,6 @@
 //! The audit of a job.
 
-ghost use Rattle.std.specs.Prelude.{◌≡◌, ℕ, IfOk, IfErr, IsOk};
+ghost use Rattle.std.specs.Prelude.{◌≡◌, IfOk, IfErr, IsOk};
 ghost use Rattle.hq_job.specs.Plan.{plan};
 ghost use Rattle.hq_model.specs.Certificate.{CertHolds};
 ghost use Rattle.hq_model.specs.Fence.{Ordered};

@@ -1,6 +1,6 @@
 //! Two packets in the direction in which they are ordered.
 
-ghost use Rattle.std.specs.Prelude.{◌<◌, ◌≤◌, MatchResult, length};
+ghost use Rattle.std.specs.Prelude.{◌<◌, MatchResult, length};
 ghost use Rattle.hq_audit.specs.Refused.{IsDirected, IsUnshown};
 
 use hq_fence::{NotShown, Shown, judge};

@@ -5,7 +5,7 @@ ghost use Rattle.hq_job.specs.Plan.{plan, kind_of};
 ghost use Rattle.hq_model.specs.Job.{IsPacket, Decrements};
 ghost use Rattle.hq_model.specs.Job.Kind.{Work};
 ghost use Rattle.hq_order.specs.Rounds.{IsFirstWithin, Reaches, ByEither};
-ghost use Rattle.hq_audit.specs.Rests.{Below, ByBit, ByQueue, BySlot, ByBranch, ByMiddle, IsGround};
+ghost use Rattle.hq_audit.specs.Rests.{Below, ByBit, ByQueue, BySlot, ByBranch, IsGround};
 
 use hq_job::{Job, Placed};
 use hq_order::Before;

@@ -1,10 +1,9 @@
 //! The lines of a certificate, gathered.
 
-ghost use Rattle.std.specs.Prelude.{◌≡◌, ℕ, ◌+◌, ◌*◌, ◌^◌, ◌<◌, ◌≤◌, ◌++◌, ◌∷◌, [], All, IfOk, OnOk, MatchOption, Some, length, slice_get};
+ghost use Rattle.std.specs.Prelude.{◌≡◌, ℕ, ◌+◌, ◌*◌, ◌^◌, ◌<◌, ◌++◌, ◌∷◌, [], All, IfOk, OnOk, MatchOption, Some, length, slice_get};
 ghost use Rattle.hq_cert.specs.View.{rule_of};
 ghost use Rattle.hq_model.specs.Job.{packet};
 ghost use Rattle.hq_model.specs.Job.{IsPacket};
-ghost use Rattle.hq_model.specs.Job.Kind.{BarrierOr};
 ghost use Rattle.hq_model.specs.Certificate.{Says, signals};
 ghost use Rattle.hq_model.specs.Order as order;
 ghost use Rattle.hq_order.specs.Rounds.{IsFirstWithin, Reaches, ByEither};

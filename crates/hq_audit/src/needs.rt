@@ -1,6 +1,6 @@
 //! Which lines a certificate needs, and in which order.
 
-ghost use Rattle.std.specs.Prelude.{◌≡◌, ℕ, ◌+◌, ◌<◌, ◌≤◌, ◌↔◌, ◌≢◌, IsTrue, All, IfOk, OnOk, Some, length, slice_get, slice_index};
+ghost use Rattle.std.specs.Prelude.{◌≡◌, ℕ, ◌+◌, ◌<◌, ◌≤◌, All, IfOk, OnOk, Some, slice_get};
 ghost use Rattle.hq_model.specs.Job.{IsPacket};
 ghost use Rattle.hq_model.specs.Order as order;
 ghost use Rattle.hq_order.specs.Rounds.{IsFirstWithin, Reaches};

@@ -1,5 +1,5 @@
 -- A text that is taken in piece by piece.
-use Rattle.std.proofs.Common.{◌≡◌, ℕ, ◌+◌, ◌<◌, ◌⊎◌, inl, inr, Bool, true, false, cond, List, [], ◌∷◌, ◌++◌, length, take, drop, Option, Some, None, refl, sym, ap, subst, ◌∙◌, append_assoc, append-nil, length-append, arith, eqb}
+use Rattle.std.proofs.Common.{◌≡◌, ℕ, ◌+◌, ◌<◌, ◌⊎◌, inl, inr, Bool, true, false, cond, List, [], ◌∷◌, ◌++◌, length, take, drop, Option, Some, None, refl, sym, ap, subst, ◌∙◌, append_assoc, append-nil, length-append, arith}
 use Rattle.std.specs.Prelude.{slice_index, IfSome, IfErr, MatchOption, OnOk, Result, Ok, Err, is_some}
 use Rattle.std.specs.List.{slice_split, onto_first}
 use Rattle.std.proofs.lemmas.Bool.{eqb-true}
@@ -12,7 +12,8 @@ use Rattle.hq_cert.specs.DraftView.{state_of}
 use Rattle.hq_cert.specs.Gives.{LineFault, no_memory}
 use Rattle.hq_cert.specs.SoFar.{EndsLine, HasTaken, Holds, Stays}
 use Rattle.hq_cert.specs.TextFaults.{State, start, AdmitsAll, FirstFault, faulty, at_line}
-use Rattle.hq_cert.proofs.Cuts.{Parts, parts_of, without, onto_first_of, parts_behind}
+use Rattle.hq_text.proofs.Cuts.{Parts, parts_of, without}
+use Rattle.hq_cert.proofs.Cuts.{onto_first_of, parts_behind}
 use Rattle.hq_cert.proofs.Taking.{admits_both}
 
 -- ---- the lines of a text behind whole lines

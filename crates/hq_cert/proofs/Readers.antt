@@ -5,7 +5,6 @@ use Rattle.hq_text.specs.Lines.{lines_of}
 use Rattle.hq_text.specs.Turns.{Turn, Gives, ReadTurn}
 use Rattle.hq_text.proofs.Taken.{taken_consumes, taken_at_end, known_text, any_known}
 use Rattle.hq_model.specs.Certificate as model
-use Rattle.hq_cert.specs.declared.fault.CertFault.{CertFault}
 use Rattle.hq_cert.specs.declared.reader.ReadFault.{ReadFault}
 use Rattle.hq_cert.specs.declared.reader.ReadFault.TheVariants.{Reader, Text}
 use Rattle.hq_cert.specs.declared.reader.Reading.{Reading}

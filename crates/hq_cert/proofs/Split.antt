@@ -13,7 +13,7 @@ use Rattle.hq_model.specs.Certificate.Rule.{Bit, Queue, And, Or, Through}
 use Rattle.hq_model.specs.Certificate.Fences.{ForReadWrite, ForWriteWrite, ForWriteRead, ForWriteWriteChained, ForWriteReadChained}
 use Rattle.hq_cert.specs.Grammar.{IsSmall, IsCited, citation_word, rule_words, line_words, lines_words, fences_words, pair_words, certificate_words, RuleFits, LineFits, LinesFit, FencesFit, PairFits, CertificateFits, CertText}
 use Rattle.hq_cert.specs.Printed.{spaced, line_text, lines_text, has_chain, text_of}
-use Rattle.hq_cert.proofs.Cuts.{parts_of, without}
+use Rattle.hq_text.proofs.Cuts.{parts_of, without}
 use Rattle.hq_cert.proofs.Parts.{SmallCited, small_of}
 
 -- neither a space nor a line feed

@@ -1,6 +1,6 @@
 //! A certificate as far as it is read.
 
-ghost use Rattle.std.specs.Prelude.{◌≡◌, ◌&&◌, ◌^◌, ◌<◌, true, false, map, length, IfOk, IfErr, Ok};
+ghost use Rattle.std.specs.Prelude.{◌≡◌, ◌&&◌, ◌<◌, true, false, map, length, IfOk, IfErr, Ok};
 ghost use Rattle.hq_cert.specs.LineTests.{head_said, order_said};
 ghost use Rattle.hq_cert.specs.TextFaults.{start, add_head, add_order, add_line, add_pair, add_end, add_behind, add_content, added, is_ended, read_of};
 ghost use Rattle.hq_cert.specs.DraftView.{state_of};

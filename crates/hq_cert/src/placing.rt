@@ -1,6 +1,6 @@
 //! Texts put at a place in a buffer that has room for them. Each function answers where the text ends.
 
-ghost use Rattle.std.specs.Prelude.{◌≡◌, ◌+◌, ◌<◌, ◌≤◌, ◌^◌, ◌∷◌, [], ◌++◌, codes, length, take};
+ghost use Rattle.std.specs.Prelude.{◌≡◌, ◌+◌, ◌<◌, ◌≤◌, ◌∷◌, [], ◌++◌, codes, length, take};
 ghost use Rattle.std.specs.Fmt.{decimal};
 ghost use Rattle.hq_cert.specs.Grammar.{citation_word, fences_words, pair_words, head_words};
 ghost use Rattle.hq_cert.specs.Printed.{spaced, line_text};

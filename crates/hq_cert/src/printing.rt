@@ -1,10 +1,10 @@
 //! Certificates to texts.
 
-ghost use Rattle.std.specs.Prelude.{◌≡◌, ◌+◌, ◌≤◌, ◌∷◌, [], ◌++◌, map, IfOk, OnOk, Err, length, take, codes};
+ghost use Rattle.std.specs.Prelude.{◌≡◌, ◌+◌, ◌≤◌, ◌∷◌, [], ◌++◌, map, IfOk, OnOk, Err, length, codes};
 ghost use Rattle.std.specs.Fmt.{decimal};
 ghost use Rattle.std.specs.List.{list_any};
 ghost use Rattle.std.specs.Io.KnownBytes.{Appends};
-ghost use Rattle.hq_cert.specs.Grammar.{citation_word, rule_words, line_words, head_words, order_words, lines_words, pair_words};
+ghost use Rattle.hq_cert.specs.Grammar.{citation_word, rule_words, head_words, order_words, lines_words, pair_words};
 ghost use Rattle.hq_cert.specs.Printed.{is_chain, has_chain, spaced, line_text, lines_text, text_of};
 ghost use Rattle.hq_cert.specs.Gains.{Gains};
 ghost use Rattle.hq_cert.specs.View.{cited, fences_of, rule_of, line_of, pair_of};

@@ -1,6 +1,6 @@
 //! A certificate's text, taken in piece by piece.
 
-ghost use Rattle.std.specs.Prelude.{◌≡◌, ℕ, ◌+◌, ◌<◌, ◌≤◌, ◌⊎◌, ◌++◌, List, [], length, take, IfOk, IfErr, IfSome, OnOk};
+ghost use Rattle.std.specs.Prelude.{◌≡◌, ℕ, ◌+◌, ◌<◌, ◌≤◌, ◌⊎◌, ◌++◌, List, [], length, take, IfErr, IfSome, OnOk};
 ghost use Rattle.hq_text.specs.Lines.{lines_of};
 ghost use Rattle.hq_cert.specs.Gives.{LineFault, ReadOf, no_memory};
 ghost use Rattle.hq_cert.specs.SoFar.{EndsLine, HasTaken, Holds, Stays};

@@ -1,9 +1,9 @@
 //! Certificates from readers.
 
-ghost use Rattle.std.specs.Prelude.{◌≡◌, ℕ, ◌≤◌, ◌⊎◌, ◌++◌, List, [], IfOk, IfErr, IfSome, MatchOption};
+ghost use Rattle.std.specs.Prelude.{◌≡◌, ℕ, ◌⊎◌, ◌++◌, List, [], IfOk, IfErr, IfSome, MatchOption};
 ghost use Rattle.hq_model.specs.Certificate as model;
 ghost use Rattle.hq_text.specs.Lines.{lines_of};
-ghost use Rattle.hq_text.specs.Turns.{Turn, Fails, Passes, ReadTurn};
+ghost use Rattle.hq_text.specs.Turns.{Fails, Passes, ReadTurn};
 ghost use Rattle.hq_cert.specs.Gives.{ReadOf, no_memory};
 ghost use Rattle.hq_cert.specs.Grammar.{CertText};
 ghost use Rattle.hq_cert.specs.SoFar.{FaultOf, GivesUnlessRead, HasRead, OfText};
@@ -12,6 +12,7 @@ ghost use Rattle.hq_cert.specs.TextFaults.{FirstFault};
 use crate::certificate::Certificate;
 use crate::fault::CertFault;
 use crate::progress::Progress;
+use hq_text::{Source, TURN_LEN, TURNS};
 use std::alloc::Global;
 use std::io::Read;
 use thiserror::Error;
@@ -23,31 +24,6 @@ pub enum ReadFault {
     Reader,
     #[error("{0}")]
     Text(CertFault),
-}
-
-/// How often a reader is asked at most.
-const TURNS: u32 = 2_000_000;
-
-/// How many bytes a reader is asked for in a turn.
-const TURN_LEN: usize = 512;
-
-/// What is asked for bytes, turn by turn.
-trait Source {
-    // What one turn may do.
-    ghost Turned: { Turn Self };
-
-    /// How many bytes a turn gave, 0 at the end, or none where it failed.
-    fn turn(&mut self, buffer: &mut [u8; TURN_LEN]) -> Option<usize>
-        ensures bound { IfSome result (λ n. n ≤ TURN_LEN) }
-        ensures turned { Turned self.old result buffer.new self.new };
-}
-
-impl<R: Read> Source for R {
-    ghost Turned = { ReadTurn R.remaining };
-
-    fn turn(&mut self, buffer: &mut [u8; TURN_LEN]) -> Option<usize> {
-        self.read(buffer).ok()
-    }
 }
 
 /// What was read so far. Behind the first fault the text is read to its end, and no more than that.

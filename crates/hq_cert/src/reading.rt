@@ -1,7 +1,7 @@
 //! Texts to certificates.
 
-ghost use Rattle.std.specs.Prelude.{◌≡◌, ℕ, ◌+◌, ◌<◌, ◌⊎◌, List, ◌∷◌, map, length, position, IfOk, IfErr, OnOk};
-ghost use Rattle.hq_text.specs.Lines.{lines_of, words_of, is_line_feed};
+ghost use Rattle.std.specs.Prelude.{◌≡◌, ℕ, ◌+◌, ◌<◌, ◌⊎◌, List, map, length, IfOk, IfErr, OnOk};
+ghost use Rattle.hq_text.specs.Lines.{lines_of, words_of};
 ghost use Rattle.hq_model.specs.Certificate as model;
 ghost use Rattle.hq_cert.specs.DraftView.{state_of};
 ghost use Rattle.hq_cert.specs.Gives.{Gives, GivesCertificate, TakesAll, ReadOf, no_memory};
@@ -11,7 +11,7 @@ ghost use Rattle.hq_cert.specs.TextFaults.{AdmitsAll, FirstFault, added, at_line
 use crate::certificate::Certificate;
 use crate::draft::Draft;
 use crate::fault::{CertFault, CertReason};
-use memchr::memchr;
+use hq_text::first_line;
 use std::alloc::{AllocError, Global};
 
 /// Out of memory, told of line 0.
@@ -27,26 +27,6 @@ fn fault_at(line: usize, reason: CertReason) -> CertFault
     match reason {
         CertReason::Memory => NO_MEMORY,
         _ => CertFault { line, reason },
-    }
-}
-
-/// Where the first line feed stands.
-#[tactic(auto, using(crate::proofs::Cuts::position_is))]
-fn line_end(text: &[u8]) -> Option<usize>
-    ensures { result ≡ position is_line_feed text.now }
-{
-    memchr(b'\n', text)
-}
-
-/// The first line of a text that isn't empty, and the text behind it.
-fn first_line(text: &[u8]) -> (&[u8], &[u8])
-    requires { 0 < length text.now }
-    ensures cut { lines_of text.now ≡ result.0.now ∷ lines_of result.1.now }
-    ensures shorter { length result.1.now < length text.now }
-{
-    match line_end(text) {
-        Some(at) => (&text[..at], &text[at + 1..]),
-        None => (text, &text[text.len()..]),
     }
 }
 

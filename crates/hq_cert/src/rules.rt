@@ -1,6 +1,6 @@
 //! Lines read.
 
-ghost use Rattle.std.specs.Prelude.{◌≡◌, map, length};
+ghost use Rattle.std.specs.Prelude.{map};
 ghost use Rattle.hq_cert.specs.LineTests.{bit_said, and_said, or_said, through_of, through_said, rule_said, line_said};
 ghost use Rattle.hq_cert.specs.LineTests as tests;
 ghost use Rattle.hq_cert.specs.Gives.{Gives};

@@ -4,7 +4,6 @@ use Rattle.std.specs.Prelude.{All}
 use Rattle.std.specs.List.{AllZip, flat_map}
 use Rattle.std.proofs.lemmas.List.{length-map, take_more}
 use Rattle.hq_job.proofs.Lines.{take_all}
-use Rattle.hq_footprint.specs.declared.conflicts.Kinds.{Kinds}
 use Rattle.hq_footprint.specs.declared.footprint.Range.{Range}
 use Rattle.hq_footprint.specs.Bytes as bytes
 use Rattle.hq_footprint.specs.Bytes.{bytes_of, read_entries, written_bytes}
@@ -19,7 +18,7 @@ use Rattle.hq_model.specs.Fence.{Conflict, Conflicts, Share}
 use Rattle.hq_model.specs.Fence.Conflict.{WriteRead, WriteWrite, ReadWrite}
 use Rattle.hq_certcheck.specs.declared.extents.Extent.{Extent}
 use Rattle.hq_certcheck.specs.Covering.{IsFlagged}
-use Rattle.hq_certcheck.specs.Extents.{HasRange, HasFoot, IsApart, AreApart, AreExtents}
+use Rattle.hq_certcheck.specs.Extents.{HasRange, HasFoot, IsApart, AreApart, TellConflicts}
 
 -- ---- ranges
 
@@ -99,7 +98,7 @@ at (d ∷ es) [] i h l = absurd h
 at (d ∷ es) (y ∷ xs) zero h l = record { e = d; x = y; extent = refl; placed = refl; has = h.0 }
 at (d ∷ es) (y ∷ xs) (suc i) h l = let r = at es xs i h.1 (omega arith) in record { e = r.e; x = r.x; extent = r.extent; placed = r.placed; has = r.has }
 
-pub of_packets : (v : JobValue) (es : List Extent) → AreOf es v.packets → AreExtents (plan v) es
+pub of_packets : (v : JobValue) (es : List Extent) → AreOf es v.packets → TellConflicts (plan v) es
 of_packets v es h =
     let count : length (plan v).packets ≡ length v.packets = length-map v.packets planned in
     record {
@@ -112,11 +111,11 @@ of_packets v es h =
           conflict_apart (plan v) kind a b p.e q.e p.x q.x (packet_at v a p.x a_low p.placed) (packet_at v b q.x b_low q.placed) p.has q.has (apart p.e q.e p.extent q.extent) c;
     }
 
-pub of_all : (v : JobValue) (es : List Extent) (i : ℕ) → length v.packets ≤ i → AreOf es (take i v.packets) → AreExtents (plan v) es
+pub of_all : (v : JobValue) (es : List Extent) (i : ℕ) → length v.packets ≤ i → AreOf es (take i v.packets) → TellConflicts (plan v) es
 of_all v es i l h = of_packets v es (subst (AreOf es) (take_all v.packets i l) h)
 
 -- ---- pairs that are apart
 
 -- packets that don't conflict lack no flag
-pub flagged_apart : (job : Job) (es : List Extent) (cells : List Kinds) (count p r : ℕ) → AreExtents job es → IsPacket job p → IsPacket job r → AreApart es p r → IsFlagged job cells count p r
+pub flagged_apart : (job : Job) (es : List Extent) (cells : List ℕ) (count p r : ℕ) → TellConflicts job es → IsPacket job p → IsPacket job r → AreApart es p r → IsFlagged job cells count p r
 flagged_apart job es cells count p r h p_is r_is apart = λ kind c. absurd (h.apart kind p r p_is r_is apart c)

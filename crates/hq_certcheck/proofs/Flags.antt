@@ -1,8 +1,10 @@
 -- Tables of flags, a flag for each kind of conflict of two packets.
-use Rattle.std.proofs.Common.{◌≡◌, ℕ, ◌+◌, ◌*◌, ◌<◌, ◌≤◌, ◌⊎◌, ◌↔◌, inl, inr, IsTrue, List, length, replicate, sym, ◌∙◌, ap, subst, arith, Option, None, Some, MatchOption, slice_get, slice_index_or}
+use Rattle.std.proofs.Common.{◌≡◌, ℕ, ◌+◌, ◌*◌, ◌<◌, ◌≤◌, ◌⊎◌, ◌↔◌, inl, inr, IsTrue, List, length, replicate, sym, ◌∙◌, ap, subst, arith, Option, None, Some, MatchOption, slice_get, slice_index_or, refl, bit_or, ◌==◌}
+use Rattle.std.specs.Int.{bit_at}
+use Rattle.std.proofs.lemmas.Nat.Bits.{bit_at_or, bit_at-lt}
 use Rattle.std.proofs.Math.ListN.{set}
 use Rattle.std.proofs.Math.Nat.{mul-le-mul_right}
-use Rattle.std.proofs.lemmas.Bool.{cases_lt, cases_eq}
+use Rattle.std.proofs.lemmas.Bool.{cases_lt, cases_eq, eqb-true, eq-eqb}
 use Rattle.std.proofs.lemmas.List.{get_or-set_same, get_or-set_other, length-set, get_or-replicate, length-replicate}
 use Rattle.hq_footprint.specs.declared.conflicts.Kinds.{Kinds}
 use Rattle.hq_job.specs.Conflicts.{HasConflicts}
@@ -10,7 +12,7 @@ use Rattle.hq_model.specs.Job.{Job, IsPacket}
 use Rattle.hq_model.specs.Fence.{Conflict, Conflicts}
 use Rattle.hq_model.specs.Fence.Conflict.{WriteRead, WriteWrite, ReadWrite}
 use Rattle.hq_model.specs.Certificate.{Certificate, Pair, kind_of, HasPair, HasPairs}
-use Rattle.hq_certcheck.specs.Covering.{Covered, NoneMissing, FirstMissing, has_kind, no_kinds, cell, IsFor, AreListed, IsMarked, AreFlagged, IsFlagged, AllFlagged, FirstUnflagged}
+use Rattle.hq_certcheck.specs.Covering.{Covered, NoneMissing, FirstMissing, has_kind, flag_of, kinds_in, cell, IsFor, AreListed, IsMarked, AreFlagged, IsFlagged, AllFlagged, FirstUnflagged}
 use Rattle.std.proofs.lemmas.Option.{slice_get_within}
 use Rattle.hq_certcheck.proofs.Saying.{some_same}
 
@@ -36,9 +38,47 @@ place_apart count p r q s l m e = elim (cases_eq p q) [
 pub place_below : (count p r : ℕ) → p < count → r < count → p * count + r < count * count
 place_below count p r l m = let step : (p + 1) * count ≤ count * count = mul-le-mul_right count (omega arith) in omega (arith, step, m)
 
+-- ---- the bits of a byte
+
+or_bit : (flags flag i : ℕ) → IsTrue (bit_at (bit_or flags flag) i == 1) ↔ (IsTrue (bit_at flags i == 1) ⊎ (bit_at flag i ≡ 1))
+or_bit flags flag i =
+    let both = bit_at_or flags flag i in
+    let low = bit_at-lt flags i in
+    let lower = bit_at-lt flag i in (
+      λ t. let one : bit_at (bit_or flags flag) i ≡ 1 = eqb-true (bit_at (bit_or flags flag) i) 1 t in elim (cases_eq (bit_at flags i) 1) [
+        | inl h ↦ inl (eq-eqb (bit_at flags i) 1 h)
+        | inr other ↦ inr (omega (arith, both, one, other, low, lower))
+      ],
+      λ t. eq-eqb (bit_at (bit_or flags flag) i) 1 (elim t [
+        | inl h ↦ (let one : bit_at flags i ≡ 1 = eqb-true (bit_at flags i) 1 h in omega (arith, both, one, lower))
+        | inr one ↦ omega (arith, both, one, low)
+      ]),
+    )
+
+-- a byte with the bit of a kind has its flag, and those that it had
+pub with_flag : (flags : ℕ) (new kind : Conflict) → IsTrue (has_kind kind (kinds_in (bit_or flags (flag_of new)))) ↔ (IsTrue (has_kind kind (kinds_in flags)) ⊎ (new ≡ kind))
+with_flag flags new kind = by kind new
+  where
+    of : (i : ℕ) (new kind : Conflict) → (bit_at (flag_of new) i ≡ 1) ↔ (new ≡ kind) → IsTrue (bit_at (bit_or flags (flag_of new)) i == 1) ↔ (IsTrue (bit_at flags i == 1) ⊎ (new ≡ kind))
+    of i new kind h = let o = or_bit flags (flag_of new) i in (
+      λ t. elim (o.0 t) [ inl x ↦ inl x | inr x ↦ inr (h.0 x) ],
+      λ t. o.1 (elim t [ inl x ↦ inl x | inr x ↦ inr (h.1 x) ]),
+    )
+
+    by : (kind new : Conflict) → IsTrue (has_kind kind (kinds_in (bit_or flags (flag_of new)))) ↔ (IsTrue (has_kind kind (kinds_in flags)) ⊎ (new ≡ kind))
+    by WriteRead WriteRead = of 0 WriteRead WriteRead (λ e. refl, λ e. refl)
+    by WriteRead WriteWrite = of 0 WriteWrite WriteRead (λ e. absurd cc, λ e. absurd cc)
+    by WriteRead ReadWrite = of 0 ReadWrite WriteRead (λ e. absurd cc, λ e. absurd cc)
+    by WriteWrite WriteRead = of 1 WriteRead WriteWrite (λ e. absurd cc, λ e. absurd cc)
+    by WriteWrite WriteWrite = of 1 WriteWrite WriteWrite (λ e. refl, λ e. refl)
+    by WriteWrite ReadWrite = of 1 ReadWrite WriteWrite (λ e. absurd cc, λ e. absurd cc)
+    by ReadWrite WriteRead = of 2 WriteRead ReadWrite (λ e. absurd cc, λ e. absurd cc)
+    by ReadWrite WriteWrite = of 2 WriteWrite ReadWrite (λ e. absurd cc, λ e. absurd cc)
+    by ReadWrite ReadWrite = of 2 ReadWrite ReadWrite (λ e. refl, λ e. refl)
+
 -- ---- flags set
 
-pub marked : (pair : Pair) (count : ℕ) (old : List Kinds) (value : Kinds) → pair.p < count → pair.r < count → length old ≡ count * count → ((kind : Conflict) → IsTrue (has_kind kind value) ↔ (IsTrue (has_kind kind (cell old count pair.p pair.r)) ⊎ (kind_of pair.fences ≡ kind))) → IsMarked pair count old (set old (pair.p * count + pair.r) value)
+pub marked : (pair : Pair) (count : ℕ) (old : List ℕ) (value : ℕ) → pair.p < count → pair.r < count → length old ≡ count * count → ((kind : Conflict) → IsTrue (has_kind kind (kinds_in value)) ↔ (IsTrue (has_kind kind (cell old count pair.p pair.r)) ⊎ (kind_of pair.fences ≡ kind))) → IsMarked pair count old (set old (pair.p * count + pair.r) value)
 marked pair count old value p_is r_is len flags =
     let at = pair.p * count + pair.r in record {
       len = length-set old at value;
@@ -46,8 +86,8 @@ marked pair count old value p_is r_is len flags =
         | inl same ↦
             let (p_same, r_same) = place_apart count p r pair.p pair.r m r_is same in
             let low : at < length old = omega (arith, place_below count pair.p pair.r p_is r_is, len) in
-            let new_is : cell (set old at value) count p r ≡ value = ap (λ k. slice_index_or (set old at value) k no_kinds) same ∙ get_or-set_same old at value no_kinds low in
-            let old_is : cell old count p r ≡ cell old count pair.p pair.r = ap (λ k. slice_index_or old k no_kinds) same in (
+            let new_is : cell (set old at value) count p r ≡ kinds_in value = ap kinds_in (ap (λ k. slice_index_or (set old at value) k 0) same ∙ get_or-set_same old at value 0 low) in
+            let old_is : cell old count p r ≡ cell old count pair.p pair.r = ap (λ k. kinds_in (slice_index_or old k 0)) same in (
               λ t. elim ((flags kind).0 (subst (λ x. IsTrue (has_kind kind x)) new_is t)) [
                 | inl before ↦ inl (subst (λ x. IsTrue (has_kind kind x)) (sym old_is) before)
                 | inr k ↦ inr (record { first = sym p_same; second = sym r_same; kind_is = k })
@@ -58,7 +98,7 @@ marked pair count old value p_is r_is len flags =
               ])),
             )
         | inr apart ↦
-            let kept : cell (set old at value) count p r ≡ cell old count p r = get_or-set_other old at (p * count + r) value no_kinds apart in (
+            let kept : cell (set old at value) count p r ≡ cell old count p r = ap kinds_in (get_or-set_other old at (p * count + r) value 0 apart) in (
               λ t. inl (subst (λ x. IsTrue (has_kind kind x)) kept t),
               λ t. elim t [
                 | inl before ↦ subst (λ x. IsTrue (has_kind kind x)) (sym kept) before
@@ -68,7 +108,7 @@ marked pair count old value p_is r_is len flags =
       ];
     }
 
-pub listed_next : (pairs : List Pair) (i count : ℕ) (old new : List Kinds) (pair : Pair) → AreListed pairs i count old → IsMarked pair count old new → slice_get pairs i ≡ Some pair → AreListed pairs (i + 1) count new
+pub listed_next : (pairs : List Pair) (i count : ℕ) (old new : List ℕ) (pair : Pair) → AreListed pairs i count old → IsMarked pair count old new → slice_get pairs i ≡ Some pair → AreListed pairs (i + 1) count new
 listed_next pairs i count old new pair a m here = record {
   len = m.len ∙ a.len;
   flags = λ p r l n kind. (
@@ -85,17 +125,17 @@ listed_next pairs i count old new pair a m here = record {
   );
 }
 
-no_flag : (kind : Conflict) → IsTrue (has_kind kind no_kinds) → ⊥
+no_flag : (kind : Conflict) → IsTrue (has_kind kind (kinds_in 0)) → ⊥
 no_flag WriteRead t = cc
 no_flag WriteWrite t = cc
 no_flag ReadWrite t = cc
 
-pub none_listed : (pairs : List Pair) (count : ℕ) (cells : List Kinds) → cells ≡ replicate (count * count) no_kinds → AreListed pairs 0 count cells
+pub none_listed : (pairs : List Pair) (count : ℕ) (cells : List ℕ) → cells ≡ replicate (count * count) 0 → AreListed pairs 0 count cells
 none_listed pairs count cells e = record {
-  len = ap length e ∙ length-replicate (count * count) no_kinds;
+  len = ap length e ∙ length-replicate (count * count) 0;
   flags = λ p r l m kind. (
     λ t.
-        let is : cell cells count p r ≡ no_kinds = ap (λ xs. cell xs count p r) e ∙ get_or-replicate (count * count) (p * count + r) no_kinds no_kinds (place_below count p r l m) in
+        let is : cell cells count p r ≡ kinds_in 0 = ap (λ xs. cell xs count p r) e ∙ ap kinds_in (get_or-replicate (count * count) (p * count + r) 0 0 (place_below count p r l m)) in
         absurd (no_flag kind (subst (λ x. IsTrue (has_kind kind x)) is t)),
     λ x. absurd (omega (arith, x.below)),
   );
@@ -116,16 +156,16 @@ flagged_by job p r found listed h = (
 )
 
 -- where p and r lack a flag, and their conflicts have theirs, r and p have all
-pub flagged_back : (job : Job) (cells : List Kinds) (count p r : ℕ) → ((kind : Conflict) × Conflicts job kind p r) → (AreFlagged job cells count p r → ⊥) → IsFlagged job cells count p r → AreFlagged job cells count r p
+pub flagged_back : (job : Job) (cells : List ℕ) (count p r : ℕ) → ((kind : Conflict) × Conflicts job kind p r) → (AreFlagged job cells count p r → ⊥) → IsFlagged job cells count p r → AreFlagged job cells count r p
 flagged_back job cells count p r (kind, conflict) ban h = elim (h kind conflict) [ inl f ↦ absurd (ban f) | inr f ↦ f ]
 
-pub flagged_more : (job : Job) (cells : List Kinds) (count p r : ℕ) → AllFlagged job cells count p r → IsFlagged job cells count p r → AllFlagged job cells count p (r + 1)
+pub flagged_more : (job : Job) (cells : List ℕ) (count p r : ℕ) → AllFlagged job cells count p r → IsFlagged job cells count p r → AllFlagged job cells count p (r + 1)
 flagged_more job cells count p r h here s above below = elim (cases_eq s r) [
   | inl same ↦ subst (IsFlagged job cells count p) (sym same) here
   | inr apart ↦ h s above (omega arith)
 ]
 
-pub flagged_rows : (job : Job) (cells : List Kinds) (count p : ℕ) → ((q : ℕ) → q < p → AllFlagged job cells count q count) → AllFlagged job cells count p count → (q : ℕ) → q < p + 1 → AllFlagged job cells count q count
+pub flagged_rows : (job : Job) (cells : List ℕ) (count p : ℕ) → ((q : ℕ) → q < p → AllFlagged job cells count q count) → AllFlagged job cells count p count → (q : ℕ) → q < p + 1 → AllFlagged job cells count q count
 flagged_rows job cells count p h here q below = elim (cases_eq q p) [
   | inl same ↦ subst (λ k. AllFlagged job cells count k count) (sym same) here
   | inr apart ↦ h q (omega arith)
@@ -133,7 +173,7 @@ flagged_rows job cells count p h here q below = elim (cases_eq q p) [
 
 -- ---- flags as pair lines
 
-module _ (job : Job) (c : Certificate) (limit : ℕ) (cells : List Kinds) (whole : limit ≡ length c.pairs) (listed : AreListed c.pairs limit (length job.packets) cells) where
+module _ (job : Job) (c : Certificate) (limit : ℕ) (cells : List ℕ) (whole : limit ≡ length c.pairs) (listed : AreListed c.pairs limit (length job.packets) cells) where
   pair_of_flag : (p r : ℕ) → IsPacket job p → IsPacket job r → (kind : Conflict) → IsTrue (has_kind kind (cell cells (length job.packets) p r)) ↔ HasPair c p r kind
   pair_of_flag p r p_is r_is kind = (
     λ t. let x = (listed.flags p r p_is r_is kind).0 t in record { k = x.k; pair = x.pair; there = x.there; first = x.is_for.first; second = x.is_for.second; kind_is = x.is_for.kind_is },

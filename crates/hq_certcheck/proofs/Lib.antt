@@ -11,3 +11,4 @@ pub mod Places
 pub mod Lasts
 pub mod Bounds
 pub mod Counts
+pub mod Blocks

@@ -1,5 +1,6 @@
 -- Which conflicts have pair lines.
-use Rattle.std.specs.Prelude.{◌≡◌, ℕ, ◌+◌, ◌*◌, ◌<◌, ◌⊎◌, ◌↔◌, IsTrue, Bool, false, List, length, Some, slice_get, slice_index_or}
+use Rattle.std.specs.Prelude.{◌≡◌, ℕ, ◌+◌, ◌*◌, ◌/◌, ◌<◌, ◌⊎◌, ◌↔◌, ◌==◌, IsTrue, Bool, List, length, Some, slice_get, slice_index_or}
+use Rattle.std.specs.Int.{bit_at}
 use Rattle.hq_footprint.specs.declared.conflicts.Kinds.{Kinds}
 use Rattle.hq_model.specs.Job.{Job, IsPacket}
 use Rattle.hq_model.specs.Fence.{Conflict, Conflicts}
@@ -33,12 +34,19 @@ has_kind WriteRead kinds = kinds.wr
 has_kind WriteWrite kinds = kinds.ww
 has_kind ReadWrite kinds = kinds.rw
 
-abbrev pub no_kinds : Kinds
-no_kinds = record { wr = false; ww = false; rw = false }
+-- The bit of the kind in a byte of flags.
+abbrev pub flag_of : Conflict → ℕ
+flag_of WriteRead = 1
+flag_of WriteWrite = 2
+flag_of ReadWrite = 4
+
+-- the flags of a byte
+abbrev pub kinds_in : ℕ → Kinds
+kinds_in flags = record { wr = bit_at flags 0 == 1; ww = bit_at flags 1 == 1; rw = bit_at flags 2 == 1 }
 
 -- The flags of p and r, in a table of so many rows.
-abbrev pub cell : List Kinds → ℕ → ℕ → ℕ → Kinds
-cell cells count p r = slice_index_or cells (p * count + r) no_kinds
+abbrev pub cell : List ℕ → ℕ → ℕ → ℕ → Kinds
+cell cells count p r = kinds_in (slice_index_or cells (p * count + r) 0)
 
 -- The pair line is one for this kind of conflict of p with r.
 pub record IsFor (pair : Pair) (p r : ℕ) (kind : Conflict) : Type 0 where
@@ -55,35 +63,47 @@ pub record IsListed (pairs : List Pair) (limit p r : ℕ) (kind : Conflict) : Ty
   pub is_for : IsFor pair p r kind
 
 -- The table has a flag exactly where one of the first pair lines is for it.
-pub record AreListed (pairs : List Pair) (limit count : ℕ) (cells : List Kinds) : Type 0 where
+pub record AreListed (pairs : List Pair) (limit count : ℕ) (cells : List ℕ) : Type 0 where
   pub len : length cells ≡ count * count
   pub flags : (p r : ℕ) → p < count → r < count → (kind : Conflict) → IsTrue (has_kind kind (cell cells count p r)) ↔ IsListed pairs limit p r kind
 
 -- The flags are those that there were and that of the pair line.
-pub record IsMarked (pair : Pair) (count : ℕ) (old new : List Kinds) : Type 0 where
+pub record IsMarked (pair : Pair) (count : ℕ) (old new : List ℕ) : Type 0 where
   pub len : length new ≡ length old
   pub flags : (p r : ℕ) → p < count → r < count → (kind : Conflict) → IsTrue (has_kind kind (cell new count p r)) ↔ (IsTrue (has_kind kind (cell old count p r)) ⊎ IsFor pair p r kind)
 
 -- Each kind of conflict of p with r has its flag.
-abbrev pub AreFlagged : Job → List Kinds → ℕ → ℕ → ℕ → Type 0
+abbrev pub AreFlagged : Job → List ℕ → ℕ → ℕ → ℕ → Type 0
 AreFlagged job cells count p r = (kind : Conflict) → Conflicts job kind p r → IsTrue (has_kind kind (cell cells count p r))
 
 -- The same in one direction, for each conflict.
-abbrev pub IsFlagged : Job → List Kinds → ℕ → ℕ → ℕ → Type 0
+abbrev pub IsFlagged : Job → List ℕ → ℕ → ℕ → ℕ → Type 0
 IsFlagged job cells count p r = (kind : Conflict) → Conflicts job kind p r → AreFlagged job cells count p r ⊎ AreFlagged job cells count r p
 
 -- Those of p with the packets after it, up to the end, are.
-abbrev pub AllFlagged : Job → List Kinds → ℕ → ℕ → ℕ → Type 0
+abbrev pub AllFlagged : Job → List ℕ → ℕ → ℕ → ℕ → Type 0
 AllFlagged job cells count p end = (s : ℕ) → p < s → s < end → IsFlagged job cells count p s
 
+-- So are those of p with the packets of a block after it.
+abbrev pub BlockFlagged : Job → List ℕ → ℕ → ℕ → ℕ → Type 0
+BlockFlagged job cells count p block = (s : ℕ) → p < s → s < count → s / 32 ≡ block → IsFlagged job cells count p s
+
+-- r is the least packet of the block after p whose conflicts with p aren't.
+pub record FirstUnflaggedOf (job : Job) (cells : List ℕ) (count p block r : ℕ) : Type 0 where
+  pub ahead : p < r
+  pub below : r < count
+  pub of_block : r / 32 ≡ block
+  pub missing : ¬ IsFlagged job cells count p r
+  pub first : (s : ℕ) → p < s → s < r → s / 32 ≡ block → IsFlagged job cells count p s
+
 -- r is the least packet after p whose conflicts with p aren't.
-pub record FirstUnflaggedAfter (job : Job) (cells : List Kinds) (count p r : ℕ) : Type 0 where
+pub record FirstUnflaggedAfter (job : Job) (cells : List ℕ) (count p r : ℕ) : Type 0 where
   pub ahead : p < r
   pub below : r < count
   pub missing : ¬ IsFlagged job cells count p r
   pub first : AllFlagged job cells count p r
 
 -- p and r are the first in number order.
-pub record FirstUnflagged (job : Job) (cells : List Kinds) (count p r : ℕ) : Type 0 where
+pub record FirstUnflagged (job : Job) (cells : List ℕ) (count p r : ℕ) : Type 0 where
   pub after : FirstUnflaggedAfter job cells count p r
   pub first : (q : ℕ) → q < p → AllFlagged job cells count q count

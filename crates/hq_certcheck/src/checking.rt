@@ -1,12 +1,10 @@
 //! Checks whole certificates.
 
-ghost use Rattle.std.specs.Prelude.{◌≡◌, ℕ, IfOk, IfErr, OnOk, MatchOption, All, map};
-ghost use Rattle.hq_cert.specs.View.{line_of, pair_of};
+ghost use Rattle.std.specs.Prelude.{◌≡◌, ℕ, IfOk, IfErr, OnOk, MatchOption, All};
 ghost use Rattle.hq_job.specs.Plan.{plan};
 ghost use Rattle.hq_model.specs.Order.{OrderList, Extends};
 ghost use Rattle.hq_model.specs.Certificate.{LineHolds, PairHolds, CertHolds};
 ghost use Rattle.hq_model.specs.Theorems.{Headline};
-ghost use Rattle.hq_certcheck.specs.Covering.{NoneMissing};
 ghost use Rattle.hq_certcheck.specs.Refusals.{IsRefused, IsBadLine, IsBadPair};
 
 use crate::accepted::Accepted;

@@ -1,6 +1,6 @@
 //! What the lines of a certificate say.
 
-ghost use Rattle.std.specs.Prelude.{◌≡◌, ℕ, ◌<◌, ◌↔◌, IsTrue, Some, map, length};
+ghost use Rattle.std.specs.Prelude.{◌≡◌, ℕ, ◌<◌, ◌↔◌, IsTrue, Some, map};
 ghost use Rattle.hq_cert.specs.View.{line_of, cited};
 ghost use Rattle.hq_model.specs.Certificate.{Says, Cites};
 

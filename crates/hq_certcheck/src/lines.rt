@@ -1,13 +1,12 @@
 //! Lines of a certificate, one by one.
 
-ghost use Rattle.std.specs.Prelude.{◌≡◌, ℕ, ◌<◌, ◌↔◌, IsTrue, [], map, length, MatchOption};
+ghost use Rattle.std.specs.Prelude.{ℕ, ◌<◌, ◌↔◌, IsTrue, [], map, length, MatchOption};
 ghost use Rattle.std.specs.List.{AllZip};
 ghost use Rattle.hq_cert.specs.View.{line_of, rule_of, cited};
 ghost use Rattle.hq_job.specs.Plan.{plan};
-ghost use Rattle.hq_model.specs.Job.{IsPacket};
 ghost use Rattle.hq_model.specs.Certificate as certificate;
 ghost use Rattle.hq_model.specs.Certificate.{Follows, signals};
-ghost use Rattle.hq_model.specs.Certificate.Rule.{Bit as ByBit, Queue as ByQueue, And as ByAnd, Or as ByOr, Through as ByThrough};
+ghost use Rattle.hq_model.specs.Certificate.Rule.{Bit as ByBit, Queue as ByQueue, And as ByAnd, Or as ByOr};
 ghost use Rattle.hq_certcheck.specs.Listed.{HoldsFor, LineFollows, FirstBadLine};
 
 use crate::citing::{follower, says};

@@ -1,40 +1,39 @@
 //! Conflicts that have no pair lines.
 
-ghost use Rattle.std.specs.Prelude.{◌≡◌, ℕ, ◌+◌, ◌*◌, ◌<◌, ◌≤◌, ◌↔◌, ◌⊎◌, IsTrue, IfOk, MatchOption, false, map, length};
+ghost use Rattle.std.specs.Prelude.{◌≡◌, ℕ, ◌+◌, ◌*◌, ◌<◌, ◌≤◌, ◌↔◌, IsTrue, IfOk, MatchOption, false, map, length};
 ghost use Rattle.hq_cert.specs.View.{pair_of, fences_of};
 ghost use Rattle.hq_job.specs.Plan.{plan};
-ghost use Rattle.hq_model.specs.Job.{IsPacket};
 ghost use Rattle.hq_model.specs.Fence.{Conflict, Conflicts};
 ghost use Rattle.hq_model.specs.Certificate.{kind_of};
-ghost use Rattle.hq_certcheck.specs.Covering.{Covered, FirstMissing, has_kind, cell, AreListed, IsMarked, AreFlagged, IsFlagged, AllFlagged, FirstUnflaggedAfter, FirstUnflagged, NoneMissing};
+ghost use Rattle.hq_certcheck.specs.Covering.{FirstMissing, has_kind, flag_of, kinds_in, AreListed, IsMarked, AreFlagged, IsFlagged, AllFlagged, BlockFlagged, FirstUnflaggedOf, FirstUnflaggedAfter, FirstUnflagged, NoneMissing};
 ghost use Rattle.hq_certcheck.specs.Extents.{AreExtents};
 
-use crate::extents::{Extent, are_apart, extents};
+use crate::extents::{BLOCK, Extents};
 use hq_cert::{Certificate, Fences, Pair};
 use hq_footprint::Kinds;
 use hq_job::Job;
 use std::alloc::{AllocError, Global};
 
-/// No kind of conflict.
-const NONE: Kinds = Kinds {
-    wr: false,
-    ww: false,
-    rw: false,
-};
-
-/// The flags, and that of the fences' kind of conflict.
-fn with_kind(kinds: Kinds, fences: &Fences) -> Kinds
-    ensures { (kind : Conflict) → IsTrue (has_kind kind result) ↔ (IsTrue (has_kind kind kinds) ⊎ (kind_of (fences_of fences.now) ≡ kind)) }
+/// The bit of the fences' kind of conflict in a byte of flags.
+fn flag_of(fences: &Fences) -> u8
+    ensures { result ≡ flag_of (kind_of (fences_of fences.now)) }
 {
-    let mut kinds = kinds;
     match fences {
-        Fences::ReadWrite(_) => kinds.rw = true,
-        Fences::WriteWrite { .. } => kinds.ww = true,
-        Fences::WriteRead { .. } => kinds.wr = true,
-        Fences::WriteWriteChained(_) => kinds.ww = true,
-        Fences::WriteReadChained(_) => kinds.wr = true,
+        Fences::WriteRead { .. } | Fences::WriteReadChained(_) => 1,
+        Fences::WriteWrite { .. } | Fences::WriteWriteChained(_) => 2,
+        Fences::ReadWrite(_) => 4,
     }
-    kinds
+}
+
+/// The flags of a byte.
+fn kinds_in(flags: u8) -> Kinds
+    ensures { result ≡ kinds_in flags }
+{
+    Kinds {
+        wr: flags & 1 == 1,
+        ww: flags >> 1 & 1 == 1,
+        rw: flags >> 2 & 1 == 1,
+    }
 }
 
 /// Where the flags of p and r stand, in a table of so many rows.
@@ -49,7 +48,7 @@ fn place(count: usize, p: usize, r: usize) -> usize
 }
 
 /// Sets the flag of a pair line, unless it names packets that there aren't.
-fn mark(cells: &mut [Kinds], count: usize, pair: &Pair)
+fn mark(cells: &mut [u8], count: usize, pair: &Pair)
     requires few { count ≤ 1024 }
     requires len { length cells.old ≡ count * count }
     ensures { IsMarked (pair_of pair.now) count cells.old cells.new }
@@ -58,12 +57,12 @@ fn mark(cells: &mut [Kinds], count: usize, pair: &Pair)
     let r = pair.r as usize;
     if p < count && r < count {
         let place = place(count, p, r);
-        cells[place] = with_kind(cells[place], &pair.fences);
+        cells[place] |= flag_of(&pair.fences);
     }
 }
 
 /// Sets the flags of the pair lines.
-fn mark_all(cells: &mut [Kinds], count: usize, pairs: &[Pair])
+fn mark_all(cells: &mut [u8], count: usize, pairs: &[Pair])
     requires few { count ≤ 1024 }
     requires empty { AreListed (map pair_of pairs.now) 0 count cells.old }
     ensures { let found = map pair_of pairs.now in AreListed found (length found) count cells.new }
@@ -73,12 +72,12 @@ fn mark_all(cells: &mut [Kinds], count: usize, pairs: &[Pair])
     }
 }
 
-/// The kinds that have pair lines, for each two packets.
-fn listed(alloc: Global, count: usize, pairs: &[Pair]) -> Result<Vec<Kinds>, AllocError>
+/// The kinds that have pair lines, for each two packets: a byte of flags.
+fn listed(alloc: Global, count: usize, pairs: &[Pair]) -> Result<Vec<u8>, AllocError>
     requires { count ≤ 1024 }
     ensures { let found = map pair_of pairs.now in IfOk result (λ cells. AreListed found (length found) count cells.items) }
 {
-    let mut cells = vec![in alloc; NONE; count * count]?;
+    let mut cells = vec![in alloc; 0; count * count]?;
     mark_all(&mut cells, count, pairs);
     Ok(cells)
 }
@@ -106,7 +105,7 @@ fn covers(found: Kinds, listed: Kinds) -> bool
 }
 
 /// Whether each kind of conflict of p with r has its flag.
-fn are_flagged(job: &Job, cells: &[Kinds], p: usize, r: usize) -> bool
+fn are_flagged(job: &Job, cells: &[u8], p: usize, r: usize) -> bool
     requires len { length cells.now ≡ length job.now.packets * length job.now.packets }
     requires p_is { p < length job.now.packets }
     requires r_is { r < length job.now.packets }
@@ -115,11 +114,11 @@ fn are_flagged(job: &Job, cells: &[Kinds], p: usize, r: usize) -> bool
 {
     job.valid();
     let listed = cells[place(job.packets().len(), p, r)];
-    covers(job.kinds(p, r), listed)
+    covers(job.kinds(p, r), kinds_in(listed))
 }
 
 /// Whether each conflict of p with r has its flags, all in one direction.
-fn is_flagged(job: &Job, cells: &[Kinds], p: usize, r: usize) -> bool
+fn is_flagged(job: &Job, cells: &[u8], p: usize, r: usize) -> bool
     requires len { length cells.now ≡ length job.now.packets * length job.now.packets }
     requires p_is { p < length job.now.packets }
     requires r_is { r < length job.now.packets }
@@ -129,24 +128,35 @@ fn is_flagged(job: &Job, cells: &[Kinds], p: usize, r: usize) -> bool
 }
 
 /// Whether each conflict of p with r has its flags, where the extents don't tell that there is none.
-fn lacks_none(job: &Job, extents: &[Extent], cells: &[Kinds], p: usize, r: usize) -> bool
+fn lacks_none(job: &Job, extents: &Extents, cells: &[u8], p: usize, r: usize) -> bool
     requires extents { AreExtents (plan job.now) extents.now }
     requires len { length cells.now ≡ length job.now.packets * length job.now.packets }
     requires p_is { p < length job.now.packets }
     requires r_is { r < length job.now.packets }
     ensures { IsTrue result ↔ IsFlagged (plan job.now) cells.now (length job.now.packets) p r }
 {
-    are_apart(extents, p, r) || is_flagged(job, cells, p, r)
+    extents.are_apart(p, r) || is_flagged(job, cells, p, r)
 }
 
-/// The least packet after p whose conflicts with p lack flags.
-fn first_unflagged_after(job: &Job, extents: &[Extent], cells: &[Kinds], p: usize) -> Option<usize>
+/// The least packet of a block after p whose conflicts with p lack flags.
+fn first_unflagged_of(
+    job: &Job,
+    extents: &Extents,
+    cells: &[u8],
+    p: usize,
+    block: usize,
+) -> Option<usize>
     requires extents { AreExtents (plan job.now) extents.now }
     requires len { length cells.now ≡ length job.now.packets * length job.now.packets }
     requires p_is { p < length job.now.packets }
-    ensures { MatchOption result (AllFlagged (plan job.now) cells.now (length job.now.packets) p (length job.now.packets)) (λ r. FirstUnflaggedAfter (plan job.now) cells.now (length job.now.packets) p r) }
+    requires block { block < length extents.now.blocks.items }
+    ensures { MatchOption result (BlockFlagged (plan job.now) cells.now (length job.now.packets) p block) (FirstUnflaggedOf (plan job.now) cells.now (length job.now.packets) p block) }
 {
-    for r in p + 1..job.packets().len() {
+    if extents.is_apart_from_block(p, block) {
+        return None;
+    }
+    let start = block * BLOCK;
+    for r in start.max(p + 1)..job.packets().len().min(start + BLOCK) {
         if !lacks_none(job, extents, cells, p, r) {
             return Some(r);
         }
@@ -154,8 +164,23 @@ fn first_unflagged_after(job: &Job, extents: &[Extent], cells: &[Kinds], p: usiz
     None
 }
 
+/// The least packet after p whose conflicts with p lack flags.
+fn first_unflagged_after(job: &Job, extents: &Extents, cells: &[u8], p: usize) -> Option<usize>
+    requires extents { AreExtents (plan job.now) extents.now }
+    requires len { length cells.now ≡ length job.now.packets * length job.now.packets }
+    requires p_is { p < length job.now.packets }
+    ensures { MatchOption result (AllFlagged (plan job.now) cells.now (length job.now.packets) p (length job.now.packets)) (λ r. FirstUnflaggedAfter (plan job.now) cells.now (length job.now.packets) p r) }
+{
+    for block in p / BLOCK..extents.blocks() {
+        if let Some(r) = first_unflagged_of(job, extents, cells, p, block) {
+            return Some(r);
+        }
+    }
+    None
+}
+
 /// The first packets in number order whose conflicts lack flags.
-fn first_unflagged(job: &Job, extents: &[Extent], cells: &[Kinds]) -> Option<(u16, u16)>
+fn first_unflagged(job: &Job, extents: &Extents, cells: &[u8]) -> Option<(u16, u16)>
     requires extents { AreExtents (plan job.now) extents.now }
     requires len { length cells.now ≡ length job.now.packets * length job.now.packets }
     ensures { MatchOption result ((p : ℕ) → p < length job.now.packets → AllFlagged (plan job.now) cells.now (length job.now.packets) p (length job.now.packets)) (λ found. FirstUnflagged (plan job.now) cells.now (length job.now.packets) found.0 found.1) }
@@ -173,8 +198,8 @@ fn first_unflagged(job: &Job, extents: &[Extent], cells: &[Kinds]) -> Option<(u1
 fn missing_by(
     job: &Job,
     certificate: &Certificate,
-    extents: &[Extent],
-    cells: &[Kinds],
+    extents: &Extents,
+    cells: &[u8],
 ) -> Option<(u16, u16)>
     requires extents { AreExtents (plan job.now) extents.now }
     requires listed { AreListed certificate.now.pairs (length certificate.now.pairs) (length job.now.packets) cells.now }
@@ -192,7 +217,7 @@ pub fn first_missing(
     ensures { IfOk result (λ found. MatchOption found (NoneMissing (plan job.now) certificate.now) (λ pair. FirstMissing (plan job.now) certificate.now pair.0 pair.1)) }
 {
     job.valid();
-    let extents = extents(alloc, job)?;
+    let extents = Extents::build(alloc, job)?;
     let cells = listed(alloc, job.packets().len(), certificate.pairs())?;
     Ok(missing_by(job, certificate, &extents, &cells))
 }

@@ -1,10 +1,10 @@
 //! What holds of a job's packets, whatever numbers are named.
 
-ghost use Rattle.std.specs.Prelude.{◌≡◌, ℕ, ◌<◌, ◌↔◌, ◌⊎◌, IsTrue, IfOk, Some, length, MatchOption};
-ghost use Rattle.hq_job.specs.Plan.{plan, planned, kind_of};
+ghost use Rattle.std.specs.Prelude.{◌≡◌, ℕ, ◌<◌, ◌↔◌, IsTrue, Some};
+ghost use Rattle.hq_job.specs.Plan.{plan};
 ghost use Rattle.hq_model.specs.Job as model;
 ghost use Rattle.hq_model.specs.Job.{packet, IsPacket, Earlier, IsBarrier, Decrements, Dependency, agent_of};
-ghost use Rattle.hq_model.specs.Job.Kind.{Work, BarrierAnd, BarrierOr};
+ghost use Rattle.hq_model.specs.Job.Kind.{BarrierAnd, BarrierOr};
 ghost use Rattle.hq_model.specs.Fence as fence;
 
 use hq_job::Job;

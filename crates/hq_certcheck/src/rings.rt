@@ -3,7 +3,7 @@
 ghost use Rattle.std.specs.Prelude.{◌≡◌, ℕ, ◌<◌, ◌≤◌, ◌↔◌, IsTrue, IfOk, OnOk, [], length, slice_index};
 ghost use Rattle.hq_job.specs.Plan.{plan};
 ghost use Rattle.hq_model.specs.Job.{packet, IsPacket, place_in_queue, Frees};
-ghost use Rattle.hq_certcheck.specs.Placed.{IsTable, StandsAhead, HasSlot};
+ghost use Rattle.hq_certcheck.specs.Placed.{IsTable, HasSlot};
 
 use crate::packets::same_queue;
 use hq_job::Job;

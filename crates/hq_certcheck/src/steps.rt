@@ -2,8 +2,8 @@
 
 ghost use Rattle.std.specs.Prelude.{◌≡◌, ◌+◌, ◌*◌, ◌<◌, ◌≤◌, length, count_by, is_some, sum_by, All};
 ghost use Rattle.hq_footprint.specs.Bytes.{read_entries, written_bytes};
-ghost use Rattle.hq_job.specs.Plan.{plan, planned};
-ghost use Rattle.hq_model.specs.Machine.{own_steps, bound_of, bound};
+ghost use Rattle.hq_job.specs.Plan.{plan};
+ghost use Rattle.hq_model.specs.Machine.{own_steps, bound};
 ghost use Rattle.hq_certcheck.specs.Brief.{IsShort};
 
 use hq_footprint::Range;

@@ -1,11 +1,11 @@
 //! Memory and the maps of copies.
 
-ghost use Rattle.std.specs.Prelude.{◌≡◌, ◌↔◌, ◌<◌, ◌≤◌, ◌+◌, ◌^◌, ℕ, ◌-◌, Some, length, All, IsTrue, IfOk, IfErr, OnOk, OnErr, MatchOption, IsOk, slice_index, ◌⊎◌, replicate, false};
+ghost use Rattle.std.specs.Prelude.{◌≡◌, ◌↔◌, ◌<◌, ◌≤◌, ◌+◌, ℕ, ◌-◌, Some, length, All, IsTrue, IfOk, IfErr, OnOk, OnErr, MatchOption, slice_index, ◌⊎◌, replicate, false};
 ghost use Rattle.std.specs.FinMap as finite;
 ghost use Rattle.hq_model.specs.Job.{reaches};
 ghost use Rattle.hq_model.specs.Machine.{is_dirty};
 ghost use Rattle.hq_model.specs.View.{copies_of};
-ghost use Rattle.hq_copies.specs.Copies.{opened, stored, lane_pushed, agent_pushed, lane_filled, agent_filled, lane_dropped, agent_dropped, fenced, lane_byte, lane_bytes, IsLaneByte, IsAgentByte, IsDirty, IsClean, IsReleased, IsFirstDirty, NoneDirty, held, a_copy, PushedLane, PushedAgent, IsAbsent, agent_byte, dirty_within, IsRunCount, LanesReleased, AgentReleased, Released, fed, cleaned, stored_run};
+ghost use Rattle.hq_copies.specs.Copies.{opened, stored, lane_filled, agent_filled, lane_dropped, agent_dropped, fenced, lane_byte, lane_bytes, IsLaneByte, IsAgentByte, IsDirty, IsClean, IsReleased, IsFirstDirty, NoneDirty, held, PushedLane, PushedAgent, IsAbsent, agent_byte, dirty_within, IsRunCount, LanesReleased, AgentReleased, Released, fed, cleaned, stored_run};
 
 use crate::fault::CopiesFault;
 use crate::level::Level;

@@ -1,12 +1,12 @@
 //! What one agent or one lane holds.
 
-ghost use Rattle.std.specs.Prelude.{◌≡◌, ◌≢◌, ℕ, ◌+◌, ◌<◌, ◌≤◌, ◌^◌, ◌↔◌, if◌then◌else◌, true, false, Some, None, IsTrue, IfOk, OnOk, OnErr, MatchOption, length, slice_index};
+ghost use Rattle.std.specs.Prelude.{◌≡◌, ℕ, ◌+◌, ◌<◌, ◌≤◌, ◌^◌, ◌↔◌, if◌then◌else◌, true, false, Some, None, IsTrue, IfOk, OnOk, OnErr, MatchOption, length, slice_index};
 ghost use Rattle.std.specs.FinMap as finite;
 ghost use Rattle.hq_model.specs.Machine.{value_or};
 ghost use Rattle.hq_copies.specs.Copies.{a_copy, dirty_only, IsClean, IsDirty, IsAbsent, NoneDirty, IsFirstDirty, IsRunCount, begins_run, cleaned, taken, written};
 ghost use Rattle.hq_copies.specs.Edges.{layered};
 ghost use Rattle.hq_copies.specs.Marks.{AreRuns, byte_of};
-ghost use Rattle.hq_copies.specs.Overlays.{run_at, dirty_over, byte_over, has_mark};
+ghost use Rattle.hq_copies.specs.Overlays.{run_at, dirty_over, has_mark};
 
 use crate::runs::Runs;
 use std::alloc::{AllocError, Global};

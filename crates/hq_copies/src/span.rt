@@ -1,6 +1,6 @@
 //! Between which lanes bytes are held.
 
-ghost use Rattle.std.specs.Prelude.{◌≡◌, ◌<◌, ◌≤◌, ◌⊎◌, ℕ, IsTrue};
+ghost use Rattle.std.specs.Prelude.{◌<◌, ◌≤◌, ◌⊎◌, ℕ, IsTrue};
 ghost use Rattle.hq_copies.specs.Spans.{Inside};
 
 use std::ops::Range;

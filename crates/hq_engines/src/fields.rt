@@ -1,6 +1,6 @@
 //! A packet's fields, from words to bytes.
 
-ghost use Rattle.std.specs.Prelude.{◌≡◌, ◌++◌, IfOk, OnOk, Some, map};
+ghost use Rattle.std.specs.Prelude.{IfOk, Some, map};
 ghost use Rattle.hq_text.specs.Numbers.{number_of};
 ghost use Rattle.hq_engines.specs.Pack.{number_bytes, word_bytes, zero_bytes, fields_bytes, Pushes};
 

@@ -4,7 +4,7 @@ use Rattle.std.specs.Prelude.{Result, IfOk, IfErr, IsOk, Option, IfSome, IsSome}
 use Rattle.hq_model.specs.Job.{Job}
 use Rattle.hq_model.specs.Order.{Before}
 use Rattle.hq_model.specs.Fence as model
-use Rattle.hq_model.specs.Fence.{need, ReleasedBefore, ReleasedToAcquire, Conflicts, ShownFor}
+use Rattle.hq_model.specs.Fence.{ReleasedBefore, ReleasedToAcquire, Conflicts}
 use Rattle.hq_model.specs.Fence.Release.{alone as alone_release, chained as chained_release}
 use Rattle.hq_model.specs.Fence.Acquire.{alone as alone_acquire, chained as chained_acquire}
 use Rattle.hq_fence.specs.Judgement.{begin_of, end_of, first_of, IsRelease, IsAcquire, ReleasesBefore, ReleasesToAcquire, Shows, IsNotShown, conflict_of, flag_of, IsFirstKind}

@@ -1,6 +1,6 @@
 //! Single fences.
 
-ghost use Rattle.std.specs.Prelude.{◌≡◌, ◌<◌, ◌↔◌, IsTrue, length};
+ghost use Rattle.std.specs.Prelude.{◌≡◌, ◌↔◌, IsTrue};
 ghost use Rattle.hq_model.specs.Job.{IsPacket, packet, agent_of, reaches};
 ghost use Rattle.hq_model.specs.Fence.{need, SameOrBefore, Releases, Acquires, Forwards};
 ghost use Rattle.hq_packet.specs.declared.packet.Scope.TheVariants as scope;

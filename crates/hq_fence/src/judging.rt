@@ -1,7 +1,6 @@
 //! The judgement of two packets.
 
-ghost use Rattle.std.specs.Prelude.{◌≡◌, false, ◌<◌, ◌↔◌, ℕ, IsTrue, IsOk, IsSome, IfOk, IfErr, IfSome, MatchOption, length};
-ghost use Rattle.hq_job.specs.Conflicts.{HasConflicts};
+ghost use Rattle.std.specs.Prelude.{◌≡◌, false, ◌<◌, ◌↔◌, IsTrue, IsOk, IsSome, IfOk, IfErr, IfSome, MatchOption, length};
 ghost use Rattle.hq_model.specs.Job.{IsPacket};
 ghost use Rattle.hq_model.specs.Order as order;
 ghost use Rattle.hq_model.specs.Fence as model;

@@ -1,6 +1,6 @@
 //! Ranges of bytes.
 
-ghost use Rattle.std.specs.Prelude.{◌≡◌, ◌+◌, ◌^◌, ◌<◌, ◌≤◌, ◌↔◌, IsTrue};
+ghost use Rattle.std.specs.Prelude.{◌≡◌, ◌+◌, ◌^◌, ◌<◌, ◌↔◌, IsTrue};
 ghost use Rattle.hq_footprint.specs.Bytes.{bytes_of, Share, Fits, IsWithin};
 ghost use Rattle.hq_footprint.specs.Conflicts.{Overlap};
 ghost use Rattle.hq_footprint.specs.Table.{range};

@@ -5,7 +5,7 @@ use Rattle.std.proofs.lemmas.List.{take-append-le, take-map, length-map}
 use Rattle.std.proofs.lemmas.List.Elements.{All-nil, All-cons, All-append, All-weaker}
 use Rattle.std.proofs.lemmas.List.Sums.{sum_by-cons, sum_by-append}
 use Rattle.hq_model.specs.Job as model
-use Rattle.hq_model.specs.Job.{Job, packet, IsPacket, place_in_queue}
+use Rattle.hq_model.specs.Job.{Job, packet, place_in_queue}
 use Rattle.hq_job.specs.declared.rows.Placed.{Placed}
 use Rattle.hq_job.specs.declared.job.Job.TheInside.{Inside}
 use Rattle.hq_job.specs.JobFields.{FieldsFit}

@@ -3,7 +3,7 @@ use Rattle.std.proofs.Common.{◌≡◌, ℕ, suc, ◌+◌, ◌-◌, ◌<◌, �
 use Rattle.std.proofs.lemmas.Bool.{cases_lt, cond-true, cond-false, eq-eqb, lt-ltb, le-ltb}
 use Rattle.std.proofs.lemmas.List.{length-map}
 use Rattle.hq_model.specs.Job as model
-use Rattle.hq_model.specs.Job.{Job, packet, IsPacket}
+use Rattle.hq_model.specs.Job.{Job}
 use Rattle.hq_job.specs.declared.job.Job.TheInside.{Inside}
 use Rattle.hq_job.specs.JobFields.{FieldsFit}
 use Rattle.hq_job.specs.View.{value_of}

@@ -1,6 +1,6 @@
 //! Which packets conflict.
 
-ghost use Rattle.std.specs.Prelude.{◌<◌, ◌↔◌, IsTrue, length};
+ghost use Rattle.std.specs.Prelude.{◌<◌, length};
 ghost use Rattle.hq_footprint.specs.Conflicts.{HasKinds};
 ghost use Rattle.hq_job.specs.Conflicts.{HasConflicts};
 ghost use Rattle.hq_job.specs.Plan.{plan};

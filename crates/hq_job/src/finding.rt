@@ -1,6 +1,6 @@
 //! Rows found.
 
-ghost use Rattle.std.specs.Prelude.{◌≡◌, ◌↔◌, ◌≤◌, ◌==◌, map, length, find, option_copied, position, IsTrue, Contains, Any, IfSome};
+ghost use Rattle.std.specs.Prelude.{◌≡◌, ◌↔◌, ◌≤◌, ◌==◌, map, find, option_copied, position, IsTrue, Contains, Any};
 ghost use Rattle.std.specs.List.{list_any};
 ghost use Rattle.std.specs.Str.{bytes_eq};
 ghost use Rattle.hq_footprint.specs.Bytes.{bytes_of as range_bytes, Share};

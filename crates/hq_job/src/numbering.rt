@@ -1,7 +1,7 @@
 //! Packets by number.
 
 ghost use Rattle.std.specs.Prelude.{◌≡◌, ◌+◌, ◌<◌, ◌≤◌, ◌++◌, length, map, All, IfOk, OnOk};
-ghost use Rattle.hq_job.specs.Numbering.{with_key, grouped, by_number, submissions_of};
+ghost use Rattle.hq_job.specs.Numbering.{with_key, by_number, submissions_of};
 ghost use Rattle.hq_model.specs.Journal.{numbers};
 
 use crate::rows::Placed;

@@ -1,6 +1,6 @@
 //! Packets taken in.
 
-ghost use Rattle.std.specs.Prelude.{◌≡◌, ◌+◌, ◌^◌, ◌<◌, ◌≤◌, ◌↔◌, ◌⊎◌, ◌==◌, ◌∷◌, false, map, length, count_by, slice_index, All, AllPairs, Any, IfOk, IsNone, IsTrue};
+ghost use Rattle.std.specs.Prelude.{◌≡◌, ◌+◌, ◌^◌, ◌<◌, ◌≤◌, ◌↔◌, ◌⊎◌, ◌==◌, ◌∷◌, false, map, count_by, slice_index, All, AllPairs, Any, IfOk, IsNone, IsTrue};
 ghost use Rattle.hq_footprint.specs.Bytes.{Fits, IsOutside, ranges_of};
 ghost use Rattle.hq_footprint.specs.Table.{no_work};
 ghost use Rattle.hq_lines.specs.Meaning as says;

@@ -1,6 +1,6 @@
 //! Lines read.
 
-ghost use Rattle.std.specs.Prelude.{◌≡◌, if◌then◌else◌, ◌⊎◌, ◌↔◌, ◌++◌, List, length, map, IfOk, IfErr, IfSome, Ok, Err, Some, None, codes, IsTrue};
+ghost use Rattle.std.specs.Prelude.{◌≡◌, if◌then◌else◌, ◌⊎◌, ◌↔◌, ◌++◌, List, IfOk, IfErr, IfSome, Ok, Err, Some, codes};
 ghost use Rattle.std.specs.List.{list_any};
 ghost use Rattle.hq_text.specs.Lines.{words_of};
 ghost use Rattle.hq_lines.specs.Bytes.{is_outside};

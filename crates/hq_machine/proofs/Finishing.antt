@@ -4,7 +4,7 @@ use Rattle.hq_packet.specs.declared.packet.Scope.{Scope}
 use Rattle.hq_job.specs.Access.{AreOfQueue}
 use Rattle.hq_model.specs.Job.{Job, packet, agent_of, is_signal}
 use Rattle.hq_model.specs.Machine as machine
-use Rattle.hq_model.specs.Machine.{State, Event, Step, Released, completed, with_phase}
+use Rattle.hq_model.specs.Machine.{State, Event, Released, completed}
 use Rattle.hq_copies.specs.Copies.{IsReleased}
 use Rattle.hq_machine.specs.State.{StateValue}
 use Rattle.hq_machine.specs.View.{IsStateOf, Moved, Enabled, MayFinish, phased, signalled, decremented, state_of}

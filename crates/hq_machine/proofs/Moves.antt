@@ -3,7 +3,7 @@ use Rattle.std.proofs.Common.{◌≡◌, ℕ, ◌<◌, ◌↔◌, inl, inr, List
 use Rattle.std.proofs.lemmas.Bool.{cases_eq, cases_Bool, true≢false}
 use Rattle.hq_model.specs.Job.{Job, packet, IsPacket, Dependency, Kind}
 use Rattle.hq_model.specs.Machine as machine
-use Rattle.hq_model.specs.Machine.{State, Event, Step, MaySubmit, MayLaunch, WaitOver, with_phase, first_phase, put, put2}
+use Rattle.hq_model.specs.Machine.{State, Event, MaySubmit, MayLaunch, WaitOver, with_phase, first_phase, put2}
 use Rattle.hq_model.specs.Machine.Phase.{InQueue, Launched}
 use Rattle.hq_model.specs.Machine.Event.{Submit, Launch, Observe}
 use Rattle.hq_model.proofs.View.{phases_of_set}

@@ -8,7 +8,7 @@ use Rattle.hq_packet.specs.declared.packet.Scope.TheVariants as scope
 use Rattle.hq_job.specs.Access.{AreOfQueue}
 use Rattle.hq_model.specs.Job.{Job, packet, IsPacket, agent_of, reaches}
 use Rattle.hq_model.specs.Machine as machine
-use Rattle.hq_model.specs.Machine.{State, Event, Steps, Released, is_dirty, listed}
+use Rattle.hq_model.specs.Machine.{State, Event, Steps, Released, is_dirty}
 use Rattle.hq_model.specs.Machine.Event.{PushLane, PushAgent}
 use Rattle.hq_model.specs.Journal.{Pushes, numbers, packets_of, only_if, dirty_bytes, lane_pushes, agent_pushes}
 use Rattle.hq_model.specs.Journal.Coarse.{Finish, Rest}

@@ -7,7 +7,7 @@ use Rattle.std.specs.FinMap as finite
 use Rattle.std.specs.Ordering.{nat_cmp}
 use Rattle.hq_model.specs.Job.{Job, agent_of}
 use Rattle.hq_model.specs.Machine as machine
-use Rattle.hq_model.specs.Machine.{start, first_phase, is_dirty, IsByte}
+use Rattle.hq_model.specs.Machine.{start, first_phase, is_dirty}
 use Rattle.hq_model.specs.View.{copies_of, phases_of}
 use Rattle.hq_copies.specs.Copies.{opened}
 use Rattle.hq_machine.specs.State.{StateValue, StoresValue, no_stores}

@@ -6,7 +6,7 @@ use Rattle.hq_footprint.specs.declared.footprint.Range.{Range}
 use Rattle.hq_footprint.specs.Bytes.{bytes_of}
 use Rattle.hq_model.specs.Job.{Job, packet, IsPacket}
 use Rattle.hq_model.specs.Machine as machine
-use Rattle.hq_model.specs.Machine.{State, Copy, Event, Step, MaySubmit, MayLaunch, NoWorkLeft, is_dirty, is_work, dirty}
+use Rattle.hq_model.specs.Machine.{State, Copy, Event, MaySubmit, MayLaunch, NoWorkLeft, is_dirty, dirty}
 use Rattle.hq_model.specs.Machine.Event.{Submit, Launch, Observe, Enter, Read, Store, PushLane, PushAgent}
 use Rattle.hq_model.specs.Theorems.{Valid}
 use Rattle.hq_model.proofs.Bound.{slot_there}

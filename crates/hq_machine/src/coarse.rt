@@ -1,6 +1,6 @@
 //! Completions with the pushes that they wait for, and the rest.
 
-ghost use Rattle.std.specs.Prelude.{◌≡◌, ◌<◌, ◌≤◌, ◌↔◌, ℕ, IsTrue, length, MatchOption, IfOk, IfErr, OnOk, OnErr};
+ghost use Rattle.std.specs.Prelude.{◌≡◌, ◌<◌, ◌≤◌, ◌↔◌, IsTrue, length, MatchOption, IfOk, IfErr, OnOk, OnErr};
 ghost use Rattle.hq_copies.specs.Copies.{IsFirstDirty, NoneDirty, held};
 ghost use Rattle.hq_job.specs.Plan.{plan};
 ghost use Rattle.hq_machine.specs.Pushes.{maps_of, push_of, PushedBy, Within, Cleaned, Swept, WrittenBack, WroteBack, IsWorked};

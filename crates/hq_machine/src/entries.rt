@@ -1,6 +1,6 @@
 //! All reads of a packet in order, and all its stores.
 
-ghost use Rattle.std.specs.Prelude.{◌≡◌, ◌<◌, ◌↔◌, ℕ, Some, None, IsTrue, length, IfOk, IfErr, OnOk, OnErr, slice_index, slice_index_or, false, map, All, ◌+◌, ◌≤◌};
+ghost use Rattle.std.specs.Prelude.{◌≡◌, ◌<◌, ◌↔◌, ℕ, None, IsTrue, length, IfOk, IfErr, OnOk, OnErr, slice_index_or, false, map, All, ◌+◌, ◌≤◌};
 ghost use Rattle.hq_job.specs.Plan.{plan};
 ghost use Rattle.std.specs.List.{flat_map};
 ghost use Rattle.hq_footprint.specs.Bytes.{bytes_of};

@@ -1,13 +1,11 @@
 //! Submissions and launches.
 
-ghost use Rattle.std.specs.Prelude.{◌≡◌, ◌≢◌, ◌+◌, ◌-◌, ◌<◌, ◌≤◌, ◌↔◌, ℕ, true, IsTrue, length, IfErr, OnOk, OnErr, MatchOption, slice_index};
+ghost use Rattle.std.specs.Prelude.{◌≡◌, ◌≢◌, ◌+◌, ◌-◌, ◌<◌, ◌≤◌, ◌↔◌, ℕ, true, IsTrue, length, IfErr, OnOk, OnErr, MatchOption};
 ghost use Rattle.hq_job.specs.Plan.{plan};
-ghost use Rattle.hq_model.specs.Job.{IsPacket, IsBarrier, Earlier, Frees, packet, size_of};
-ghost use Rattle.hq_model.specs.Order.{Ahead};
+ghost use Rattle.hq_model.specs.Job.{IsPacket, IsBarrier, Earlier, Frees, packet};
 ghost use Rattle.hq_model.specs.Machine as machine;
 ghost use Rattle.hq_model.specs.Machine.{MaySubmit, MayLaunch, is_launched};
 ghost use Rattle.hq_model.specs.Machine.Event.{Submit, Launch};
-ghost use Rattle.hq_model.specs.View.{phases_of};
 ghost use Rattle.hq_machine.specs.View.{IsStateOf, IsFirstWaiting, IsFirstUnlaunched, IsClear, Moved, Refused, state_of};
 
 use crate::fault::StepFault;

@@ -1,6 +1,6 @@
 //! What a packet has read and stored.
 
-ghost use Rattle.std.specs.Prelude.{◌≡◌, ◌↔◌, ◌<◌, ◌⊎◌, ℕ, Some, None, true, false, length, replicate, slice_index_or, slice_set, IsTrue, IsSome, IsOk, OnOk, OnErr, IfOk, if◌then◌else◌, ◌==◌};
+ghost use Rattle.std.specs.Prelude.{◌≡◌, ◌↔◌, ◌<◌, ℕ, Some, None, true, false, length, replicate, slice_index_or, slice_set, IsTrue, OnOk, OnErr, IfOk, if◌then◌else◌};
 ghost use Rattle.hq_machine.specs.View.{IsRow, NextRow};
 
 use std::alloc::{AllocError, Global};

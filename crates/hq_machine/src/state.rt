@@ -1,7 +1,7 @@
 //! The state of a run.
 
-ghost use Rattle.std.specs.Prelude.{◌≡◌, ◌+◌, ◌<◌, ◌≤◌, ◌↔◌, ◌⊎◌, ℕ, Some, None, [], All, false, length, IfOk, IfErr, OnOk, OnErr, IsTrue, map, slice_index, slice_index_or, replicate};
-ghost use Rattle.hq_copies.specs.Copies.{IsLaneByte, opened};
+ghost use Rattle.std.specs.Prelude.{◌≡◌, ◌+◌, ◌<◌, ◌≤◌, ◌↔◌, ℕ, [], false, length, IfOk, IfErr, IsTrue, map, replicate};
+ghost use Rattle.hq_copies.specs.Copies.{IsLaneByte};
 ghost use Rattle.hq_job.specs.Plan.{plan};
 ghost use Rattle.hq_model.specs.Job.{Job as JobOfNumbers, IsPacket, agent_of};
 ghost use Rattle.hq_model.specs.Machine as machine;

@@ -1,11 +1,11 @@
 //! Stores.
 
-ghost use Rattle.std.specs.Prelude.{◌≡◌, ◌<◌, ◌↔◌, ℕ, IsTrue, length, IfOk, IfErr, OnOk, OnErr, MatchOption, slice_index, slice_index_or, unwrap_or, false, All, Some, map};
+ghost use Rattle.std.specs.Prelude.{◌≡◌, ◌<◌, ◌↔◌, ℕ, IsTrue, length, IfOk, IfErr, OnOk, OnErr, slice_index, slice_index_or, unwrap_or, false, All, Some, map};
 ghost use Rattle.hq_copies.specs.Copies.{stored};
 ghost use Rattle.hq_footprint.specs.Tasks.{Suits, result_of};
 ghost use Rattle.hq_job.specs.Plan.{plan};
 ghost use Rattle.hq_model.specs.Job.{Job as JobOfNumbers, IsPacket, packet as packet_of};
-ghost use Rattle.hq_model.specs.Machine.{bytes_read, bytes_stored, listed};
+ghost use Rattle.hq_model.specs.Machine.{bytes_read, bytes_stored};
 ghost use Rattle.hq_model.specs.Machine.Event.{Store};
 ghost use Rattle.hq_machine.specs.View.{IsStateOf, MayStore, NextStores, Moved, Refused, row_of, stores_of, marked, recopied, restored, state_of};
 

@@ -2,7 +2,7 @@
 
 ghost use Rattle.std.specs.Prelude.{◌≡◌, ◌<◌, ◌↔◌, ℕ, Some, true, false, IsTrue, length, IfErr, OnOk, OnErr, slice_index_or};
 ghost use Rattle.hq_job.specs.Plan.{plan};
-ghost use Rattle.hq_model.specs.Job.{IsPacket, Dependency};
+ghost use Rattle.hq_model.specs.Job.{IsPacket};
 ghost use Rattle.hq_model.specs.Machine.{WaitOver};
 ghost use Rattle.hq_model.specs.Machine.Event.{Observe, Enter};
 ghost use Rattle.hq_machine.specs.View.{IsStateOf, Observes, SlotObserved, SlotMissing, MayObserve, MayEnter, Acquired, Moved, Refused, observing, row_of, state_of};

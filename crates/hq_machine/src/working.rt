@@ -1,6 +1,6 @@
 //! Reads, stores and completions.
 
-ghost use Rattle.std.specs.Prelude.{◌≡◌, ◌<◌, ◌↔◌, ℕ, Some, None, IsTrue, IfSome, length, count_by, is_some, IfErr, OnOk, OnErr, MatchOption, slice_index_or};
+ghost use Rattle.std.specs.Prelude.{◌≡◌, ◌<◌, ◌↔◌, Some, None, IsTrue, IfSome, length, count_by, is_some, IfErr, OnOk, OnErr, MatchOption, slice_index_or};
 ghost use Rattle.hq_job.specs.Plan.{plan};
 ghost use Rattle.hq_model.specs.Job.{IsPacket, packet as packet_of};
 ghost use Rattle.hq_model.specs.Machine.{AllRead, AllStored, Released};

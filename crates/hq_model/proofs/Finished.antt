@@ -5,7 +5,7 @@ use Rattle.std.proofs.lemmas.List.Kept.{AllPairs-filter}
 use Rattle.hq_model.specs.Job.{Job, packet, IsPacket, agent_of, reaches}
 use Rattle.hq_packet.specs.declared.packet.Scope.TheVariants as scope
 use Rattle.hq_model.specs.Order.{In, place}
-use Rattle.hq_model.specs.Machine.{State, Copy, Event, Step, Steps, Run, IsByte, Released, is_dirty, without_clean, clean, dirty, put2, start, completed}
+use Rattle.hq_model.specs.Machine.{State, Copy, Event, Step, Steps, IsByte, Released, is_dirty, without_clean, clean, dirty, put2, start, completed}
 use Rattle.hq_model.specs.Machine.Event.{Submit, Launch, Observe, Enter, Read, Store, PushLane, PushAgent, FillLane, FillAgent, DropLane, DropAgent}
 use Rattle.hq_model.specs.Journal.{numbers, packets_of, dirty_bytes, lane_pushes, agent_pushes, only_if}
 use Rattle.hq_model.specs.Theorems.{Valid, FinishPossible}

@@ -1,6 +1,6 @@
 //! The order of a job's packets, worked out.
 
-ghost use Rattle.std.specs.Prelude.{◌≡◌, ℕ, suc, ◌+◌, ◌-◌, ◌<◌, ◌≤◌, ◌↔◌, ◌++◌, [], ◌∷◌, true, false, IsTrue, IfOk, IfErr, OnOk, MatchOption, length, ◌*◌, ◌^◌, slice_index};
+ghost use Rattle.std.specs.Prelude.{◌≡◌, ℕ, ◌+◌, ◌-◌, ◌<◌, ◌≤◌, ◌↔◌, [], true, false, IsTrue, IfOk, IfErr, MatchOption, length, ◌*◌};
 ghost use Rattle.hq_job.specs.Plan.{plan};
 ghost use Rattle.hq_model.specs.Order as order;
 ghost use Rattle.hq_order.specs.Rounds.{Direct, Next, IsFirstWithin, Between, IsMiddle};

@@ -1,6 +1,6 @@
 //! Sets of numbers as rows of bits: number `p` is bit `p % 64` of word `p / 64`.
 
-ghost use Rattle.std.specs.Prelude.{◌≡◌, ◌+◌, ◌*◌, ◌^◌, ◌/◌, ◌<◌, ◌≤◌, ◌||◌, ◌&&◌, ◌==◌, ℕ, length, true, false, IfSome, IfNone, All};
+ghost use Rattle.std.specs.Prelude.{◌≡◌, ◌+◌, ◌*◌, ◌^◌, ◌/◌, ◌<◌, ◌≤◌, ◌||◌, ◌&&◌, ◌==◌, ℕ, length, true, false, All};
 ghost use Rattle.std.specs.Prelude.{◌≢◌, not, IfOk, IsTrue, ◌↔◌, ◌⊎◌, MatchOption, slice_index};
 ghost use Rattle.std.specs.Int.{bit_at};
 ghost use Rattle.hq_order.specs.Bits.{has, Covers, IsFirstCommon};

@@ -1,6 +1,6 @@
 //! What comes before a packet by a rule that rests on no other pair.
 
-ghost use Rattle.std.specs.Prelude.{◌≡◌, ℕ, ◌-◌, ◌<◌, ◌↔◌, ◌⊎◌, ◌≢◌, ◌*◌, ◌≤◌, IsTrue, IfOk, OnOk, Some, false, length, slice_get};
+ghost use Rattle.std.specs.Prelude.{◌≡◌, ℕ, ◌-◌, ◌<◌, ◌↔◌, ◌⊎◌, ◌≢◌, ◌*◌, ◌≤◌, IsTrue, IfOk, OnOk, Some, length, slice_get};
 ghost use Rattle.hq_job.specs.Plan.{plan, kind_of};
 ghost use Rattle.hq_model.specs.Job.{IsPacket};
 ghost use Rattle.hq_model.specs.Job.Kind.{Work};

@@ -1,8 +1,8 @@
 //! What each packet stays behind.
 
-ghost use Rattle.std.specs.Prelude.{◌≡◌, ◌↔◌, ◌⊎◌, IsTrue, ◌+◌, ◌*◌, ◌<◌, ◌≤◌, ℕ, length, IfOk, slice_index};
+ghost use Rattle.std.specs.Prelude.{◌≡◌, ◌↔◌, ◌⊎◌, IsTrue, ◌*◌, ◌<◌, ◌≤◌, ℕ, length, IfOk};
 ghost use Rattle.hq_job.specs.Plan.{plan};
-ghost use Rattle.hq_model.specs.Job.{packet, Earlier, Decrements, Dependency};
+ghost use Rattle.hq_model.specs.Job.{packet, Earlier};
 ghost use Rattle.hq_model.specs.Order.{place};
 ghost use Rattle.hq_order.specs.Bits.{has};
 ghost use Rattle.hq_order.specs.Placing.{AllAre, Completing, Freeing, OfDependencies, Needs, Needed};

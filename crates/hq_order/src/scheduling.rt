@@ -1,6 +1,6 @@
 //! Lists of packets one by one.
 
-ghost use Rattle.std.specs.Prelude.{◌≡◌, ◌↔◌, ◌⊎◌, IsTrue, not, ◌+◌, ◌*◌, ◌<◌, ◌≤◌, ℕ, length, filter, IfOk, IfErr, MatchOption};
+ghost use Rattle.std.specs.Prelude.{◌≡◌, ◌↔◌, IsTrue, not, ◌+◌, ◌*◌, ◌<◌, ◌≤◌, ℕ, length, filter, IfOk, IfErr, MatchOption};
 ghost use Rattle.hq_job.specs.Plan.{plan};
 ghost use Rattle.hq_model.specs.Job.{Earlier};
 ghost use Rattle.hq_model.specs.Machine.{listed};

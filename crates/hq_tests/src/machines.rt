@@ -1,6 +1,8 @@
 ghost use Rattle.hq_job.specs.Plan.{plan};
 ghost use Rattle.hq_machine.specs.View.{IsStateOf};
 
+use hq_footprint::evaluate;
+use hq_footprint::laws::{bytes_counted, entries_counted};
 use hq_job::{Job, read_text};
 use hq_machine::{Event, Journal, State, StepFault};
 use std::alloc::{AllocError, Global};
@@ -60,5 +62,46 @@ fn work_is_left_until_the_end(rt: HostRuntime) -> Result<(), Fail> {
     add_steps(&mut journal, 1, 4, 4)?;
     assert_eq!(rt; journal.events().len(), 34);
     assert!(rt; ends(rt.alloc(), &job, &journal)?);
+    Ok(())
+}
+
+/// Delivers the four bytes that a packet's task makes of none, as a kernel from outside would.
+fn deliver_made(state: &mut State, job: &Job, packet: u32) -> bool
+    requires { IsStateOf (plan job.now) state.old }
+    ensures { IsStateOf (plan job.now) state.new }
+{
+    job.valid();
+    bytes_counted();
+    entries_counted();
+    let number = packet as usize;
+    if number >= job.packets().len() {
+        return false;
+    }
+    let placed = job.packet(number);
+    let [first, second] = placed.bytes.reads;
+    if first.len != 0 || second.len != 0 || placed.bytes.write.len != 4 {
+        return false;
+    }
+    let mut bytes = [0; 4];
+    evaluate(&placed.work.task, &[], &mut bytes);
+    state.deliver(job, packet, &bytes).is_ok()
+}
+
+/// Runs the first packet of a job, whose bytes are handed in; they are delivered once alone.
+fn runs_from_outside(alloc: Global, job: &Job) -> Result<bool, StepFault> {
+    let mut state = State::start(alloc, job)?;
+    let early = deliver_made(&mut state, job, 0);
+    state.apply(job, Event::Launch { queue: 0 })?;
+    state.apply(job, Event::Enter { packet: 0 })?;
+    let once = deliver_made(&mut state, job, 0);
+    let again = deliver_made(&mut state, job, 0);
+    state.apply(job, Event::Complete { packet: 0 })?;
+    Ok(!early && once && !again && state.memory() == b"\x07\x07\x07\x07\0\0\0\0".as_slice())
+}
+
+#[test]
+fn bytes_from_outside_are_delivered(rt: HostRuntime) -> Result<(), Fail> {
+    let job = read_text(rt.alloc(), JOB)?;
+    assert!(rt; runs_from_outside(rt.alloc(), &job)?);
     Ok(())
 }

@@ -1,7 +1,7 @@
 -- The first line of a text, and the text behind it.
 use Rattle.std.proofs.Common.{◌≡◌, ℕ, zero, suc, ◌+◌, ◌-◌, ◌<◌, ◌≤◌, Bool, true, false, cond, ltb, List, [], ◌∷◌, length, take, drop, Option, Some, None, inl, inr, refl, sym, ap, subst, ◌∙◌, arith, length-drop}
 use Rattle.std.specs.Prelude.{position}
-use Rattle.std.specs.List.{slice_split, position_or_len, All}
+use Rattle.std.specs.List.{slice_split, position_or_len}
 use Rattle.std.proofs.lemmas.List.Splits.{slice_split_first, slice_split_none}
 use Rattle.std.proofs.lemmas.List.Sums.{fails_before_first}
 use Rattle.std.proofs.lemmas.List.Quantifiers.{position-Some}
@@ -9,36 +9,36 @@ use Rattle.std.proofs.lemmas.Bool.{ltb-true, ltb-false, cases_lt}
 use Rattle.memchr.specs.Find.{IsFirstByte, is_byte}
 use Rattle.hq_text.specs.Lines.{is_line_feed, lines_of, without_empty_last}
 
-all_of : (xs : List ℕ) (n : ℕ) → length xs ≤ n → take n xs ≡ xs
+pub all_of : (xs : List ℕ) (n : ℕ) → length xs ≤ n → take n xs ≡ xs
 all_of [] zero le = refl
 all_of [] (suc n) le = refl
 all_of (x ∷ xs) zero le = absurd (omega arith)
 all_of (x ∷ xs) (suc n) le = ap (λ ys. x ∷ ys) (all_of xs n (omega arith))
 
 -- there is a last part
-record Parts (parts : List (List ℕ)) : Type 0 where
-  first : List ℕ
-  others : List (List ℕ)
-  is : parts ≡ first ∷ others
+pub record Parts (parts : List (List ℕ)) : Type 0 where
+  pub first : List ℕ
+  pub others : List (List ℕ)
+  pub is : parts ≡ first ∷ others
 
-parts_of : (p : ℕ → Bool) (xs : List ℕ) → Parts (slice_split p xs)
+pub parts_of : (p : ℕ → Bool) (xs : List ℕ) → Parts (slice_split p xs)
 parts_of p [] = record { first = []; others = []; is = refl }
 parts_of p (x ∷ xs) = by (p x) (parts_of p xs) where
   by : (b : Bool) → Parts (slice_split p xs) → Parts (cond b ([] ∷ slice_split p xs) (Rattle.std.specs.List.onto_first x (slice_split p xs)))
   by true r = record { first = []; others = slice_split p xs; is = refl }
   by false r = record { first = x ∷ r.first; others = r.others; is = ap (Rattle.std.specs.List.onto_first x) r.is }
 
-without : (x : List ℕ) (parts : List (List ℕ)) → Parts parts → without_empty_last (x ∷ parts) ≡ x ∷ without_empty_last parts
+pub without : (x : List ℕ) (parts : List (List ℕ)) → Parts parts → without_empty_last (x ∷ parts) ≡ x ∷ without_empty_last parts
 without [] parts r = rw r.is refl
 without (b ∷ x) parts r = rw r.is refl
 
-first_place : (p : ℕ → Bool) (xs : List ℕ) (at : ℕ) → position p xs ≡ Some at → (position_or_len p xs ≡ at) × (at < length xs)
+pub first_place : (p : ℕ → Bool) (xs : List ℕ) (at : ℕ) → position p xs ≡ Some at → (position_or_len p xs ≡ at) × (at < length xs)
 first_place p xs at e = by (ltb (position_or_len p xs) (length xs)) refl e where
   by : (b : Bool) → ltb (position_or_len p xs) (length xs) ≡ b → cond b (Some (position_or_len p xs)) None ≡ Some at → (position_or_len p xs ≡ at) × (at < length xs)
   by true is e = let same : position_or_len p xs ≡ at = cc in (same, let lt = ltb-true (position_or_len p xs) (length xs) is in omega arith)
   by false is e = absurd cc
 
-no_place : (p : ℕ → Bool) (xs : List ℕ) → position p xs ≡ None → length xs ≤ position_or_len p xs
+pub no_place : (p : ℕ → Bool) (xs : List ℕ) → position p xs ≡ None → length xs ≤ position_or_len p xs
 no_place p xs e = by (ltb (position_or_len p xs) (length xs)) refl e where
   by : (b : Bool) → ltb (position_or_len p xs) (length xs) ≡ b → cond b (Some (position_or_len p xs)) None ≡ None → length xs ≤ position_or_len p xs
   by true is e = absurd cc
@@ -59,7 +59,7 @@ kept : (text : List ℕ) → 0 < length text → without_empty_last (text ∷ []
 kept [] lt = absurd (omega arith)
 kept (b ∷ bs) lt = refl
 
-gone : (text : List ℕ) (n : ℕ) → take n (drop (length text) text) ≡ []
+pub gone : (text : List ℕ) (n : ℕ) → take n (drop (length text) text) ≡ []
 gone [] zero = refl
 gone [] (suc n) = refl
 gone (b ∷ bs) n = gone bs n

@@ -8,8 +8,8 @@ mod words;
 
 pub use name::Name;
 pub use number::number_of;
-pub use take::{TextFault, take_text};
-pub use words::{lines_of, words_of};
+pub use take::{Source, TURN_LEN, TURNS, TextFault, take_text};
+pub use words::{first_line, lines_of, words_of};
 
 #[cfg(test)]
 mod tests;

@@ -1,6 +1,6 @@
 //! Whole texts from readers.
 
-ghost use Rattle.std.specs.Prelude.{◌≡◌, ◌≤◌, ◌⊎◌, IfOk, IfErr, IfSome, List, ℕ};
+ghost use Rattle.std.specs.Prelude.{◌≡◌, ◌≤◌, ◌⊎◌, IfOk, IfErr, IfSome};
 ghost use Rattle.std.specs.Io.KnownBytes.{Consumes, IsAtEnd};
 ghost use Rattle.hq_text.specs.Turns.{Turn, Ends, Fails, Passes, ReadTurn};
 
@@ -18,13 +18,13 @@ pub enum TextFault {
 }
 
 /// How often a reader is asked at most.
-const TURNS: u32 = 2_000_000;
+pub const TURNS: u32 = 2_000_000;
 
 /// How many bytes a reader is asked for in a turn.
-const TURN_LEN: usize = 512;
+pub const TURN_LEN: usize = 512;
 
-/// What is asked for bytes, turn by turn.
-trait Source {
+/// What is asked for bytes, turn by turn: every reader is.
+pub trait Source {
     // What one turn may do.
     ghost Turned: { Turn Self };
 

@@ -49,6 +49,9 @@ fn cuts(rt: HostRuntime) -> Result<(), Fail> {
     let lines = lines_of(rt.alloc(), b"a\n\nb c\n")?;
     assert_eq!(rt; lines.as_slice(), [b"a".as_slice(), b"", b"b c"].as_slice());
     assert_eq!(rt; lines_of(rt.alloc(), b"\n\n")?.len(), 2);
+    assert!(rt; first_line(b"a\nb\n") == (b"a".as_slice(), b"b\n".as_slice()));
+    assert!(rt; first_line(b"\n") == (b"".as_slice(), b"".as_slice()));
+    assert!(rt; first_line(b"a b") == (b"a b".as_slice(), b"".as_slice()));
     let words = words_of(rt.alloc(), b"a  b ")?;
     assert_eq!(rt;
         words.as_slice(),

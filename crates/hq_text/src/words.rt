@@ -21,8 +21,8 @@ fn line_end(text: &[u8]) -> Option<usize>
     memchr(b'\n', text)
 }
 
-/// The first line of a text that isn't empty, and the text behind it.
-fn first_line(text: &[u8]) -> (&[u8], &[u8])
+/// The first line of a text that isn't empty, without its line feed, and the text behind it.
+pub fn first_line(text: &[u8]) -> (&[u8], &[u8])
     requires { 0 < length text.now }
     ensures cut { lines_of text.now ≡ result.0.now ∷ lines_of result.1.now }
     ensures shorter { length result.1.now < length text.now }

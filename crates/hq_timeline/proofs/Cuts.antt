@@ -1,75 +1,11 @@
--- The first line of a text, and the text behind it.
-use Rattle.std.proofs.Common.{◌≡◌, ℕ, zero, suc, ◌+◌, ◌-◌, ◌<◌, ◌≤◌, Bool, true, false, cond, ltb, List, [], ◌∷◌, length, take, drop, Some, None, refl, sym, ap, subst, ◌∙◌, arith, length-drop}
+-- The first word of a line, and the line behind it.
+use Rattle.std.proofs.Common.{◌≡◌, ℕ, ◌+◌, ◌-◌, ◌<◌, List, [], ◌∷◌, length, take, drop, Some, None, sym, ap, subst, ◌∙◌, arith, length-drop}
 use Rattle.std.specs.Prelude.{position}
-use Rattle.std.specs.List.{slice_split, position_or_len, All}
+use Rattle.std.specs.List.{position_or_len}
 use Rattle.std.proofs.lemmas.List.Splits.{slice_split_first, slice_split_none}
 use Rattle.std.proofs.lemmas.List.Sums.{fails_before_first}
-use Rattle.std.proofs.lemmas.Bool.{ltb-true, ltb-false}
-use Rattle.hq_text.specs.Lines.{is_line_feed, is_space, words_of, lines_of, without_empty_last}
-
-all_of : (xs : List ℕ) (n : ℕ) → length xs ≤ n → take n xs ≡ xs
-all_of [] zero le = refl
-all_of [] (suc n) le = refl
-all_of (x ∷ xs) zero le = absurd (omega arith)
-all_of (x ∷ xs) (suc n) le = ap (λ ys. x ∷ ys) (all_of xs n (omega arith))
-
--- there is a last part
-pub record Parts (parts : List (List ℕ)) : Type 0 where
-  pub first : List ℕ
-  pub others : List (List ℕ)
-  pub is : parts ≡ first ∷ others
-
-parts_of : (p : ℕ → Bool) (xs : List ℕ) → Parts (slice_split p xs)
-parts_of p [] = record { first = []; others = []; is = refl }
-parts_of p (x ∷ xs) = by (p x) (parts_of p xs) where
-  by : (b : Bool) → Parts (slice_split p xs) → Parts (cond b ([] ∷ slice_split p xs) (Rattle.std.specs.List.onto_first x (slice_split p xs)))
-  by true r = record { first = []; others = slice_split p xs; is = refl }
-  by false r = record { first = x ∷ r.first; others = r.others; is = ap (Rattle.std.specs.List.onto_first x) r.is }
-
-without : (x : List ℕ) (parts : List (List ℕ)) → Parts parts → without_empty_last (x ∷ parts) ≡ x ∷ without_empty_last parts
-without [] parts r = rw r.is refl
-without (b ∷ x) parts r = rw r.is refl
-
-first_place : (p : ℕ → Bool) (xs : List ℕ) (at : ℕ) → position p xs ≡ Some at → (position_or_len p xs ≡ at) × (at < length xs)
-first_place p xs at e = by (ltb (position_or_len p xs) (length xs)) refl e where
-  by : (b : Bool) → ltb (position_or_len p xs) (length xs) ≡ b → cond b (Some (position_or_len p xs)) None ≡ Some at → (position_or_len p xs ≡ at) × (at < length xs)
-  by true is e = let same : position_or_len p xs ≡ at = cc in (same, let lt = ltb-true (position_or_len p xs) (length xs) is in omega arith)
-  by false is e = absurd cc
-
-no_place : (p : ℕ → Bool) (xs : List ℕ) → position p xs ≡ None → length xs ≤ position_or_len p xs
-no_place p xs e = by (ltb (position_or_len p xs) (length xs)) refl e where
-  by : (b : Bool) → ltb (position_or_len p xs) (length xs) ≡ b → cond b (Some (position_or_len p xs)) None ≡ None → length xs ≤ position_or_len p xs
-  by true is e = absurd cc
-  by false is e = ltb-false (position_or_len p xs) (length xs) is
-
-pub cut_line : (text : List ℕ) (at n : ℕ) → position is_line_feed text ≡ Some at → n ≡ length text - (at + 1)
-    → lines_of text ≡ take at text ∷ lines_of (take n (drop (at + 1) text))
-cut_line text at n e len =
-    let place = first_place is_line_feed text at e in
-    let lt : position_or_len is_line_feed text < length text = omega (arith, place.0, place.1) in
-    let whole : take n (drop (at + 1) text) ≡ drop (at + 1) text = all_of (drop (at + 1) text) n (omega (arith, length-drop (at + 1) text)) in
-    let split : slice_split is_line_feed text ≡ take at text ∷ slice_split is_line_feed (drop (at + 1) text)
-    = subst (λ (k : ℕ). slice_split is_line_feed text ≡ take k text ∷ slice_split is_line_feed (drop (k + 1) text)) place.0 (slice_split_first is_line_feed text 0 lt) in
-    ap without_empty_last split ∙ without (take at text) (slice_split is_line_feed (drop (at + 1) text)) (parts_of is_line_feed (drop (at + 1) text))
-    ∙ ap (λ t. take at text ∷ lines_of t) (sym whole)
-
-kept : (text : List ℕ) → 0 < length text → without_empty_last (text ∷ []) ≡ text ∷ []
-kept [] lt = absurd (omega arith)
-kept (b ∷ bs) lt = refl
-
-gone : (text : List ℕ) (n : ℕ) → take n (drop (length text) text) ≡ []
-gone [] zero = refl
-gone [] (suc n) = refl
-gone (b ∷ bs) n = gone bs n
-
-pub last_line : (text : List ℕ) (n : ℕ) → position is_line_feed text ≡ None → 0 < length text
-    → lines_of text ≡ text ∷ lines_of (take n (drop (length text) text))
-last_line text n e lt =
-    let le = no_place is_line_feed text e in
-    let split : slice_split is_line_feed text ≡ text ∷ [] = slice_split_none is_line_feed text (λ k x h. fails_before_first is_line_feed text k x (omega arith)) in
-    ap without_empty_last split ∙ kept text lt ∙ ap (λ t. text ∷ lines_of t) (sym (gone text n))
-
--- ---- words
+use Rattle.hq_text.specs.Lines.{is_space, words_of}
+use Rattle.hq_text.proofs.Cuts.{Parts, all_of, parts_of, first_place, no_place}
 
 pub cut_word : (line : List ℕ) (at n : ℕ) → position is_space line ≡ Some at → n ≡ length line - (at + 1)
     → words_of line ≡ take at line ∷ words_of (take n (drop (at + 1) line))

@@ -1,5 +1,5 @@
 -- What one pass over a line finds is what its words say.
-use Rattle.std.proofs.Common.{◌≡◌, ◌≢◌, ℕ, ◌+◌, ◌-◌, ◌*◌, ◌^◌, ◌<◌, ◌≤◌, ◌&&◌, Bool, true, false, cond, List, [], ◌∷◌, Option, Some, None, Ok, refl, sym, ap, subst, ◌∙◌, arith, eqb, leb, ltb, codes, ◌++◌}
+use Rattle.std.proofs.Common.{◌≡◌, ◌≢◌, ℕ, ◌+◌, ◌-◌, ◌*◌, ◌<◌, ◌≤◌, ◌&&◌, Bool, true, false, cond, List, [], ◌∷◌, Option, Some, None, Ok, refl, sym, ap, subst, ◌∙◌, arith, eqb, leb, ltb, codes, ◌++◌}
 use Rattle.std.specs.List.{onto_first}
 use Rattle.std.specs.Bool.{Decides}
 use Rattle.std.specs.Prelude.{MatchOption, IfSome}
@@ -9,7 +9,7 @@ use Rattle.hq_text.specs.Numbers.{is_digit, read_on, number_of}
 use Rattle.hq_timeline.specs.declared.kinds.TwoNumbers.{TwoNumbers}
 use Rattle.hq_timeline.specs.declared.kinds.TwoNumbers.TheVariants as two
 use Rattle.hq_timeline.specs.declared.draft.Stage.TheVariants as stage
-use Rattle.hq_timeline.specs.LineTests.{◌>>=◌, number_said, small, two_kind, event_of_two, two_said, event_said, is_last}
+use Rattle.hq_timeline.specs.LineTests.{number_said, small, two_kind, event_of_two, two_said, event_said, is_last}
 use Rattle.hq_timeline.specs.TextStates.{State, added, add_content, add_event, with_event}
 use Rattle.hq_timeline.specs.OnePass.{words_behind, digits_on, EndsWord, NumberAhead, BothNumbers, EventAhead}
 use Rattle.hq_machine.specs.declared.event.Event.{Event}

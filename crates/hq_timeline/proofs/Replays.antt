@@ -1,5 +1,5 @@
 -- Events applied one behind another.
-use Rattle.std.proofs.Common.{◌≡◌, ℕ, zero, suc, ◌+◌, ◌<◌, ◌≤◌, List, [], ◌∷◌, ◌++◌, length, take, drop, map, Some, None, refl, sym, ap, subst, ◌∙◌, arith, add-one}
+use Rattle.std.proofs.Common.{◌≡◌, ℕ, zero, suc, ◌+◌, ◌<◌, ◌≤◌, List, [], ◌∷◌, ◌++◌, length, take, map, Some, refl, sym, ap, subst, ◌∙◌, arith, add-one}
 use Rattle.std.proofs.Math.Seq.{take-suc}
 use Rattle.std.specs.Prelude.{slice_get, slice_index, slice_index_or}
 use Rattle.hq_machine.specs.declared.event.Event.{Event}
@@ -13,7 +13,7 @@ use Rattle.hq_model.specs.Machine.{State, listed, start}
 use Rattle.hq_model.specs.Journal.{Coarse, Happens, Journal}
 use Rattle.hq_timeline.specs.declared.fault.ReplayFault.{ReplayFault}
 use Rattle.hq_timeline.specs.declared.fault.ReplayFault.TheVariants as fault
-use Rattle.hq_timeline.specs.Replays.{Goes, Stops, StopsFrom, FaultOf, Replayed, NotReplayed, StopsAt}
+use Rattle.hq_timeline.specs.Replays.{Goes, Stops, FaultOf, Replayed, NotReplayed}
 
 -- one event more behind those that led to a state
 journal_snoc : (job : Job) (old mid new : State) (events : List Coarse) (event : Coarse) → Journal job old events mid → Happens job mid event new → Journal job old (events ++ event ∷ []) new

@@ -1,7 +1,6 @@
 //! A journal as far as it is read.
 
 ghost use Rattle.std.specs.Prelude.{◌≡◌, Ok, IsTrue};
-ghost use Rattle.hq_text.specs.Lines.{words_of};
 ghost use Rattle.hq_timeline.specs.DraftView.{state_of};
 ghost use Rattle.hq_timeline.specs.Gives.{Gives};
 ghost use Rattle.hq_timeline.specs.Split.{list_of};

@@ -1,7 +1,7 @@
 //! Texts to journals.
 
-ghost use Rattle.std.specs.Prelude.{◌≡◌, ◌<◌, ◌≤◌, ◌⊎◌, ◌∷◌, List, length, position, IfOk, IfErr};
-ghost use Rattle.hq_text.specs.Lines.{lines_of, words_of, is_line_feed};
+ghost use Rattle.std.specs.Prelude.{◌≡◌, ◌<◌, ◌≤◌, ◌⊎◌, List, length, IfOk, IfErr};
+ghost use Rattle.hq_text.specs.Lines.{lines_of, words_of};
 ghost use Rattle.hq_machine.specs.declared.event.Event.{Event};
 ghost use Rattle.hq_timeline.specs.DraftView.{state_of};
 ghost use Rattle.hq_timeline.specs.Gives.{Gives, GivesJournal, TakesAll, no_memory};
@@ -14,6 +14,7 @@ use crate::fault::{TimeFault, TimeReason};
 use crate::one_pass;
 use crate::words::Words;
 use hq_machine::Journal;
+use hq_text::first_line;
 use std::alloc::Global;
 
 /// A fault at a line, or out of memory at line 0.
@@ -25,25 +26,6 @@ fn fault_at(line: usize, reason: TimeReason) -> TimeFault
         _ => line,
     };
     TimeFault { line, reason }
-}
-
-/// Where the first line feed stands.
-fn line_end(text: &[u8]) -> Option<usize>
-    ensures { result ≡ position is_line_feed text.now }
-{
-    text.iter().position(|b| *b == b'\n')
-}
-
-/// The first line of a text that isn't empty, and the text behind it.
-fn first_line(text: &[u8]) -> (&[u8], &[u8])
-    requires { 0 < length text.now }
-    ensures cut { lines_of text.now ≡ result.0.now ∷ lines_of result.1.now }
-    ensures shorter { length result.1.now < length text.now }
-{
-    match line_end(text) {
-        Some(at) => (&text[..at], &text[at + 1..]),
-        None => (text, &text[text.len()..]),
-    }
 }
 
 /// Takes in the next line.

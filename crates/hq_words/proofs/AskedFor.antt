@@ -1,5 +1,5 @@
 -- What the words of files ask for.
-use Rattle.std.proofs.Common.{◌≡◌, List, Option, Some, codes, sym, ◌∙◌}
+use Rattle.std.proofs.Common.{◌≡◌, List, Option, codes, sym, ◌∙◌}
 use Rattle.clap.specs.Words.{Row, Text, first_of}
 use Rattle.hq_words.specs.Asking.{AsksFor, AsksWith}
 use Rattle.hq_words.specs.declared.words.Asked.{Asked}

@@ -1,7 +1,7 @@
 //! What the words of a command line ask for.
 
 ghost use Rattle.std.specs.Prelude.{◌≡◌, ◌≢◌, [], Some, true, codes, map, option_map, IfOk, IfErr, IfSome};
-ghost use Rattle.clap.specs.Words.{all_of, first_of, found_of, rows_of, subcommand_of, subcommand_rows_of, takes};
+ghost use Rattle.clap.specs.Words.{all_of, found_of, rows_of, subcommand_of, subcommand_rows_of, takes};
 ghost use Rattle.hq_words.specs.Commands.{hsaq_app};
 ghost use Rattle.hq_words.specs.Asking.{Asks, AsksFor, AsksWith, words_or_audit, IsWords};
 

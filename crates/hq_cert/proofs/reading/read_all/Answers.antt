@@ -1,8 +1,5 @@
-use Rattle.std.proofs.Common.{subst}
 use Rattle.std.proofs.lemmas.Result.{err_from_is_err_and}
 use Rattle.hq_text.specs.Lines.{lines_of}
-use Rattle.hq_cert.specs.TextFaults.{State}
-use Rattle.hq_cert.specs.Gives.{LineFault}
 use Rattle.hq_cert.proofs.Wholes.{either_fault_from}
 use Rattle.hq_cert.specs.DraftView.{state_of}
 use Rattle.hq_cert.proofs.reading.read_all.Goals as goal

@@ -1,5 +1,3 @@
-use Rattle.std.specs.Prelude.{nat_eq}
-use Rattle.std.proofs.Common.{◌++◌}
 use Rattle.std.proofs.lemmas.Slice.Eq.{strip_prefix_is}
 use Rattle.hq_timeline.proofs.OnePass.{from_match, nat_tells}
 use Rattle.hq_timeline.proofs.one_pass.behind.Goals as goal

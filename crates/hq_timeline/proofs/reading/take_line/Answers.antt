@@ -1,4 +1,3 @@
-use Rattle.std.proofs.Common.{◌≡◌, sym, subst}
 use Rattle.hq_text.specs.Lines.{words_of}
 use Rattle.hq_timeline.specs.DraftView.{state_of}
 use Rattle.hq_timeline.proofs.OnePass.{event_added}

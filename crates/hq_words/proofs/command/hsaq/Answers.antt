@@ -1,6 +1,6 @@
 use Rattle.std.proofs.Common.{ap, ap₂, ◌∙◌}
 use Rattle.std.proofs.lemmas.Result.{IfOk-weaker}
-use Rattle.clap.specs.Words.{App, Shape, with_subcommand}
+use Rattle.clap.specs.Words.{App, with_subcommand}
 use Rattle.hq_words.proofs.command.hsaq.Goals as goal
 
 pub returns : goal.returns

@@ -1,4 +1,4 @@
-use Rattle.std.proofs.Common.{rules, ap, ◌≡◌, List, codes, map, true, refl, [], ◌∷◌, ◌∙◌, sym}
+use Rattle.std.proofs.Common.{rules, ap, ◌≡◌, List, codes, map, true, refl, [], ◌∷◌, ◌∙◌}
 use Rattle.std.proofs.lemmas.Result.{IfErr-weaker}
 use Rattle.clap.specs.Words.{Text, takes}
 use Rattle.clap.proofs.OnLiterals.{clap_on_literals}

@@ -1,4 +1,4 @@
-use Rattle.std.proofs.Common.{ap, ◌∙◌, sym, map}
+use Rattle.std.proofs.Common.{ap, ◌∙◌, map}
 use Rattle.clap.specs.Words.{App, takes}
 use Rattle.hq_words.proofs.words.matches_of.Goals as goal
 

@@ -1,4 +1,3 @@
-use Rattle.std.proofs.Common.{sym, ap, ◌∙◌, ◌++◌, take, drop}
 use Rattle.std.proofs.lemmas.Result.{err_from_is_err_and}
 use Rattle.hq_cert.proofs.Pieces.{stays_both, cut_in_two}
 use Rattle.hq_cert.proofs.progress.Progress.take_cut.Goals as goal

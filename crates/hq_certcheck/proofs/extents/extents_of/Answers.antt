@@ -1,6 +1,6 @@
 use Rattle.std.proofs.Common.{◌≡◌, ◌+◌, ◌<◌, length, sym, ap, subst, arith, take, slice_index_or}
 use Rattle.hq_certcheck.proofs.Bounds.{AreOf, of_push, of_all}
-use Rattle.hq_certcheck.proofs.extents.extents.Goals as goal
+use Rattle.hq_certcheck.proofs.extents.extents_of.Goals as goal
 
 pub loop-packet-preserved : goal.loop-packet-preserved
 loop-packet-preserved c =

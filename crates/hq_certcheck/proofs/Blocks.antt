@@ -1,0 +1,96 @@
+-- Blocks of packets, and the extents that they lie within.
+use Rattle.std.proofs.Common.{◌≡◌, ℕ, ◌+◌, ◌*◌, ◌/◌, ◌<◌, ◌≤◌, inl, inr, List, [], ◌∷◌, ◌++◌, length, sym, ◌∙◌, ap, subst, arith, Some, slice_get, length-append}
+use Rattle.std.proofs.lemmas.Bool.{cases_lt, cases_eq}
+use Rattle.hq_job.proofs.Grouped.{get_before, get_after}
+use Rattle.std.proofs.lemmas.Option.{slice_get_within}
+use Rattle.hq_model.specs.Job.{Job, IsPacket}
+use Rattle.hq_certcheck.specs.declared.extents.Extent.{Extent}
+use Rattle.hq_certcheck.specs.Covering.{IsFlagged, BlockFlagged, AllFlagged, FirstUnflaggedOf, FirstUnflaggedAfter}
+use Rattle.hq_certcheck.specs.Extents.{IsApart, IsAmong, HasBlock, AreBlocks, IsApartFromBlock, TellConflicts}
+use Rattle.hq_certcheck.proofs.Bounds.{flagged_apart}
+
+among_more : (e f g : Extent) → IsAmong e f → IsAmong f g → IsAmong e g
+among_more e f g h i = record { low = omega (arith, h.low, i.low); end = omega (arith, h.end, i.end) }
+
+apart_among : (d e f : Extent) → IsAmong e f → IsApart d f → IsApart d e
+apart_among d e f h (inl a) = inl (omega (arith, a, h.low))
+apart_among d e f h (inr a) = inr (omega (arith, a, h.end))
+
+-- one packet more lies within the block's extent
+pub block_more : (es : List Extent) (start b : ℕ) (f g d : Extent) → HasBlock es start b f → slice_get es b ≡ Some d → IsAmong f g → IsAmong d g → HasBlock es start (b + 1) g
+block_more es start b f g d h there i j = λ k e low high at. elim (cases_eq k b) [
+  | inl same ↦
+      let here : slice_get es b ≡ Some e = subst (λ m. slice_get es m ≡ Some e) same at in
+      let is : d ≡ e = cc in
+      subst (λ x. IsAmong x g) is j
+  | inr apart ↦ among_more e f g (h k e low (omega arith) at) i
+]
+
+-- the blocks of the first numbers
+abbrev pub Blocks : List Extent → List Extent → Type 0
+Blocks es blocks = (k : ℕ) (f : Extent) → slice_get blocks k ≡ Some f → HasBlock es (k * 32) (k * 32 + 32) f
+
+pub blocks_more : (es blocks : List Extent) (f : Extent) (n : ℕ) → length blocks ≡ n → Blocks es blocks → HasBlock es (n * 32) (n * 32 + 32) f → Blocks es (blocks ++ f ∷ [])
+blocks_more es blocks f n len h this = λ k g e. elim (cases_lt k (length blocks)) [
+  | inl low ↦ h k g (sym (get_before blocks (f ∷ []) k low) ∙ e)
+  | inr high ↦
+      let short : k < length (blocks ++ f ∷ []) = slice_get_within (blocks ++ f ∷ []) k g e in
+      let here : k ≡ length blocks + 0 = last_place blocks k high short in
+      let is : Some f ≡ Some g = sym (get_after blocks (f ∷ []) 0) ∙ ap (slice_get (blocks ++ f ∷ [])) (sym here) ∙ e in
+      let same : f ≡ g = cc in
+      let number : n ≡ k = omega (arith, len, here) in
+      subst (λ m. HasBlock es (m * 32) (m * 32 + 32) g) number (subst (HasBlock es (n * 32) (n * 32 + 32)) same this)
+]
+  where
+    last_place : (blocks : List Extent) (k : ℕ) → length blocks ≤ k → k < length (blocks ++ f ∷ []) → k ≡ length blocks + 0
+    last_place blocks k high short = omega (arith, length-append blocks (f ∷ []))
+
+pub apart_from_block : (es blocks : List Extent) (a block : ℕ) (d f : Extent) → AreBlocks es blocks → slice_get es a ≡ Some d → slice_get blocks block ≡ Some f → IsApart d f → IsApartFromBlock es a block
+apart_from_block es blocks a block d f h at there apart = λ b of c e here is.
+    let same : d ≡ c = cc in
+    subst (λ x. IsApart x e) same (apart_among d e f (h.each block f there b e (omega arith) (omega arith) is) apart)
+
+-- ---- flags of blocks
+
+-- where a packet is apart from a block, none of its flags there is lacking
+pub block_apart : (job : Job) (es : List Extent) (cells : List ℕ) (count p block : ℕ) → TellConflicts job es → IsPacket job p → count ≡ length job.packets → IsApartFromBlock es p block → BlockFlagged job cells count p block
+block_apart job es cells count p block tell p_is len apart = λ s above below of. flagged_apart job es cells count p s tell p_is (omega (arith, len, below)) (apart s of)
+
+-- those of the blocks below
+abbrev pub FlaggedBelow : Job → List ℕ → ℕ → ℕ → ℕ → Type 0
+FlaggedBelow job cells count p block = (s : ℕ) → p < s → s < count → s / 32 < block → IsFlagged job cells count p s
+
+pub below_more : (job : Job) (cells : List ℕ) (count p block : ℕ) → FlaggedBelow job cells count p block → BlockFlagged job cells count p block → FlaggedBelow job cells count p (block + 1)
+below_more job cells count p block h here = λ s above below low. elim (cases_eq (s / 32) block) [
+  | inl same ↦ here s above below same
+  | inr apart ↦ h s above below (omega arith)
+]
+
+pub first_after : (job : Job) (cells : List ℕ) (count p block r : ℕ) → FlaggedBelow job cells count p block → FirstUnflaggedOf job cells count p block r → FirstUnflaggedAfter job cells count p r
+first_after job cells count p block r h f =
+    let of = f.of_block in
+    let end = f.below in
+    record {
+      ahead = f.ahead;
+      below = f.below;
+      missing = f.missing;
+      first = λ s above below. elim (cases_eq (s / 32) block) [
+        | inl same ↦ f.first s above below same
+        | inr apart ↦ h s above (omega arith) (omega arith)
+      ];
+    }
+
+pub all_after : (job : Job) (cells : List ℕ) (count p block blocks : ℕ) → count ≤ blocks * 32 → blocks ≤ block → FlaggedBelow job cells count p block → AllFlagged job cells count p count
+all_after job cells count p block blocks room over h = λ s above below. h s above below (omega arith)
+
+-- ---- flags of one block
+
+-- those of the block up to a packet
+abbrev pub FlaggedUpto : Job → List ℕ → ℕ → ℕ → ℕ → ℕ → Type 0
+FlaggedUpto job cells count p block end = (s : ℕ) → p < s → s < end → s / 32 ≡ block → IsFlagged job cells count p s
+
+pub upto_more : (job : Job) (cells : List ℕ) (count p block r : ℕ) → FlaggedUpto job cells count p block r → IsFlagged job cells count p r → FlaggedUpto job cells count p block (r + 1)
+upto_more job cells count p block r h here = λ s above below of. elim (cases_eq s r) [
+  | inl same ↦ subst (IsFlagged job cells count p) (sym same) here
+  | inr apart ↦ h s above (omega arith) of
+]
