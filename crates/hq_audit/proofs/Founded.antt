@@ -71,21 +71,6 @@ before_first job p r b = first_of job b
 pub below_before : (job : Job) (round p r : ℕ) → Below job round p r → Before job p r
 below_before job round p r b = within_before job b.k p r b.within
 
-pub below_is_first : (job : Job) (round p r : ℕ) → Below job round p r → IsPacket job p
-below_is_first job round p r b = within_first job b.k p r b.within
-
-pub below_is_second : (job : Job) (round p r : ℕ) → Below job round p r → IsPacket job r
-below_is_second job round p r b = within_second job b.k p r b.within
-
-pub below_first : (job : Job) (round k p r : ℕ) → IsFirstWithin job k p r → k < round → Below job round p r
-below_first job round k p r f l = record { k = k; lower = l; within = f.within }
-
-pub first_below : (job : Job) (round k p r : ℕ) → IsFirstWithin job k p r → Below job round p r → k < round
-first_below job round k p r f b = elim (cases_lt b.k k) [
-  | inl low ↦ absurd (f.first b.k low b.within)
-  | inr high ↦ let l : b.k < round = b.lower in omega arith
-]
-
 -- ---- the reasons
 
 pub branch_reaches : (job : Job) (round p s d : ℕ) → ByBranch job round p s d → Reaches job (Below job round) p s
@@ -142,6 +127,3 @@ middle_between job round p r m b = elim (cases_lt b.first.k b.second.k) [
   | inl low ↦ record { k = b.second.k; lower = b.second.lower; first = within_le job b.second.k b.first.k p m (omega arith) b.first.within; second = b.second.within }
   | inr high ↦ record { k = b.first.k; lower = b.first.lower; first = b.first.within; second = within_le job b.first.k b.second.k m r (omega arith) b.second.within }
 ]
-
-pub between_middle : (job : Job) (round p r m : ℕ) → Between job round p r m → ByMiddle job round p r m
-between_middle job round p r m b = record { first = record { k = b.k; lower = b.lower; within = b.first }; second = record { k = b.k; lower = b.lower; within = b.second } }

@@ -11,10 +11,6 @@ use Rattle.hq_cert.specs.LineTests.{◌>>=◌, each}
 abbrev pub with_front : {A : Type 0} → List A → Result (List A) CertReason → Result (List A) CertReason
 with_front front r = r >>= λ xs. Ok (front ++ xs)
 
-pub front_none : {A : Type 0} (front : List A) (r : Result (List A) CertReason) → front ≡ [] → with_front front r ≡ r
-front_none front (Ok xs) e = ap (λ ys. Ok (ys ++ xs)) e
-front_none front (Err f) e = refl
-
 front_one : {A : Type 0} (front : List A) (y : A) (r : Result (List A) CertReason) → with_front (front ++ y ∷ []) r ≡ with_front front (r >>= λ ys. Ok (y ∷ ys))
 front_one front y (Ok xs) = ap (λ ys. Ok ys) (append_assoc front (y ∷ []) xs)
 front_one front y (Err f) = refl

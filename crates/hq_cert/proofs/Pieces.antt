@@ -1,10 +1,8 @@
 -- A text that is taken in piece by piece.
-use Rattle.std.proofs.Common.{◌≡◌, ℕ, ◌+◌, ◌<◌, ◌⊎◌, inl, inr, Bool, true, false, cond, List, [], ◌∷◌, ◌++◌, length, take, drop, Option, Some, None, refl, sym, ap, subst, ◌∙◌, append_assoc, append-nil, length-append, arith}
-use Rattle.std.specs.Prelude.{slice_index, IfSome, IfErr, MatchOption, OnOk, Result, Ok, Err, is_some}
+use Rattle.std.proofs.Common.{◌≡◌, ℕ, ◌+◌, ◌⊎◌, inl, inr, Bool, true, false, cond, List, [], ◌∷◌, ◌++◌, length, take, drop, Option, Some, None, refl, sym, ap, subst, ◌∙◌, append_assoc, append-nil, length-append, arith}
+use Rattle.std.specs.Prelude.{IfErr, MatchOption, OnOk, Result, Ok, Err}
 use Rattle.std.specs.List.{slice_split, onto_first}
-use Rattle.std.proofs.lemmas.Bool.{eqb-true}
-use Rattle.std.proofs.lemmas.List.{take_more, take-append-drop}
-use Rattle.memchr.specs.Find.{IsLastByte, is_byte}
+use Rattle.std.proofs.lemmas.List.{take-append-drop}
 use Rattle.hq_text.specs.Lines.{lines_of, is_line_feed, without_empty_last}
 use Rattle.hq_cert.specs.declared.fault.CertFault.{CertFault}
 use Rattle.hq_cert.specs.declared.progress.Progress.{Progress}
@@ -44,12 +42,6 @@ whole_lines a b (inr e) = lines_behind a b e
 
 pub ends_behind : (text piece : List ℕ) → EndsLine piece → EndsLine (text ++ piece)
 ends_behind text piece e = record { front = text ++ e.front; is = ap (λ t. text ++ t) e.is ∙ sym (append_assoc text e.front (10 ∷ [])) }
-
-pub last_ends : (piece : List ℕ) (r : Option ℕ) → IsLastByte (is_byte 10) piece r → IfSome r (λ at. (at < length piece) × EndsLine (take (at + 1) piece))
-last_ends piece None h = tt
-last_ends piece (Some at) h =
-    let within = h.0.high in
-    (within, record { front = take at piece; is = take_more piece at 0 within ∙ ap (λ b. take at piece ++ b ∷ []) (eqb-true (slice_index piece at) 10 h.1) })
 
 -- ---- what waits
 
@@ -116,16 +108,8 @@ stays_more text piece f (inr h) = inr (λ more. subst (λ (t : List ℕ). FirstF
 pub cut_in_two : (piece front rest : List ℕ) (n : ℕ) → front ≡ take n piece → rest ≡ drop n piece → piece ≡ front ++ rest
 cut_in_two piece front rest n e k = sym (ap (λ f. f ++ rest) e ∙ ap (λ r. take n piece ++ r) k ∙ take-append-drop n piece)
 
-pub held_both : (p : Progress) (text front rest piece : List ℕ) → piece ≡ front ++ rest → Holds p ((text ++ front) ++ rest) → Holds p (text ++ piece)
-held_both p text front rest piece e h = subst (λ (t : List ℕ). Holds p t) (append_assoc text front rest ∙ ap (λ t. text ++ t) (sym e)) h
-
 pub stays_both : (text front rest piece : List ℕ) (f : CertFault) → piece ≡ front ++ rest → Stays (text ++ front) f → Stays (text ++ piece) f
 stays_both text front rest piece f e h = subst (λ (t : List ℕ). Stays t f) (append_assoc text front rest ∙ ap (λ t. text ++ t) (sym e)) (stays_more (text ++ front) rest f h)
-
--- behind a fault nothing changes
-pub refused_more : (fault : Option CertFault) (p : Progress) (text piece : List ℕ) → is_some fault ≡ true → MatchOption fault (Holds p text) (Stays text) → MatchOption fault (Holds p (text ++ piece)) (Stays (text ++ piece))
-refused_more None p text piece e h = absurd cc
-refused_more (Some f) p text piece e h = stays_more text piece f h
 
 -- ---- what the steps leave
 

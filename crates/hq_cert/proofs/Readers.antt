@@ -20,9 +20,6 @@ pub record Follows (S : Type 0) (T : Turn S) (old : S) (n : ℕ) (new : S) (r : 
   pub given : Gives S T old n text new
   pub so : HasRead r text
 
-pub of_text : {S : Type 0} {T : Turn S} {turns : ℕ} {old new : S} {P Q : List ℕ → Type 0} → OfText S T turns old new P → ((text : List ℕ) → P text → Q text) → OfText S T turns old new Q
-of_text h k = record { text = h.text; ended = h.ended; so = k h.text h.so }
-
 known : {S : Type 0} (left : S → Option (List ℕ)) (turns : ℕ) (old new : S) (P : List ℕ → Type 0) → OfText S (ReadTurn left) turns old new P → IfSome (left old) P
 known left turns old new P h =
     known_text P (left old) (left new) h.text (taken_consumes {E = Unit {0}} (Ok h.text) (λ t. t) left turns old new h.ended) (taken_at_end {E = Unit {0}} (Ok h.text) (λ t. t) left turns old new h.ended) h.so

@@ -414,9 +414,6 @@ pair_cites ch count p r (ForWriteReadChained x x2 y2 y a b c d e) hp hr h =
 
 -- ---- a line in its place
 
-tail_is : (w : List ℕ) (xs ys : List (List ℕ)) → w ∷ xs ≡ w ∷ ys → xs ≡ ys
-tail_is w xs ys e = cc
-
 -- what a line leaves, by the words behind `line` or `pair`
 line_at : (s : State) (others : List (List ℕ)) → s.stage ≡ stage.Lines → added s (codes "line" ∷ others) ≡ (line_said (length s.lines) others >>= λ l. Ok (with_line s l))
 unfolding added add_content add_line

@@ -3,11 +3,10 @@ use Rattle.std.proofs.Common.{◌≡◌, ℕ, ◌+◌, ◌*◌, ◌/◌, ◌<◌
 use Rattle.std.proofs.lemmas.Bool.{cases_lt, cases_eq}
 use Rattle.hq_job.proofs.Grouped.{get_before, get_after}
 use Rattle.std.proofs.lemmas.Option.{slice_get_within}
-use Rattle.hq_model.specs.Job.{Job, IsPacket}
+use Rattle.hq_model.specs.Job.{Job}
 use Rattle.hq_certcheck.specs.declared.extents.Extent.{Extent}
-use Rattle.hq_certcheck.specs.Covering.{IsFlagged, BlockFlagged, AllFlagged, FirstUnflaggedOf, FirstUnflaggedAfter}
-use Rattle.hq_certcheck.specs.Extents.{IsApart, IsAmong, HasBlock, AreBlocks, IsApartFromBlock, TellConflicts}
-use Rattle.hq_certcheck.proofs.Bounds.{flagged_apart}
+use Rattle.hq_certcheck.specs.Covering.{IsFlagged, BlockFlagged, AllFlagged}
+use Rattle.hq_certcheck.specs.Extents.{IsApart, IsAmong, HasBlock}
 
 among_more : (e f g : Extent) → IsAmong e f → IsAmong f g → IsAmong e g
 among_more e f g h i = record { low = omega (arith, h.low, i.low); end = omega (arith, h.end, i.end) }
@@ -45,16 +44,7 @@ blocks_more es blocks f n len h this = λ k g e. elim (cases_lt k (length blocks
     last_place : (blocks : List Extent) (k : ℕ) → length blocks ≤ k → k < length (blocks ++ f ∷ []) → k ≡ length blocks + 0
     last_place blocks k high short = omega (arith, length-append blocks (f ∷ []))
 
-pub apart_from_block : (es blocks : List Extent) (a block : ℕ) (d f : Extent) → AreBlocks es blocks → slice_get es a ≡ Some d → slice_get blocks block ≡ Some f → IsApart d f → IsApartFromBlock es a block
-apart_from_block es blocks a block d f h at there apart = λ b of c e here is.
-    let same : d ≡ c = cc in
-    subst (λ x. IsApart x e) same (apart_among d e f (h.each block f there b e (omega arith) (omega arith) is) apart)
-
 -- ---- flags of blocks
-
--- where a packet is apart from a block, none of its flags there is lacking
-pub block_apart : (job : Job) (es : List Extent) (cells : List ℕ) (count p block : ℕ) → TellConflicts job es → IsPacket job p → count ≡ length job.packets → IsApartFromBlock es p block → BlockFlagged job cells count p block
-block_apart job es cells count p block tell p_is len apart = λ s above below of. flagged_apart job es cells count p s tell p_is (omega (arith, len, below)) (apart s of)
 
 -- those of the blocks below
 abbrev pub FlaggedBelow : Job → List ℕ → ℕ → ℕ → ℕ → Type 0
@@ -65,20 +55,6 @@ below_more job cells count p block h here = λ s above below low. elim (cases_eq
   | inl same ↦ here s above below same
   | inr apart ↦ h s above below (omega arith)
 ]
-
-pub first_after : (job : Job) (cells : List ℕ) (count p block r : ℕ) → FlaggedBelow job cells count p block → FirstUnflaggedOf job cells count p block r → FirstUnflaggedAfter job cells count p r
-first_after job cells count p block r h f =
-    let of = f.of_block in
-    let end = f.below in
-    record {
-      ahead = f.ahead;
-      below = f.below;
-      missing = f.missing;
-      first = λ s above below. elim (cases_eq (s / 32) block) [
-        | inl same ↦ f.first s above below same
-        | inr apart ↦ h s above (omega arith) (omega arith)
-      ];
-    }
 
 pub all_after : (job : Job) (cells : List ℕ) (count p block blocks : ℕ) → count ≤ blocks * 32 → blocks ≤ block → FlaggedBelow job cells count p block → AllFlagged job cells count p count
 all_after job cells count p block blocks room over h = λ s above below. h s above below (omega arith)

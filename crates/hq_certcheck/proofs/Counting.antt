@@ -1,5 +1,5 @@
 -- Counts of bytes and of steps.
-use Rattle.std.proofs.Common.{◌≡◌, ℕ, ◌+◌, ◌-◌, ◌<◌, ◌≤◌, inl, inr, List, [], ◌∷◌, ◌++◌, length, sym, subst, arith, sum_by, slice_index_or, All, length-append}
+use Rattle.std.proofs.Common.{◌≡◌, ℕ, ◌+◌, ◌-◌, ◌<◌, ◌≤◌, inl, inr, List, [], ◌∷◌, ◌++◌, length, sym, subst, arith, slice_index_or, All, length-append}
 use Rattle.std.specs.List.{flat_map}
 use Rattle.std.proofs.lemmas.Bool.{cases_lt}
 use Rattle.std.proofs.lemmas.List.{get_or_append_left, get_or-append-add}
@@ -49,9 +49,3 @@ is_short v p x limits read valid l e =
       reads = short_ranges x.bytes.reads 65536 low;
       write = short_range x.bytes.write 65536 (λ k d m. omega (arith, writes k d m, memory_few v limits));
     }
-
-pub two_lengths : (xs : List Range) (d : Range) → length xs ≡ 2 → (slice_index_or xs 0 d).len + (slice_index_or xs 1 d).len ≡ sum_by (λ r. r.len) xs
-two_lengths [] d e = absurd (omega (arith, e))
-two_lengths (x ∷ []) d e = absurd (omega (arith, e))
-two_lengths (x ∷ y ∷ []) d e = omega arith
-two_lengths (x ∷ y ∷ z ∷ zs) d e = absurd (omega (arith, e))

@@ -30,9 +30,6 @@ counts_more job i queue next h is e low = record {
 pub count_here : (job : Job) (i queue : ℕ) (next : List ℕ) → AreCounts job i next → queue ≡ (packet job i).queue → queue < length next → slice_index next queue ≡ count_by (λ p. p.queue == (packet job i).queue) (take i job.packets)
 count_here job i queue next h e low = h.at queue low ∙ ap (λ k. count_by (λ p. p.queue == k) (take i job.packets)) e
 
-pub counts_none : (job : Job) (next : List ℕ) → ((q : ℕ) → q < length next → slice_index next q ≡ 0) → AreCounts job 0 next
-counts_none job next none = record { at = none }
-
 -- ---- a table of one number more
 
 pub table_more : (n x : ℕ) (f : ℕ → ℕ) (table longer : List ℕ) → IsTable n f table → longer ≡ table ++ x ∷ [] → x ≡ f n → IsTable (n + 1) f longer

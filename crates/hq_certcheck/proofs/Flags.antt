@@ -1,11 +1,11 @@
 -- Tables of flags, a flag for each kind of conflict of two packets.
-use Rattle.std.proofs.Common.{◌≡◌, ℕ, ◌+◌, ◌*◌, ◌<◌, ◌≤◌, ◌⊎◌, ◌↔◌, inl, inr, IsTrue, List, length, replicate, sym, ◌∙◌, ap, subst, arith, Option, None, Some, MatchOption, slice_get, slice_index_or, refl, bit_or, ◌==◌}
+use Rattle.std.proofs.Common.{◌≡◌, ℕ, ◌+◌, ◌*◌, ◌<◌, ◌≤◌, ◌⊎◌, ◌↔◌, inl, inr, IsTrue, List, length, sym, ◌∙◌, ap, subst, arith, Option, None, Some, MatchOption, slice_get, slice_index_or, refl, bit_or, ◌==◌}
 use Rattle.std.specs.Int.{bit_at}
 use Rattle.std.proofs.lemmas.Nat.Bits.{bit_at_or, bit_at-lt}
 use Rattle.std.proofs.Math.ListN.{set}
 use Rattle.std.proofs.Math.Nat.{mul-le-mul_right}
 use Rattle.std.proofs.lemmas.Bool.{cases_lt, cases_eq, eqb-true, eq-eqb}
-use Rattle.std.proofs.lemmas.List.{get_or-set_same, get_or-set_other, length-set, get_or-replicate, length-replicate}
+use Rattle.std.proofs.lemmas.List.{get_or-set_same, get_or-set_other, length-set}
 use Rattle.hq_footprint.specs.declared.conflicts.Kinds.{Kinds}
 use Rattle.hq_job.specs.Conflicts.{HasConflicts}
 use Rattle.hq_model.specs.Job.{Job, IsPacket}
@@ -125,22 +125,6 @@ listed_next pairs i count old new pair a m here = record {
   );
 }
 
-no_flag : (kind : Conflict) → IsTrue (has_kind kind (kinds_in 0)) → ⊥
-no_flag WriteRead t = cc
-no_flag WriteWrite t = cc
-no_flag ReadWrite t = cc
-
-pub none_listed : (pairs : List Pair) (count : ℕ) (cells : List ℕ) → cells ≡ replicate (count * count) 0 → AreListed pairs 0 count cells
-none_listed pairs count cells e = record {
-  len = ap length e ∙ length-replicate (count * count) 0;
-  flags = λ p r l m kind. (
-    λ t.
-        let is : cell cells count p r ≡ kinds_in 0 = ap (λ xs. cell xs count p r) e ∙ ap kinds_in (get_or-replicate (count * count) (p * count + r) 0 0 (place_below count p r l m)) in
-        absurd (no_flag kind (subst (λ x. IsTrue (has_kind kind x)) is t)),
-    λ x. absurd (omega (arith, x.below)),
-  );
-}
-
 -- ---- flags read
 
 pub conflicts_by : (job : Job) (p r : ℕ) (kinds : Kinds) → HasConflicts job p r kinds → (kind : Conflict) → IsTrue (has_kind kind kinds) ↔ Conflicts job kind p r
@@ -158,12 +142,6 @@ flagged_by job p r found listed h = (
 -- where p and r lack a flag, and their conflicts have theirs, r and p have all
 pub flagged_back : (job : Job) (cells : List ℕ) (count p r : ℕ) → ((kind : Conflict) × Conflicts job kind p r) → (AreFlagged job cells count p r → ⊥) → IsFlagged job cells count p r → AreFlagged job cells count r p
 flagged_back job cells count p r (kind, conflict) ban h = elim (h kind conflict) [ inl f ↦ absurd (ban f) | inr f ↦ f ]
-
-pub flagged_more : (job : Job) (cells : List ℕ) (count p r : ℕ) → AllFlagged job cells count p r → IsFlagged job cells count p r → AllFlagged job cells count p (r + 1)
-flagged_more job cells count p r h here s above below = elim (cases_eq s r) [
-  | inl same ↦ subst (IsFlagged job cells count p) (sym same) here
-  | inr apart ↦ h s above (omega arith)
-]
 
 pub flagged_rows : (job : Job) (cells : List ℕ) (count p : ℕ) → ((q : ℕ) → q < p → AllFlagged job cells count q count) → AllFlagged job cells count p count → (q : ℕ) → q < p + 1 → AllFlagged job cells count q count
 flagged_rows job cells count p h here q below = elim (cases_eq q p) [

@@ -1,28 +1,12 @@
 -- The last places at which packets complete on signals.
-use Rattle.std.proofs.Common.{◌≡◌, ℕ, ◌+◌, ◌<◌, ◌≤◌, ◌↔◌, inl, inr, List, length, refl, sym, ◌∙◌, ap, subst, arith, Option, None, Some, IfSome, IsTrue, slice_index, slice_index_or}
+use Rattle.std.proofs.Common.{◌≡◌, ℕ, ◌+◌, ◌<◌, ◌↔◌, inl, inr, List, length, refl, sym, ◌∙◌, ap, subst, arith, Option, None, Some, IfSome, IsTrue, slice_index, slice_index_or}
 use Rattle.std.specs.Prelude.{nat_lt}
-use Rattle.std.proofs.Math.ListN.{set}
-use Rattle.std.proofs.lemmas.Bool.{cases_eq, cases_lt, ltb-true, lt-ltb}
-use Rattle.std.proofs.lemmas.List.{get_or-set_same, get_or-set_other, length-set, get_or_past}
+use Rattle.std.proofs.lemmas.Bool.{cases_eq, ltb-true, lt-ltb}
 use Rattle.hq_model.specs.Job.{Job, packet, IsPacket, Decrements}
 use Rattle.hq_certcheck.specs.Placed.{AreLasts, IsNoted, IsOverBefore}
 use Rattle.hq_certcheck.proofs.Saying.{none_some, some_same}
 
 -- ---- one place noted
-
-pub noted_set : (old : List (Option ℕ)) (t place : ℕ) (value : Option ℕ) → t < length old → ((b : ℕ) → IfSome value (λ l. l < b) ↔ (IfSome (slice_index_or old t None) (λ l. l < b) × (place < b))) → IsNoted old (set old t value) (Some t) place
-noted_set old t place value low later = record {
-  len = length-set old t value;
-  here = λ s b e.
-      let same : t ≡ s = some_same t s e in
-      let new_is : slice_index_or (set old t value) s None ≡ value = ap (λ k. slice_index_or (set old t value) k None) (sym same) ∙ get_or-set_same old t value None low in
-      subst (λ o. IfSome o (λ l. l < b) ↔ (IfSome (slice_index_or old s None) (λ l. l < b) × (place < b))) (sym new_is)
-      (subst (λ k. IfSome value (λ l. l < b) ↔ (IfSome (slice_index_or old k None) (λ l. l < b) × (place < b))) same (later b));
-  elsewhere = λ s apart. get_or-set_other old t s value None (λ e. apart (ap Some (sym e)));
-}
-
-pub noted_none : (old : List (Option ℕ)) (place : ℕ) → IsNoted old old None place
-noted_none old place = record { len = refl; here = λ s b e. absurd (none_some s e); elsewhere = λ s apart. refl }
 
 -- ---- all of them
 
@@ -30,18 +14,6 @@ noted_none old place = record { len = refl; here = λ s b e. absurd (none_some s
 pub record AreLastsTo (job : Job) (places : List ℕ) (count n : ℕ) (lasts : List (Option ℕ)) : Type 0 where
   pub len : length lasts ≡ count
   pub last : (s b : ℕ) → IfSome (slice_index_or lasts s None) (λ l. l < b) ↔ ((d : ℕ) → d < n → Decrements job d s → slice_index places d < b)
-
-pub lasts_none : (job : Job) (places : List ℕ) (count : ℕ) (lasts : List (Option ℕ)) → length lasts ≡ count → ((s : ℕ) → s < length lasts → slice_index_or lasts s None ≡ None) → AreLastsTo job places count 0 lasts
-lasts_none job places count lasts len none = record {
-  len = len;
-  last = λ s b. (
-    λ h d below. absurd (omega (arith, below)),
-    λ h. subst (λ o. IfSome o (λ l. l < b)) (sym (nowhere s)) tt,
-  );
-}
-  where
-    nowhere : (s : ℕ) → slice_index_or lasts s None ≡ None
-    nowhere s = elim (cases_lt s (length lasts)) [ inl low ↦ none s low | inr past ↦ get_or_past lasts s None past ]
 
 module _ (job : Job) (places : List ℕ) (count n place : ℕ) (old new : List (Option ℕ)) (h : AreLastsTo job places count n old) (here : place ≡ slice_index places n) where
   -- n completes on the signal
@@ -83,12 +55,6 @@ module _ (job : Job) (places : List ℕ) (count n place : ℕ) (old new : List (
 
     pub lasts_more : AreLastsTo job places count (n + 1) new
     lasts_more = record { len = noted.len ∙ h.len; last = λ s b. by s b done refl }
-
-pub lasts_all : (job : Job) (places : List ℕ) (count n : ℕ) (lasts : List (Option ℕ)) → length job.packets ≤ n → AreLastsTo job places count n lasts → AreLasts job places count lasts
-lasts_all job places count n lasts whole h = record {
-  len = h.len;
-  last = λ s b. (λ t d f. (h.last s b).0 t d (omega (arith, f.is_packet, whole)) f, λ all. (h.last s b).1 (λ d below f. all d f));
-}
 
 -- a last place is ahead of r exactly where all that complete on the signal are
 pub last_over : (job : Job) (places : List ℕ) (count s r last : ℕ) (lasts : List (Option ℕ)) → AreLasts job places count lasts → slice_index_or lasts s None ≡ Some last → IsTrue (nat_lt last (slice_index places r)) ↔ IsOverBefore job places s r

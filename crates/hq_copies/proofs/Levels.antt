@@ -1,9 +1,8 @@
 -- The finite map that lower bytes and upper ones are, and what changes of either make of it.
-use Rattle.std.proofs.Common.{◌≡◌, ℕ, zero, suc, ◌-◌, ◌≤◌, ◌≢◌, Bool, true, false, not, inl, inr, List, refl, sym, ◌∙◌, ap, ap₂, cond, max, arith, Option, Some, None, is_some, Result, Ok, Err, OnErr}
+use Rattle.std.proofs.Common.{◌≡◌, ℕ, zero, suc, ◌≤◌, ◌≢◌, Bool, true, false, inl, inr, List, refl, sym, ◌∙◌, ap, ap₂, cond, max, arith, Option, Some, None, is_some, Result, Ok, Err, OnErr}
 use Rattle.std.proofs.lemmas.Bool.{cases_lt, cases_eq, cond-false}
 use Rattle.std.specs.FinMap as finite
 use Rattle.std.specs.Cmp.{nat_cmp_total}
-use Rattle.std.specs.Bool.{beq}
 use Rattle.hq_model.specs.Machine.{Copy, is_dirty, value_or}
 use Rattle.hq_model.specs.View.{Held}
 use Rattle.hq_copies.specs.declared.level.Level.TheInside.{Inside}
@@ -11,7 +10,7 @@ use Rattle.hq_copies.specs.Copies.{a_copy, dirty_only, cleaned, taken, written, 
 use Rattle.hq_copies.specs.Edges.{has, byte_at, ceiling, IsRuns, layered, copy_at, level}
 use Rattle.hq_copies.specs.Levels.{IsLevel, level_of, IsLevelOf}
 use Rattle.hq_copies.specs.Marks.{byte_of}
-use Rattle.hq_copies.specs.Overlays.{or_lower, dirty_over, byte_over, has_mark}
+use Rattle.hq_copies.specs.Overlays.{or_lower, dirty_over, byte_over}
 use Rattle.hq_copies.proofs.Edges.{has_beyond}
 use Rattle.hq_copies.proofs.Counts.{at_false, step_false}
 use Rattle.hq_copies.proofs.Gathered.{get_gathered, same_held, get_inserted_same, get_inserted_other, get_removed_same, get_removed_other}
@@ -120,30 +119,6 @@ run_writes None behind below apart = refl
 run_writes (Some byte) behind below apart = ap (λ t. byte_over t byte) (apart byte refl)
 
 -- ---- runs
-
--- a number begins a run: it is held, and it is the first or the one before isn't held with its mark
-pub begins_first : (m : Held) (n : ℕ) (value : ℕ) (dirty : Bool) → finite.get m n ≡ Some (a_copy value dirty) → n ≡ 0 → true ≡ begins_run m n
-begins_first m zero value dirty e z = sym (ap (λ t. begins t None) e)
-begins_first m (suc n) value dirty e z = absurd (omega arith)
-
-begins_not : (value : ℕ) (dirty : Bool) (before : Option Copy) → begins (Some (a_copy value dirty)) before ≡ not (has_mark before dirty)
-begins_not value dirty None = refl
-begins_not value true (Some copy) = flip copy.dirty
-  where
-    flip : (b : Bool) → not (beq true b) ≡ not (beq b true)
-    flip true = refl
-    flip false = refl
-begins_not value false (Some copy) = flip copy.dirty
-  where
-    flip : (b : Bool) → not (beq false b) ≡ not (beq b false)
-    flip true = refl
-    flip false = refl
-
-pub begins_later : (m : Held) (n : ℕ) (value : ℕ) (dirty : Bool) → finite.get m n ≡ Some (a_copy value dirty) → (n ≡ 0 → ⊥) → not (has_mark (finite.get m (n - 1)) dirty) ≡ begins_run m n
-begins_later m zero value dirty e z = absurd (z refl)
-begins_later m (suc n) value dirty e z =
-    let p : suc n - 1 ≡ n = omega arith in
-    ap (λ k. not (has_mark (finite.get m k) dirty)) p ∙ sym (begins_not value dirty (finite.get m n)) ∙ ap (λ t. begins t (finite.get m n)) (sym e)
 
 pub begins_none : (m : Held) (n : ℕ) → finite.get m n ≡ None → false ≡ begins_run m n
 begins_none m zero e = sym (ap (λ t. begins t None) e)

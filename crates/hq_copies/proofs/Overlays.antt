@@ -1,13 +1,13 @@
 -- Runs of bytes that are put over others, at their end or one byte after another.
 use Rattle.std.proofs.Common.{◌≡◌, ℕ, zero, suc, ◌+◌, ◌-◌, ◌<◌, ◌≤◌, ◌≢◌, true, false, not, inl, inr, List, [], ◌∷◌, ◌++◌, length, take, refl, sym, ◌∙◌, ap, ap₂, subst, ltb, get_or, arith, Option, Some, None, is_some, slice_get, length-append}
-use Rattle.std.proofs.lemmas.Bool.{cases_lt, cases_eq, cond-true, cond-false, lt-ltb, le-ltb, true≢false}
+use Rattle.std.proofs.lemmas.Bool.{cases_lt, cond-true, cond-false, lt-ltb, le-ltb, true≢false}
 use Rattle.std.proofs.lemmas.List.{get_or-take, get_or_append_left, get_or-append_right, length-take-le}
 use Rattle.std.proofs.lemmas.Option.{slice_get_past, slice_get-get_or}
 use Rattle.hq_copies.specs.Edges.{has, IsRising, is_odd, toggled, ceiling, byte_at, IsRuns}
 use Rattle.hq_copies.specs.Copies.{count_below}
 use Rattle.hq_copies.specs.Marks.{byte_of, AreRuns, SameRuns}
 use Rattle.hq_copies.specs.declared.runs.Runs.{Runs}
-use Rattle.hq_copies.specs.Overlays.{run_at, or_lower, byte_over, Over}
+use Rattle.hq_copies.specs.Overlays.{run_at, or_lower, Over}
 use Rattle.hq_copies.proofs.Edges.{not_not, has_beyond, toggled_before, toggled_from, toggled_rising, toggled_odd}
 use Rattle.hq_copies.proofs.Counts.{count_same, count_less, count_mono, step_true, step_false, at_true, at_false, at_other}
 
@@ -167,34 +167,6 @@ take_same : (xs : List ℕ) (i : ℕ) → i < length xs → slice_get (take (suc
 take_same [] i l = absurd (omega arith)
 take_same (x ∷ xs) zero l = refl
 take_same (x ∷ xs) (suc i) l = take_same xs i (omega arith)
-
-run_same : (start : ℕ) (bytes : List ℕ) (i : ℕ) → i < length bytes → run_at start (take (i + 1) bytes) (start + i) ≡ Some (get_or bytes i 0)
-run_same start bytes i l =
-    let e : (start + i) - start ≡ i = omega arith in
-    let f : i + 1 ≡ suc i = omega arith in
-    run_from start (take (i + 1) bytes) (start + i) (omega arith) ∙ ap (λ k. slice_get (take (i + 1) bytes) k) e ∙ ap (λ k. slice_get (take k bytes) i) f ∙ take_same bytes i l
-
-run_other : (start : ℕ) (bytes : List ℕ) (i n : ℕ) → n ≢ start + i → run_at start (take (i + 1) bytes) n ≡ run_at start (take i bytes) n
-run_other start bytes i n d = elim (cases_lt n start) [
-  | inl low ↦ run_before start (take (i + 1) bytes) n low ∙ sym (run_before start (take i bytes) n low)
-  | inr from ↦
-      let f : i + 1 ≡ suc i = omega arith in
-      run_from start (take (i + 1) bytes) n from ∙ ap (λ k. slice_get (take k bytes) (n - start)) f ∙ take_other bytes i (n - start) (λ e. d (omega arith)) ∙ sym (run_from start (take i bytes) n from)
-]
-
--- bytes that are written over others
-pub write_none : (start : ℕ) (bytes : List ℕ) (n below : ℕ) → below ≡ byte_over (run_at start (take 0 bytes) n) below
-write_none start bytes n below = elim (cases_lt n start) [
-  | inl low ↦ ap (λ t. byte_over t below) (sym (run_before start (take 0 bytes) n low))
-  | inr from ↦ ap (λ t. byte_over t below) (sym (run_from start (take 0 bytes) n from))
-]
-
-pub write_more : (start i x : ℕ) (bytes old cur new : List ℕ) (n : ℕ) → i < length bytes → get_or bytes i 0 ≡ x → get_or cur n 0 ≡ byte_over (run_at start (take i bytes) n) (get_or old n 0) → (n ≡ start + i → get_or new n 0 ≡ x) → (n ≢ start + i → get_or new n 0 ≡ get_or cur n 0)
-    → get_or new n 0 ≡ byte_over (run_at start (take (i + 1) bytes) n) (get_or old n 0)
-write_more start i x bytes old cur new n l e over same others = elim (cases_eq n (start + i)) [
-  | inl at ↦ same at ∙ sym e ∙ ap (λ t. byte_over t (get_or old n 0)) (sym (run_same start bytes i l)) ∙ ap (λ k. byte_over (run_at start (take (i + 1) bytes) k) (get_or old n 0)) (sym at)
-  | inr d ↦ others d ∙ over ∙ ap (λ t. byte_over t (get_or old n 0)) (sym (run_other start bytes i n d))
-]
 
 -- ---- one run over those behind it
 

@@ -51,6 +51,3 @@ inside_or_outside buffers r = elim (cases_lt 0 r.len) [
 
 pub some_outside : (buffers rs : List Range) → (All (IsInside buffers) rs → ⊥) → Any (IsOutside buffers) rs
 some_outside buffers rs not_all = elim (all_or_any (IsInside buffers) (IsOutside buffers) (inside_or_outside buffers) rs) [ inl all ↦ absurd (not_all all) | inr any ↦ any ]
-
-pub none_outside : (buffers rs : List Range) → All (IsInside buffers) rs → Any (IsOutside buffers) rs → ⊥
-none_outside buffers = not_both (IsInside buffers) (IsOutside buffers) (λ r i o. o.in_none (i.within o.some_byte))

@@ -18,28 +18,13 @@ use Rattle.hq_job.specs.declared.rows.Kernel.{Kernel}
 use Rattle.hq_job.specs.declared.rows.Queue.{Queue}
 use Rattle.hq_job.specs.declared.rows.Placed.{Placed}
 use Rattle.hq_job.specs.Value.{Name, Bytes}
-use Rattle.hq_job.specs.Tables.{Tables, empty, tests, added, NoneApplies, number_of_name, queue_names, total_of}
+use Rattle.hq_job.specs.Tables.{Tables, tests, added, NoneApplies, number_of_name, queue_names, total_of}
 use Rattle.hq_job.specs.Fits.{Within, TablesFit, PacketFits, SignalFits}
 use Rattle.hq_job.proofs.Submitted.{all_at, within}
 use Rattle.hq_job.proofs.ByteNumbers.{position_low}
 use Rattle.hq_job.proofs.PacketKept.{grown, packet_kept}
 use Rattle.hq_job.proofs.ReadPlan.{on, none_past}
 pub use Rattle.hq_job.proofs.ReadPlan.{fits_read}
-
-pub fits_empty : (rings : Bool) → TablesFit (empty rings)
-fits_empty rings =
-    record {
-      within = record { agents = omega arith; buffers = omega arith; bytes = omega arith; arguments = omega arith; signals = omega arith; kernels = omega arith; queues = omega arith; packets = omega arith };
-      current = tt;
-      agents = λ k d l. absurd (omega arith);
-      sizes = λ k d l. absurd (omega arith);
-      handles_apart = λ i j d l m. absurd (omega arith);
-      handles_some = λ k d l. absurd (omega arith);
-      packets = λ k d l. absurd (omega arith);
-      last = λ e. tt;
-      rises = λ e i j d l m. absurd (omega arith);
-      signals = λ k s e. absurd (cc);
-    }
 
 -- ---- lines that declare what no packet is of
 

@@ -1,6 +1,6 @@
 -- Lines taken in, one behind another.
 use Rattle.std.proofs.Common.{◌≡◌, ℕ, zero, suc, ◌+◌, ◌<◌, ◌≤◌, ◌⊎◌, inl, inr, Bool, true, false, List, [], ◌∷◌, ◌++◌, length, get_or, take, drop, Result, Ok, Err, refl, sym, ap, subst, ◌∙◌, arith, add-one, if◌then◌else◌, Some}
-use Rattle.std.specs.Prelude.{map, IsTrue, ◌↔◌}
+use Rattle.std.specs.Prelude.{map}
 use Rattle.std.specs.List.{list_any}
 use Rattle.std.proofs.lemmas.List.{length-map, length-take-le}
 use Rattle.hq_lines.specs.Bytes.{is_outside}
@@ -15,10 +15,10 @@ use Rattle.hq_job.specs.declared.fault.Reason.{Reason}
 use Rattle.hq_job.specs.declared.fault.Reason.TheVariants as reason
 use Rattle.hq_job.specs.declared.fault.JobFault.{JobFault}
 use Rattle.hq_job.specs.LineFaults.{reason_of}
-use Rattle.hq_job.specs.Tables.{Tables, empty, tests, added, NoneApplies, IsFirst}
+use Rattle.hq_job.specs.Tables.{Tables, empty, tests, IsFirst}
 use Rattle.hq_job.specs.JobText.{SaysVersion, misplaced, Admits, AdmitsAll, Refused, by_itself, by_tables, IsEnd, FirstFault, faulty, behind, endless, at_line}
 use Rattle.hq_job.specs.Fits.{TablesFit}
-use Rattle.hq_job.specs.Adds.{Takes, TakesAll, StartFits, Behind, no_memory}
+use Rattle.hq_job.specs.Adds.{TakesAll, StartFits, Behind, no_memory}
 use Rattle.hq_job.proofs.Kept.{fits_added}
 
 -- ---- one line
@@ -46,13 +46,6 @@ refused_itself ts line f (inr e) = inr (by_itself f e)
 pub refused_here : (ts : Tables) (line : List ℕ) (m : Meaning) (e : Reason) → SaysLine line m → (e ≡ reason.Memory) ⊎ IsFirst (tests ts m) e → (e ≡ reason.Memory) ⊎ Refused ts line e
 refused_here ts line m e says (inl h) = inl h
 refused_here ts line m e says (inr h) = inr (by_tables m e says h)
-
--- a line that is taken in
-pub takes_line : (last : Bool) (old new : Tables) (line : List ℕ) (m : Meaning) → IsTrue last ↔ (m ≡ says.End) → SaysLine line m → NoneApplies (tests old m) × (new ≡ added old m) → Takes (Ok last) old line new
-takes_line true old new line m is says h =
-    let same = is.0 refl in
-    (subst (λ (x : Meaning). SaysLine line x) same says, h.1 ∙ ap (added old) same)
-takes_line false old new line m is says h = record { meaning = m; says_it = says; not_end = λ e. (let t : false ≡ true = is.1 e in cc); none = h.0; adds = h.1 }
 
 pub admits_fit : (ts : Tables) (line : List ℕ) (new : Tables) → TablesFit ts → Admits ts line new → TablesFit new
 admits_fit ts line new fit h = subst TablesFit (sym h.adds) (fits_added ts h.meaning line h.says_it fit h.none)

@@ -143,9 +143,6 @@ open_of signals h declared some = stable (handles signals) h (λ none. declared 
 pub first_declared : (P : ℕ → Type 0) (h : ℕ) (ds : List ℕ) → ¬ Any P (h ∷ ds) → ¬ P h
 first_declared P h ds none p = none (0, h, omega arith, refl, p)
 
-pub later_declared : (P : ℕ → Type 0) (h : ℕ) (ds : List ℕ) (i d : ℕ) → ¬ Any P (h ∷ ds) → i < length ds → d ≡ get_or ds i d → ¬ P d
-later_declared P h ds i d none lt is p = none (suc i, d, omega arith, sym is, p)
-
 pub any_cons : (P : ℕ → Type 0) (h : ℕ) (ds : List ℕ) → Any P (h ∷ ds) → P h ⊎ Any P ds
 any_cons P h ds (zero, d, lt, is, p) = inl (subst P (sym is) p)
 any_cons P h ds (suc k, d, lt, is, p) = inr (k, d, omega arith, is, p)

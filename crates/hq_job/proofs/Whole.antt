@@ -41,16 +41,6 @@ reads_all view (Err f) rings lines new n fills len (inr h) = inr (λ first v.
     subst (λ (g : JobFault). FirstFault (first ∷ lines) g) (ap (λ k. at_line k h.0) count ∙ sym h.2)
     (at_end rings first fills.front fills.last new h.0 (ap (λ ls. first ∷ ls) fills.whole) v fills.admitted fills.ends h.1))
 
-pub text_found : {X : Type 0} (view : X → JobValue) (r : Result X JobFault) (rings : Bool) (first : List ℕ) (lines : List (List ℕ)) → SaysVersion first rings → Reads view r rings lines → IfOk r (λ j. JobText (first ∷ lines) (view j))
-text_found view (Ok j) rings first lines v h = h first v
-text_found view (Err f) rings first lines v h = tt
-
-pub text_fault : {X : Type 0} (view : X → JobValue) (r : Result X JobFault) (rings : Bool) (first : List ℕ) (lines : List (List ℕ)) → SaysVersion first rings → Reads view r rings lines
-    → IfErr r (λ f. (f ≡ no_memory) ⊎ FirstFault (first ∷ lines) f)
-text_fault view (Ok j) rings first lines v h = tt
-text_fault view (Err f) rings first lines v (inl m) = inl m
-text_fault view (Err f) rings first lines v (inr h) = inr (h first v)
-
 pub text_only : {X : Type 0} (view : X → JobValue) (r : Result X JobFault) (lines : List (List ℕ)) (job : JobValue) → IfOk r (λ j. JobText lines (view j)) → IfErr r (λ f. (f ≡ no_memory) ⊎ FirstFault lines f) → JobText lines job → GivesJob view r job
 text_only view (Ok j) lines job found fault t = one_job lines (view j) job found t
 text_only view (Err f) lines job found (inl m) t = m
@@ -66,23 +56,11 @@ read_only view (Some text) r h = λ job t. gives_weaker view r job (h job t)
 
 -- ---- versions
 
-abbrev of_version : Bool → List ℕ
-of_version false = codes "hsaq 1"
-of_version true = codes "hsaq 2"
-
-version_line : (line : List ℕ) (rings : Bool) → SaysVersion line rings → line ≡ of_version rings
-version_line _ _ one = refl
-version_line _ _ two = refl
-
 pub version_one : (line : List ℕ) → line ≡ codes "hsaq 1" → SaysVersion line false
 version_one line e = subst (λ (l : List ℕ). SaysVersion l false) (sym e) one
 
 pub version_two : (line : List ℕ) → line ≡ codes "hsaq 2" → SaysVersion line true
 version_two line e = subst (λ (l : List ℕ). SaysVersion l true) (sym e) two
-
-pub no_version : (line : List ℕ) → ¬ (line ≡ codes "hsaq 1") → ¬ (line ≡ codes "hsaq 2") → (rings : Bool) → ¬ SaysVersion line rings
-no_version line first second false h = first (version_line line false h)
-no_version line first second true h = second (version_line line true h)
 
 pub no_lines : {A : Type 0} (v : A → List ℕ) (xs : List A) → length xs ≡ 0 → map v xs ≡ []
 no_lines v [] e = refl

@@ -97,9 +97,6 @@ wrong_digit digits len h = by (decode_sized digits 64) (decode_sized-twice digit
   by (Ok bytes) e = (let no : false ≡ true = ap result_is_err e ∙ h in absurd cc)
   by (Err f) e = refl
 
-pub right_digits : (digits bytes : List ℕ) → length digits ≡ 128 → decode_pairs 0 digits ≡ Ok bytes → decode_of digits ≡ Ok bytes
-right_digits digits bytes len h = decode_of-even digits (ap (λ n. n % 2) len) ∙ h
-
 -- a packet's bytes that are refused
 pub refused : (digits bytes : List ℕ) (f : PacketFault) → length digits ≡ 128 → decode_of digits ≡ Ok bytes → first_fault bytes ≡ Some f → digits_fault digits ≡ Some (fault.Packet f)
 unfolding digits_fault

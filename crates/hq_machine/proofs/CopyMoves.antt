@@ -121,19 +121,3 @@ refused_push_lane job v p b f there within clean' (inr (e, held)) = subst (λ g.
 pub refused_push_agent : (job : Job) (v : StateValue) (a b : ℕ) (f : CopiesFault) → a < job.agents → IsByte job b → (f ≡ copies_fault.NotDirty → IsDirty (copies_of v.copies.agents a b) → ⊥) → (f ≡ copies_fault.NotDirty) ⊎ ((f ≡ copies_fault.Memory) × IsDirty (copies_of v.copies.agents a b)) → Refused job v (PushAgent a b) (fault_of f)
 refused_push_agent job v p b f there within clean' (inl e) = subst (λ g. Refused job v (PushAgent p b) (fault_of g)) (sym e) (λ (new, step). clean' e (step.0, step.3))
 refused_push_agent job v p b f there within clean' (inr (e, held)) = subst (λ g. Refused job v (PushAgent p b) (fault_of g)) (sym e) (_, (held.0, there, within, held.1, refl))
-
-pub refused_fill_lane : (job : Job) (v : StateValue) (p b : ℕ) (f : CopiesFault) → IsPacket job p → IsByte job b → (f ≡ copies_fault.Present → IsAbsent (copies_of v.copies.lanes p b) → ⊥) → (f ≡ copies_fault.Present) ⊎ ((f ≡ copies_fault.Memory) × IsAbsent (copies_of v.copies.lanes p b)) → Refused job v (FillLane p b) (fault_of f)
-refused_fill_lane job v p b f there within present (inl e) = subst (λ g. Refused job v (FillLane p b) (fault_of g)) (sym e) (λ (new, step). present e step.2)
-refused_fill_lane job v p b f there within present (inr (e, held)) = subst (λ g. Refused job v (FillLane p b) (fault_of g)) (sym e) (_, (there, within, held, refl))
-
-pub refused_fill_agent : (job : Job) (v : StateValue) (a b : ℕ) (f : CopiesFault) → a < job.agents → IsByte job b → (f ≡ copies_fault.Present → IsAbsent (copies_of v.copies.agents a b) → ⊥) → (f ≡ copies_fault.Present) ⊎ ((f ≡ copies_fault.Memory) × IsAbsent (copies_of v.copies.agents a b)) → Refused job v (FillAgent a b) (fault_of f)
-refused_fill_agent job v p b f there within present (inl e) = subst (λ g. Refused job v (FillAgent p b) (fault_of g)) (sym e) (λ (new, step). present e step.2)
-refused_fill_agent job v p b f there within present (inr (e, held)) = subst (λ g. Refused job v (FillAgent p b) (fault_of g)) (sym e) (_, (there, within, held, refl))
-
-pub refused_drop_lane : (job : Job) (v : StateValue) (p b : ℕ) (f : CopiesFault) → IsPacket job p → IsByte job b → (f ≡ copies_fault.NotClean → IsClean (copies_of v.copies.lanes p b) → ⊥) → (f ≡ copies_fault.NotClean) ⊎ ((f ≡ copies_fault.Memory) × IsClean (copies_of v.copies.lanes p b)) → Refused job v (DropLane p b) (fault_of f)
-refused_drop_lane job v p b f there within clean' (inl e) = subst (λ g. Refused job v (DropLane p b) (fault_of g)) (sym e) (λ (new, step). clean' e (step.0, step.3))
-refused_drop_lane job v p b f there within clean' (inr (e, held)) = subst (λ g. Refused job v (DropLane p b) (fault_of g)) (sym e) (_, (held.0, there, within, held.1, refl))
-
-pub refused_drop_agent : (job : Job) (v : StateValue) (a b : ℕ) (f : CopiesFault) → a < job.agents → IsByte job b → (f ≡ copies_fault.NotClean → IsClean (copies_of v.copies.agents a b) → ⊥) → (f ≡ copies_fault.NotClean) ⊎ ((f ≡ copies_fault.Memory) × IsClean (copies_of v.copies.agents a b)) → Refused job v (DropAgent a b) (fault_of f)
-refused_drop_agent job v p b f there within clean' (inl e) = subst (λ g. Refused job v (DropAgent p b) (fault_of g)) (sym e) (λ (new, step). clean' e (step.0, step.3))
-refused_drop_agent job v p b f there within clean' (inr (e, held)) = subst (λ g. Refused job v (DropAgent p b) (fault_of g)) (sym e) (_, (held.0, there, within, held.1, refl))

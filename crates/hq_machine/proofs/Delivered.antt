@@ -1,7 +1,6 @@
 -- All stores of a packet at once are its stores one after another.
-use Rattle.std.proofs.Common.{◌≡◌, ℕ, zero, suc, ◌+◌, ◌<◌, Bool, true, false, List, ◌∷◌, ◌++◌, length, take, replicate, set, slice_index, count_by, filter, refl, sym, ◌∙◌, ap, subst, arith}
+use Rattle.std.proofs.Common.{◌≡◌, ℕ, zero, suc, ◌+◌, ◌<◌, Bool, true, false, List, ◌∷◌, ◌++◌, length, take, replicate, set, slice_index, filter, refl, sym, ◌∙◌, ap, subst, arith}
 use Rattle.std.proofs.lemmas.List.{append-nil, length-replicate, length-take-le, take_more, take_all}
-use Rattle.std.proofs.lemmas.List.Sums.{length-filter}
 use Rattle.hq_model.specs.Job.{Job, packet, IsPacket}
 use Rattle.hq_model.specs.Machine.{bytes_stored}
 use Rattle.hq_model.specs.Journal.Coarse.{Deliver}
@@ -17,9 +16,6 @@ use Rattle.hq_machine.proofs.EachStore.{delivered_first, delivered_more}
 kept : (n : ℕ) → length (filter (λ (b : Bool). b) (replicate n true)) ≡ n
 kept zero = refl
 kept (suc n) = ap suc (kept n)
-
-pub all_counted : (n : ℕ) → count_by (λ (b : Bool). b) (replicate n true) ≡ n
-all_counted n = sym (length-filter (λ (b : Bool). b) (replicate n true)) ∙ kept n
 
 set_next : (n m : ℕ) → set (replicate n true ++ replicate (suc m) false) n true ≡ replicate (suc n) true ++ replicate m false
 set_next zero m = refl

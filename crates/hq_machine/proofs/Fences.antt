@@ -16,7 +16,7 @@ use Rattle.hq_model.specs.Theorems.{Valid}
 use Rattle.hq_model.specs.View.{Held, copies_of}
 use Rattle.hq_copies.specs.Copies.{fenced, dirty_only, dirty_within, held}
 use Rattle.hq_machine.specs.State.{StateValue}
-use Rattle.hq_machine.specs.View.{IsStateOf, Moved, Enabled, MayEnter, phased, recopied, state_of}
+use Rattle.hq_machine.specs.View.{IsStateOf, Moved, MayEnter, phased, recopied, state_of}
 use Rattle.hq_machine.proofs.Jobs.{agent_below}
 use Rattle.hq_machine.proofs.Moves.{phased_is, phased_keeps}
 use Rattle.hq_machine.proofs.CopyMoves.{SameShape, recopied_keeps}
@@ -138,6 +138,3 @@ moved_enter job v p start stop valid k are rise fits may =
       is = phased_keeps job mid p Active (recopied_keeps job v (fenced v.copies start stop (agent_of job p) (packet job p).acquire) k (acquired_shape job v p start stop rise fits) (record { lanes = d.lanes; agents = d.agents }));
       step = step;
     }
-
-pub not_entering : (job : Job) (v : StateValue) (p : ℕ) → (MayEnter job (state_of job v) p → ⊥) → Enabled job v (Enter p) → ⊥
-not_entering job v p n (new, step) = n (record { is_packet = step.0; launched = step.1; over = step.2 })

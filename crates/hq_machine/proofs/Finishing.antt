@@ -1,21 +1,12 @@
 -- Completions.
-use Rattle.std.proofs.Common.{◌≡◌, ℕ, ◌-◌, ◌<◌, ◌↔◌, List, cond, Option, Some, None, IfSome, length, slice_index, refl, ◌∙◌, arith, length-set}
-use Rattle.hq_packet.specs.declared.packet.Scope.{Scope}
-use Rattle.hq_job.specs.Access.{AreOfQueue}
-use Rattle.hq_model.specs.Job.{Job, packet, agent_of, is_signal}
+use Rattle.std.proofs.Common.{◌≡◌, ℕ, ◌-◌, ◌<◌, List, cond, Option, Some, None, IfSome, length, slice_index, refl, ◌∙◌, arith, length-set}
+use Rattle.hq_model.specs.Job.{Job, packet, is_signal}
 use Rattle.hq_model.specs.Machine as machine
-use Rattle.hq_model.specs.Machine.{State, Event, Released, completed}
-use Rattle.hq_copies.specs.Copies.{IsReleased}
+use Rattle.hq_model.specs.Machine.{State, Event, completed}
 use Rattle.hq_machine.specs.State.{StateValue}
 use Rattle.hq_machine.specs.View.{IsStateOf, Moved, Enabled, MayFinish, phased, signalled, decremented, state_of}
 use Rattle.hq_machine.proofs.Counts.{decremented_is}
 use Rattle.hq_machine.proofs.Moves.{phased_is, phased_keeps}
-
-pub released_is : (job : Job) (v : StateValue) (p start stop : ℕ) (fence : Scope) → AreOfQueue job (packet job p).queue start stop → IsReleased v.copies start stop (agent_of job p) fence ↔ Released job (state_of job v) p fence
-released_is job v p start stop fence are = (
-  λ r. record { lanes = λ reach l b there same. let h = are.within l there same in r.lanes reach l b h.0 h.1; agent = r.agent },
-  λ r. record { lanes = λ reach l b low high. let h = are.of_queue l low high in r.lanes reach l b h.0 h.1; agent = r.agent },
-)
 
 decremented_length : (xs : List ℕ) (done : Option ℕ) → length (decremented xs done) ≡ length xs
 decremented_length xs None = refl

@@ -140,12 +140,6 @@ and_over job state p kind = (
   λ over slot m. true≢false (sym (over.each kind slot m.signal m.dependency) ∙ m.missing),
 )
 
-pub or_over : (job : Job) (state : State) (p : ℕ) → (packet job p).kind ≡ Kind.BarrierOr → ((slot : ℕ) × SlotObserved job state p slot) ↔ WaitOver job state p
-or_over job state p kind = (
-  λ (slot, o). record { each = λ and. absurd (and_is_no_or (packet job p).kind and kind); one = λ _. (slot, o.signal, o.dependency, o.seen) },
-  λ over. let (slot, s, d, seen) = over.one kind in (slot, record { signal = s; dependency = d; seen = seen }),
-)
-
 pub slot_observed : (job : Job) (state : State) (p slot signal : ℕ) → ((s : ℕ) → (Some signal ≡ Some s) ↔ Dependency job p slot s) → (t : Bool) → t ≡ state.observed p slot → (t ≡ true) ↔ SlotObserved job state p slot
 slot_observed job state p slot signal found t e = (λ is. record { signal = signal; dependency = (found signal).0 refl; seen = sym e ∙ is }, λ o. e ∙ o.seen)
 

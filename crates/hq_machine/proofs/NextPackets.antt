@@ -1,13 +1,13 @@
 -- Which packet of a list or a queue is next.
 use Rattle.std.proofs.Common.{◌≡◌, ◌≢◌, ℕ, ◌<◌, inl, inr, length, get_or, sym, ◌∙◌, ap, subst, arith}
-use Rattle.std.proofs.lemmas.Bool.{cases_lt, true≢false}
+use Rattle.std.proofs.lemmas.Bool.{cases_lt}
 use Rattle.hq_model.specs.Job.{Job, IsPacket, Frees}
 use Rattle.hq_model.specs.Order.{place}
 use Rattle.hq_model.specs.Machine as machine
-use Rattle.hq_model.specs.Machine.{State, MaySubmit, MayLaunch}
+use Rattle.hq_model.specs.Machine.{State, MaySubmit}
 use Rattle.hq_model.specs.Theorems.{Valid}
 use Rattle.hq_model.proofs.Places.{at_place, place_once}
-use Rattle.hq_machine.specs.View.{IsFirstWaiting, IsFirstUnlaunched, IsClear}
+use Rattle.hq_machine.specs.View.{IsFirstWaiting}
 
 pub first_waits : (job : Job) (state : State) (k : ℕ) → Valid job → k < length job.submissions → state.phase (get_or job.submissions k 0) ≡ machine.Phase.Waiting
     → ((i : ℕ) → i < k → state.phase (get_or job.submissions i 0) ≢ machine.Phase.Waiting) → IsFirstWaiting job state (get_or job.submissions k 0)
@@ -43,20 +43,3 @@ none_submittable job state p valid first no_slot r may =
     no_slot (λ x f. may.slot x (subst (Frees job x) e f))
 
 -- ---- launches
-
-one_next : (job : Job) (state : State) (q p r : ℕ) → IsFirstUnlaunched job state q p → MayLaunch job state q r → p ≡ r
-one_next job state q p r a b = elim (cases_lt p r) [
-  | inl l ↦ absurd (true≢false (sym (b.next p (record { ahead = l; is_packet = b.is_packet; same_queue = a.queue ∙ sym b.queue })) ∙ a.waits))
-  | inr l ↦ elim (cases_lt r p) [
-    | inl m ↦ absurd (true≢false (sym (a.next r (record { ahead = m; is_packet = a.is_packet; same_queue = b.queue ∙ sym a.queue })) ∙ ap machine.is_launched b.waits))
-    | inr m ↦ omega arith
-  ]
-]
-
-pub none_launchable : (job : Job) (state : State) (q p : ℕ) → IsFirstUnlaunched job state q p → (IsClear job state p → ⊥) → (r : ℕ) → MayLaunch job state q r → ⊥
-none_launchable job state q p first unclear r may =
-    let e = one_next job state q p r first may in
-    unclear (subst (IsClear job state) (sym e) (record { waits = may.waits; bit = may.bit; barriers = may.barriers }))
-
-pub may_launch : (job : Job) (state : State) (q p : ℕ) → IsFirstUnlaunched job state q p → IsClear job state p → MayLaunch job state q p
-may_launch job state q p a b = record { is_packet = a.is_packet; queue = a.queue; waits = b.waits; next = a.next; bit = b.bit; barriers = b.barriers }

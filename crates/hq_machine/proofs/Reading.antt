@@ -1,11 +1,11 @@
 -- Reads.
-use Rattle.std.proofs.Common.{◌≡◌, ℕ, ◌<◌, ◌≤◌, MatchOption, inl, inr, List, [], cond, eqb, Option, Some, None, IsSome, is_some, length, set, get_or, slice_index, refl, sym, ◌∙◌, ap, subst, arith, length-set, get_or-set_same, get_or-set_other}
+use Rattle.std.proofs.Common.{◌≡◌, ℕ, ◌<◌, ◌≤◌, MatchOption, inl, inr, List, [], cond, eqb, Option, Some, None, IsSome, is_some, length, set, get_or, slice_index, sym, ◌∙◌, ap, subst, arith, length-set, get_or-set_same, get_or-set_other}
 use Rattle.std.proofs.lemmas.Bool.{cases_eq, cases_lt, true≢false}
 use Rattle.hq_model.specs.Job.{Job, packet, IsPacket}
 use Rattle.hq_model.specs.Machine.{State, bytes_stored, lane_sees, put2}
 use Rattle.hq_model.specs.Machine.Event.{Read}
 use Rattle.hq_machine.specs.State.{StateValue}
-use Rattle.hq_machine.specs.View.{IsStateOf, IsRow, AreStores, Moved, Enabled, MayRead, ReadOpen, IsEntry, NextRow, rereading, state_of, row_of, stores_of}
+use Rattle.hq_machine.specs.View.{IsStateOf, IsRow, AreStores, Moved, MayRead, ReadOpen, IsEntry, NextRow, rereading, state_of, row_of, stores_of}
 use Rattle.hq_machine.proofs.Places.{row_put2, row_set}
 
 -- p has stored nothing yet, since it has not read all
@@ -67,12 +67,6 @@ moved_read job v p i byte row k may next is =
     let new : state_of job (rereading v p row) ≡ record (state_of job v) { read = put2 (λ (q j : ℕ). get_or (row_of v.reads q) j None) p i (Some (lane_sees job (state_of job v) p (slice_index (packet job p).reads i))) } =
     (λ j. record (state_of job v) { read = e j }) ∙ ap (λ b. record (state_of job v) { read = put2 (λ (q j : ℕ). get_or (row_of v.reads q) j None) p i (Some b) }) is in
     record { is = rereading_keeps job v p i row k may next.whole; step = (there, may.active, may.few, may.fresh, new) }
-
-pub not_reading : (job : Job) (v : StateValue) (p i : ℕ) → (MayRead job (state_of job v) p i → ⊥) → Enabled job v (Read p i) → ⊥
-not_reading job v p i n (new, step) = n (record { is_packet = step.0; active = step.1; few = step.2; fresh = step.3 })
-
-pub read_enabled : (job : Job) (v : StateValue) (p i : ℕ) → MayRead job (state_of job v) p i → Enabled job v (Read p i)
-read_enabled job v p i may = (_, (may.is_packet, may.active, may.few, may.fresh, refl))
 
 pub next_row : (old opened : List (Option ℕ)) (total i byte : ℕ) → length opened ≡ total → ((j : ℕ) → get_or opened j None ≡ get_or old j None) → i < total → NextRow old total i byte (set opened i (Some byte))
 next_row old opened total i byte e same l = record {

@@ -13,7 +13,7 @@ use Rattle.hq_model.specs.View.{copies_of}
 use Rattle.hq_model.proofs.View.{copies_of_insert}
 use Rattle.hq_copies.specs.Copies.{CopiesValue, a_copy, stored}
 use Rattle.hq_machine.specs.State.{StateValue, StoresValue, no_stores}
-use Rattle.hq_machine.specs.View.{IsStateOf, IsRow, AreStores, Moved, Enabled, MayStore, NextStores, marked, restored, state_of, stores_of}
+use Rattle.hq_machine.specs.View.{IsStateOf, IsRow, AreStores, Moved, MayStore, NextStores, marked, restored, state_of, stores_of}
 use Rattle.hq_machine.proofs.Places.{row_put2, row_set}
 use Rattle.hq_machine.proofs.Within.{within_step}
 
@@ -75,12 +75,6 @@ moved_store job v p i b value s valid k may next at is =
       };
       step = step;
     }
-
-pub not_storing : (job : Job) (v : StateValue) (p i : ℕ) → (MayStore job (state_of job v) p i → ⊥) → Enabled job v (Store p i) → ⊥
-not_storing job v p i n (new, step) = n (record { is_packet = step.0; active = step.1; read = step.2; few = step.3; fresh = step.4 })
-
-pub store_enabled : (job : Job) (v : StateValue) (p i : ℕ) → MayStore job (state_of job v) p i → Enabled job v (Store p i)
-store_enabled job v p i may = (_, (may.is_packet, may.active, may.read, may.few, may.fresh, refl))
 
 pub length_listed : (n : ℕ) (f : ℕ → ℕ) → length (listed n f) ≡ n
 length_listed zero f = refl

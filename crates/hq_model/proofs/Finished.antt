@@ -20,9 +20,6 @@ pub record Inside (job : Job) (state : State) : Type 0 where
   pub lanes : (l b : ℕ) → is_dirty (state.lane l b) ≡ true → IsByte job b
   pub agents : (a b : ℕ) → is_dirty (state.agent a b) ≡ true → IsByte job b
 
-clean_value : (v : ℕ) → is_dirty (clean v) ≡ true → ⊥
-clean_value v e = true≢false (sym e)
-
 no_copy : is_dirty None ≡ true → ⊥
 no_copy e = true≢false (sym e)
 

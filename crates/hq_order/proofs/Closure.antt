@@ -1,12 +1,11 @@
 -- Round after round, until one adds nothing: then all of the order is there.
-use Rattle.std.proofs.Common.{◌≡◌, ◌↔◌, ℕ, zero, suc, ◌+◌, ◌-◌, ◌<◌, inl, inr, List, [], ◌∷◌, ◌++◌, length, refl, sym, ◌∙◌, ap, subst, arith, IsTrue, slice_index_or, map, length-append}
+use Rattle.std.proofs.Common.{◌≡◌, ◌↔◌, ℕ, zero, suc, ◌+◌, ◌-◌, ◌<◌, inl, inr, List, [], ◌∷◌, ◌++◌, length, refl, sym, ◌∙◌, ap, subst, arith, slice_index_or, map, length-append}
 use Rattle.std.specs.Global.{Vec}
 use Rattle.std.proofs.lemmas.Bool.{cases_lt}
 use Rattle.hq_model.specs.Job.{Job, Decrements}
 use Rattle.hq_model.specs.Order.{Before, Branch}
 use Rattle.hq_model.specs.Order.Before.{by_bit_of, by_bit_ahead, by_queue, by_and, by_or, through}
 use Rattle.hq_model.specs.Order.Branch.{itself, after}
-use Rattle.hq_order.specs.Bits.{has}
 use Rattle.hq_order.specs.Matrix.{row, Marks, Grown, IsSquare, AreRounds, IsClosed, matrix, last, IsMarkedNowhere, IsMarkedFirst}
 use Rattle.std.specs.Prelude.{Option, Some, None, MatchOption}
 use Rattle.hq_order.specs.Rounds.{Direct, Reaches, Next, Within, IsFirstWithin}
@@ -58,10 +57,6 @@ first_round job x sq h = record {
     exact zero p r l = h p r
     exact (suc k) p r l = absurd (omega arith)
 
--- the last of some rounds
-pub record IsLast (rounds : List (Vec (Vec ℕ))) (k : ℕ) : Type 0 where
-  pub is_last : length rounds ≡ suc k
-
 pub more_rounds : (job : Job) (rounds : List (Vec (Vec ℕ))) (x : Vec (Vec ℕ)) → AreRounds job rounds → IsSquare (length job.packets) x.items → ((p r : ℕ) → Marks x.items p r ↔ Next job (Marks (last rounds)) p r) → AreRounds job (rounds ++ x ∷ [])
 more_rounds job rounds x a sq h =
     let more : length (rounds ++ x ∷ []) ≡ length rounds + 1 = length-append rounds (x ∷ []) in
@@ -92,9 +87,6 @@ last_pushed rounds x =
     let more : length (rounds ++ x ∷ []) ≡ length rounds + 1 = length-append rounds (x ∷ []) in
     let e : length (rounds ++ x ∷ []) - 1 ≡ length rounds = omega arith in
     ap (matrix (rounds ++ x ∷ [])) e ∙ at_pushed (λ v. v.items) rounds x
-
-pub closed_same : (job : Job) (rounds : List (Vec (Vec ℕ))) (new : List (Vec ℕ)) → ((p r : ℕ) → Marks new p r ↔ Next job (Marks (last rounds)) p r) → ((r : ℕ) → row new r ≡ row (last rounds) r) → IsClosed job rounds
-closed_same job rounds new h same p r n = subst (λ words. IsTrue (has words p)) (same r) ((h p r).1 n)
 
 -- ---- what is within a round is before
 

@@ -1,5 +1,5 @@
 -- When one row of bits has all that another has.
-use Rattle.std.proofs.Common.{◌≡◌, ℕ, ◌+◌, ◌*◌, ◌^◌, ◌/◌, ◌%◌, ◌<◌, ◌≤◌, inl, inr, ◌==◌, IsTrue, List, length, sym, ◌∙◌, ap, subst, arith, slice_index, bit_or, max}
+use Rattle.std.proofs.Common.{◌≡◌, ℕ, ◌+◌, ◌*◌, ◌^◌, ◌/◌, ◌%◌, ◌<◌, ◌≤◌, inl, inr, ◌==◌, IsTrue, List, length, sym, ◌∙◌, ap, arith, slice_index, bit_or, max}
 use Rattle.std.specs.Int.{bit_at}
 use Rattle.std.proofs.lemmas.Bool.{cases_eq, cases_lt, eq-eqb, eqb-true}
 use Rattle.std.proofs.lemmas.Nat.Bits.{bit_at_or, bit_at-lt, bit_at-zero, same_from_bits, bit_at_above}
@@ -9,17 +9,6 @@ use Rattle.hq_order.specs.Bits.{has, Covers}
 -- so far as the first i words
 pub record CoversUpto (row other : List ℕ) (i : ℕ) : Type 0 where
   pub words : (k : ℕ) → k < i → bit_or (slice_index row k) (slice_index other k) ≡ slice_index row k
-
-pub covers_none : (row other : List ℕ) → CoversUpto row other 0
-covers_none row other = record { words = λ k l. absurd (omega arith) }
-
-pub covers_next : (row other : List ℕ) (i : ℕ) → CoversUpto row other i → bit_or (slice_index row i) (slice_index other i) ≡ slice_index row i → CoversUpto row other (i + 1)
-covers_next row other i u e = record {
-  words = λ k l. elim (cases_eq k i) [
-    | inl same ↦ subst (λ j. bit_or (slice_index row j) (slice_index other j) ≡ slice_index row j) (sym same) e
-    | inr apart ↦ u.words k (omega arith)
-  ];
-}
 
 -- all words are covered, so all numbers are
 pub covers_all : (row other : List ℕ) (i : ℕ) → length row ≡ length other → length row ≤ i → CoversUpto row other i → Covers row other

@@ -47,12 +47,6 @@ pub record Filled (P : ℕ → Type 0) (old : List ℕ) (i : ℕ) (row : List �
   pub are : (p : ℕ) → IsTrue (has row p) ↔ (IsTrue (has old p) ⊎ ((p < i) × P p))
   pub len : length row ≡ length old
 
-pub filled_none : (P : ℕ → Type 0) (old : List ℕ) → Filled P old 0 old
-filled_none P old = record {
-  are = λ p. (λ h. inl h, λ h. elim h [ inl t ↦ t | inr b ↦ absurd (omega (arith, b.0)) ]);
-  len = refl;
-}
-
 pub filled_in : (P : ℕ → Type 0) (old : List ℕ) (i : ℕ) (row new : List ℕ) → Filled P old i row → P i → ((p : ℕ) → has new p ≡ (has row p || p == i)) → length new ≡ length row → Filled P old (i + 1) new
 filled_in P old i row new u this grows same_len = record {
   are = λ p. (
@@ -97,12 +91,6 @@ filled_zeros P old row n e f p = (
 pub record Gathered (P : ℕ → ℕ → Type 0) (old : List ℕ) (i : ℕ) (row : List ℕ) : Type 0 where
   pub are : (e : ℕ) → IsTrue (has row e) ↔ (IsTrue (has old e) ⊎ ((k : ℕ) × (k < i) × P k e))
   pub len : length row ≡ length old
-
-pub gathered_none : (P : ℕ → ℕ → Type 0) (old : List ℕ) → Gathered P old 0 old
-gathered_none P old = record {
-  are = λ p. (λ h. inl h, λ h. elim h [ inl t ↦ t | inr b ↦ absurd (omega (arith, b.1)) ]);
-  len = refl;
-}
 
 pub gathered_in : (P : ℕ → ℕ → Type 0) (old : List ℕ) (i : ℕ) (row new : List ℕ) → Gathered P old i row → ((e : ℕ) → IsTrue (has new e) ↔ (IsTrue (has row e) ⊎ P i e)) → length new ≡ length row → Gathered P old (i + 1) new
 gathered_in P old i row new u grows same_len = record {

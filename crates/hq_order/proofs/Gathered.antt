@@ -1,5 +1,5 @@
 -- What stands before some packets, taken in four at a time.
-use Rattle.std.proofs.Common.{◌≡◌, ◌≢◌, ◌↔◌, ℕ, ◌-◌, ◌/◌, ◌%◌, ◌+◌, ◌*◌, ◌^◌, ◌<◌, ◌≤◌, ◌⊎◌, ◌&&◌, ◌==◌, inl, inr, List, [], ◌∷◌, ◌++◌, suc, map, length, length-append, slice_index_or, refl, sym, ◌∙◌, ap, subst, arith, IsTrue, Bool, true, false, not, slice_index}
+use Rattle.std.proofs.Common.{◌≡◌, ◌≢◌, ◌↔◌, ℕ, ◌-◌, ◌/◌, ◌%◌, ◌+◌, ◌*◌, ◌^◌, ◌<◌, ◌≤◌, ◌⊎◌, ◌&&◌, ◌==◌, inl, inr, List, [], ◌∷◌, ◌++◌, suc, map, length, length-append, slice_index_or, refl, sym, ◌∙◌, ap, subst, arith, IsTrue, Bool, true, false, not}
 use Rattle.std.specs.Global.{Vec}
 use Rattle.std.specs.Int.{bit_at}
 use Rattle.std.proofs.lemmas.Bool.{cases_eq, cases_lt, eq-eqb, eqb-true}
@@ -22,12 +22,6 @@ bit_low choice bit l one = elim (cases_lt bit 4) [
   | inl low ↦ low
   | inr high ↦ let z : bit_at choice bit ≡ 0 = bit_at_above choice 4 bit (omega arith) high in absurd (omega arith)
 ]
-
-pub choice_none : (rows : List (Vec ℕ)) (group choice p : ℕ) → choice ≡ 0 → OfChoice rows group choice p → ⊥
-choice_none rows group choice p z o =
-    let none : bit_at choice o.0 ≡ 0 = ap (λ c. bit_at c o.0) z ∙ bit_at-zero o.0 in
-    let one : bit_at choice o.0 ≡ 1 = o.2 in
-    omega arith
 
 -- a choice with one packet more
 pub choice_more : (rows : List (Vec ℕ)) (group choice rest bit p : ℕ) (A B : Type 0) → bit < 4 → bit_at choice bit ≡ 1 → bit_at rest bit ≡ 0 → ((i : ℕ) → i < 64 → i ≢ bit → bit_at rest i ≡ bit_at choice i)
@@ -100,23 +94,6 @@ word_done Old A rows place word p i high most h = (
 )
 
 -- ---- what is fresh
-
--- the bit of a number in its word
-has_word : (row : List ℕ) (place bit : ℕ) → bit < 64 → has row (place * 64 + bit) ≡ (bit_at (slice_index row place) bit == 1)
-has_word row place bit l =
-    let here : (place * 64 + bit) / 64 ≡ place = omega arith in
-    let there : (place * 64 + bit) % 64 ≡ bit = omega arith in
-    ap (λ k. bit_at (slice_index row k) ((place * 64 + bit) % 64) == 1) here ∙ ap (λ k. bit_at (slice_index row place) k == 1) there
-
-pub fresh_bit : (row earlier renewed : List ℕ) (place bit x y z old new : ℕ) → bit < 64 → x ≡ slice_index row place → y ≡ slice_index earlier place → z ≡ slice_index renewed place
-    → (bit_at old bit == 1) ≡ ((bit_at y bit == 1) && not (bit_at z bit == 1)) → (bit_at new bit == 1) ≡ ((bit_at x bit == 1) && not (bit_at old bit == 1)) → (bit_at new bit == 1) ≡ is_fresh row earlier renewed (place * 64 + bit)
-fresh_bit row earlier renewed place bit x y z old new l ex ey ez o n =
-    let m : ℕ = place * 64 + bit in
-    let hx : (bit_at x bit == 1) ≡ has row m = ap (λ w. bit_at w bit == 1) ex ∙ sym (has_word row place bit l) in
-    let hy : (bit_at y bit == 1) ≡ has earlier m = ap (λ w. bit_at w bit == 1) ey ∙ sym (has_word earlier place bit l) in
-    let hz : (bit_at z bit == 1) ≡ has renewed m = ap (λ w. bit_at w bit == 1) ez ∙ sym (has_word renewed place bit l) in
-    n ∙ ap (λ b. (bit_at x bit == 1) && not b) o ∙ ap (λ b. b && not ((bit_at y bit == 1) && not (bit_at z bit == 1))) hx
-    ∙ ap (λ b. has row m && not (b && not (bit_at z bit == 1))) hy ∙ ap (λ b. has row m && not (has earlier m && not b)) hz
 
 -- the packets of a word of the row that are fresh
 abbrev pub OfFresh : List (Vec ℕ) → (ℕ → Bool) → ℕ → ℕ → Type 0

@@ -7,9 +7,6 @@ use Rattle.std.specs.Global.{Vec}
 use Rattle.hq_order.specs.Matrix.{row}
 use Rattle.hq_order.specs.Placing.{AllAre}
 
-pub all_none : {X : Type 0} (P : ℕ → X → Type 0) → AllAre P []
-all_none P = record { at = λ i none l. absurd (omega arith) }
-
 pub all_push : {X : Type 0} (P : ℕ → X → Type 0) (xs : List X) (x : X) (n : ℕ) → AllAre P xs → length xs ≡ n → P n x → AllAre P (xs ++ x ∷ [])
 all_push P xs x n all e this = record {
   at = λ i none l. elim (cases_lt i (length xs)) [

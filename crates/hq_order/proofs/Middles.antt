@@ -52,6 +52,3 @@ middle_found job rounds round p r (Some m) a some l h =
       between = record { k = k; lower = below; first = (a.exact k p m low).0 h.first; second = (a.exact k m r low).0 h.second };
       least = λ i lower b. let x = between_marks job rounds round p r i a l b in h.least i lower x.0 x.1;
     }
-
-pub none_at_zero : (job : Job) (round p r : ℕ) → round ≡ 0 → (m : ℕ) → Between job round p r m → ⊥
-none_at_zero job round p r e m b = let l = b.lower in omega arith

@@ -80,9 +80,6 @@ gather_more Old A B P i h g = (
 pub gather_skip : (Old A : Type 0) (P : ℕ → Type 0) (i : ℕ) → A ↔ (Old ⊎ ((m : ℕ) × (m < i) × P m)) → (P i → ⊥) → A ↔ (Old ⊎ ((m : ℕ) × (m < i + 1) × P m))
 gather_skip Old A P i h ban = gather_more Old A A P i h (λ a. inl a, λ t. elim t [ inl a ↦ a | inr x ↦ absurd (ban x) ])
 
-pub gather_start : (Old : Type 0) (P : ℕ → Type 0) → Old ↔ (Old ⊎ ((m : ℕ) × (m < 0) × P m))
-gather_start Old P = (λ o. inl o, λ t. elim t [ inl o ↦ o | inr x ↦ absurd (let l = x.1 in omega arith) ])
-
 -- a test that is one or another
 pub joined : (old other new : Bool) (Q : Type 0) → new ≡ (old || other) → IsTrue other ↔ Q → IsTrue new ↔ (IsTrue old ⊎ Q)
 joined old other new Q e q = (

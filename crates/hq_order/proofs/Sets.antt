@@ -3,7 +3,7 @@ use Rattle.std.proofs.Common.{◌≡◌, ℕ, not, ◌+◌, ◌*◌, ◌/◌, �
 use Rattle.std.specs.Int.{bit_at}
 use Rattle.std.specs.Int.Bits.{bit_xor}
 use Rattle.std.proofs.lemmas.Bool.{cases_eq, cases_lt, eq-eqb, ne_eqb}
-use Rattle.std.proofs.lemmas.List.{get_or-set_other, get_or_past, length-set}
+use Rattle.std.proofs.lemmas.List.{get_or-set_other, get_or_past}
 use Rattle.std.proofs.lemmas.Grind.{get_or-set_at, common_steps}
 use Rattle.std.proofs.lemmas.Nat.Bits.{bit_at_or, bit_at_and, bit_at_set_same, bit_at_set_other, bit_at-lt, bit_at-zero, bit_at_xor}
 use Rattle.hq_order.specs.Bits.{has}
@@ -75,21 +75,6 @@ pub record JoinedUpto (f : ℕ → ℕ → ℕ) (old other : List ℕ) (i : ℕ)
   pub words : (k : ℕ) → k < i → slice_index new k ≡ f (slice_index old k) (slice_index other k)
   pub rest : (k : ℕ) → i ≤ k → slice_index new k ≡ slice_index old k
 
-pub joined_none : (f : ℕ → ℕ → ℕ) (old other : List ℕ) → JoinedUpto f old other 0 old
-joined_none f old other = record { len = refl; words = λ k l. absurd (omega arith); rest = λ k l. refl }
-
-pub joined_next : (f : ℕ → ℕ → ℕ) (old other new : List ℕ) (i : ℕ) → JoinedUpto f old other i new → i < length new → JoinedUpto f old other (i + 1) (slice_set new i (f (slice_index new i) (slice_index other i)))
-joined_next f old other new i u l =
-    let word : ℕ = f (slice_index new i) (slice_index other i) in
-    record {
-      len = length-set new i word ∙ u.len;
-      words = λ k below. elim (cases_eq k i) [
-        | inl e ↦ get_or-set_at new i k word 0 e l ∙ ap (λ x. f x (slice_index other i)) (u.rest i (omega arith)) ∙ ap (λ j. f (slice_index old j) (slice_index other j)) (sym e)
-        | inr d ↦ get_or-set_other new i k word 0 d ∙ u.words k (omega arith)
-      ];
-      rest = λ k above. get_or-set_other new i k word 0 (λ e. omega arith) ∙ u.rest k (omega arith);
-    }
-
 pub joined_all : (f : ℕ → ℕ → ℕ) (old other new : List ℕ) (i : ℕ) → length old ≡ length other → length old ≤ i → JoinedUpto f old other i new → Joined f old other new
 joined_all f old other new i e l u = record { len = u.len; same_len = e; words = λ k low. u.words k (omega arith) }
 
@@ -102,10 +87,6 @@ bit_and_bool a b l m = elim (cases_eq a 1) [
 and_false : (b : Bool) → (b && false) ≡ false
 and_false true = refl
 and_false false = refl
-
-and_true : (b : Bool) → (b && true) ≡ b
-and_true true = refl
-and_true false = refl
 
 pub has_met : (old other new : List ℕ) (p : ℕ) → Joined bit_and old other new → has new p ≡ (has old p && has other p)
 has_met old other new p u = elim (cases_lt (p / 64) (length old)) [

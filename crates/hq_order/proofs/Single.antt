@@ -1,5 +1,5 @@
 -- What the rules give that rest on no other pair.
-use Rattle.std.proofs.Common.{◌≡◌, ◌↔◌, ◌≢◌, ℕ, ◌+◌, ◌-◌, ◌<◌, ◌≤◌, ◌⊎◌, inl, inr, length, sym, ◌∙◌, ap, subst, arith, IsTrue, Some, slice_get}
+use Rattle.std.proofs.Common.{◌≡◌, ◌↔◌, ℕ, ◌+◌, ◌-◌, ◌<◌, ◌≤◌, ◌⊎◌, inl, inr, length, sym, ◌∙◌, ap, subst, arith, IsTrue, Some, slice_get}
 use Rattle.std.proofs.lemmas.Bool.{cases_eq}
 use Rattle.std.proofs.lemmas.List.{length-map}
 use Rattle.hq_job.specs.declared.rows.Placed.{Placed}
@@ -104,11 +104,6 @@ awaits_or job p r slot s k d = (
     back (by_and kind d c) = absurd (let x : BarrierOr ≡ BarrierAnd = sym k ∙ kind in cc)
     back (by_or kind d all) = all
 
--- and work for nothing
-pub awaits_nothing : (job : Job) (p r : ℕ) → ((packet job r).kind ≢ BarrierAnd) → ((packet job r).kind ≢ BarrierOr) → Awaits job p r → ⊥
-awaits_nothing job p r a o (by_and k d c) = a k
-awaits_nothing job p r a o (by_or k d c) = o k
-
 pub direct_packet : (job : Job) (p r : ℕ) → IsPacket job r → Direct job p r → IsPacket job p
 direct_packet job p r l (inl (by_bit_of e b)) = let a : p < r = e.ahead in omega arith
 direct_packet job p r l (inl (by_bit_ahead {j} e b f)) = let a : p < j = e.ahead in let k : j < r = f.ahead in omega arith
@@ -150,14 +145,6 @@ earlier_range job queue start stop p r q e l = (
       let inside : r < stop = (q.within r l e).1 in
       record { ahead = h.0; is_packet = l; same_queue = (q.of_queue p h.1 (let ahead : p < r = h.0 in omega arith)).1 ∙ sym e },
 )
-
--- all between the first and r stay ahead of r where it has the barrier bit
-pub bit_of_queue : (job : Job) (queue start stop p r : ℕ) → AreOfQueue job queue start stop → (packet job r).queue ≡ queue → IsPacket job r → IsTrue (packet job r).bit → Precedes job p r ↔ ((p < r) × (start ≤ p))
-bit_of_queue job queue start stop p r q e l b =
-    let range = earlier_range job queue start stop p r q e l in (
-      λ x. range.0 (precedes_earlier job p r x),
-      λ h. by_bit_of (range.1 h) b,
-    )
 
 -- the one ahead of r, which isn't the first
 pub next_of_queue : (job : Job) (queue start stop r : ℕ) → AreOfQueue job queue start stop → (packet job r).queue ≡ queue → IsPacket job r → start < r → StandsNext job (r - 1) r

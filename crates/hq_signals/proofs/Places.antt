@@ -6,9 +6,6 @@ use Rattle.std.proofs.lemmas.Bool.{cases_lt}
 pub record AgreeBelow {A : Type 0} (bound : ℕ) (a b : List A) : Type 0 where
   pub each : (k : ℕ) → k < bound → slice_get a k ≡ slice_get b k
 
-pub agree_at_first : {A : Type 0} (a b : List A) → AgreeBelow 0 a b
-agree_at_first a b = record { each = λ k lt. absurd (omega arith) }
-
 pub agree_further : {A : Type 0} (a b : List A) (i : ℕ) → AgreeBelow i a b → slice_get a i ≡ slice_get b i → AgreeBelow (i + 1) a b
 agree_further a b i before here = record {
   each = λ k lt. elim (cases_lt k i) [

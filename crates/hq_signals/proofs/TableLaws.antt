@@ -1,17 +1,10 @@
 -- What opening a signal and noting a packet leave as it was.
-use Rattle.std.proofs.Common.{◌≡◌, ℕ, nat_eq, Bool, true, false, List, [], ◌∷◌, ◌++◌, refl, arith, if◌then◌else◌}
+use Rattle.std.proofs.Common.{◌≡◌, ℕ, nat_eq, Bool, true, false, List, [], ◌∷◌, ◌++◌, refl, if◌then◌else◌}
 use Rattle.std.proofs.lemmas.List.{map-append}
-use Rattle.std.proofs.lemmas.List.Sums.{sum_by-append}
-use Rattle.hq_signals.specs.Table.{OpenSignal, opened, handles, starts, noted, changed_at, with_decrementer, with_wait}
+use Rattle.hq_signals.specs.Table.{OpenSignal, opened, handles, starts, changed_at}
 
 pub handles-opened : (table : List OpenSignal) (h start : ℕ) → handles (table ++ opened h start ∷ []) ≡ handles table ++ h ∷ []
 handles-opened table h start = map-append (λ s. s.handle) table (opened h start ∷ [])
-
-pub starts-opened : (table : List OpenSignal) (h start : ℕ) → starts (table ++ opened h start ∷ []) ≡ starts table ++ start ∷ []
-starts-opened table h start = map-append (λ s. s.start) table (opened h start ∷ [])
-
-pub noted-opened : (table : List OpenSignal) (h start : ℕ) → noted (table ++ opened h start ∷ []) ≡ noted table
-noted-opened table h start = let sum = sum_by-append (λ s. s.decrementers) table (opened h start ∷ []) in omega arith
 
 module _ {X : Type 0} (field : OpenSignal → X) (change : OpenSignal → OpenSignal) (keeps : (s : OpenSignal) → field (change s) ≡ field s) where
   head : (b : Bool) (s : OpenSignal) → field (if b then change s else s) ≡ field s
@@ -32,15 +25,3 @@ module _ (h : ℕ) (change : OpenSignal → OpenSignal) where
       let first = head (λ t. t.start) change keeps (nat_eq s.handle h) s in
       let rest = starts-changed keeps ss in
       λ j. first j ∷ rest j
-
-pub handles-with_decrementer : (h : ℕ) (table : List OpenSignal) → handles (changed_at h with_decrementer table) ≡ handles table
-handles-with_decrementer h = handles-changed h with_decrementer (λ s. refl)
-
-pub starts-with_decrementer : (h : ℕ) (table : List OpenSignal) → starts (changed_at h with_decrementer table) ≡ starts table
-starts-with_decrementer h = starts-changed h with_decrementer (λ s. refl)
-
-pub handles-with_wait : (h : ℕ) (table : List OpenSignal) → handles (changed_at h with_wait table) ≡ handles table
-handles-with_wait h = handles-changed h with_wait (λ s. refl)
-
-pub starts-with_wait : (h : ℕ) (table : List OpenSignal) → starts (changed_at h with_wait table) ≡ starts table
-starts-with_wait h = starts-changed h with_wait (λ s. refl)

@@ -25,14 +25,6 @@ pub put_and_spilled : (a : Option (List ℕ)) (w v : Option (List ℕ)) (old new
 put_and_spilled a w v old new left s t all h made k e =
     appends_same a (append_known w new) (append_known v left) all [] all (appends_same a (append_known w old) (append_known w new) s t all h (put_known w old new t made) e) k (sym (append-nil all))
 
-pub nothing_put : (w : Option (List ℕ)) (old t : List ℕ) → t ≡ [] → Appends (append_known w old) (append_known w old) t
-nothing_put w old t e = put_known w old old t (sym (append-nil old) ∙ ap (λ r. old ++ r) (sym e))
-
-pub spilled : (w v : Option (List ℕ)) (old left : List ℕ) → Appends w v old → left ≡ [] → Appends (append_known w old) (append_known v left) []
-spilled None v old left h e = tt
-spilled (Some xs) None old left h e = absurd h
-spilled (Some xs) (Some ys) old left h e = ap (λ r. ys ++ r) e ∙ append-nil ys ∙ h ∙ sym (append-nil (xs ++ old))
-
 next : {A B : Type 0} (v : A → B) (xs : List A) (i : ℕ) (d : A) → i < length xs → map v (take (suc i) xs) ≡ map v (take i xs) ++ v (get_or xs i d) ∷ []
 next v [] i d lt = absurd (omega arith)
 next v (x ∷ xs) zero d lt = refl

@@ -7,13 +7,13 @@ use Rattle.hq_machine.specs.declared.fault.StepFault.{StepFault}
 use Rattle.hq_machine.specs.declared.fault.StepFault.TheVariants as step
 use Rattle.hq_machine.specs.Events.{coarse_of}
 use Rattle.hq_machine.specs.State.{StateValue}
-use Rattle.hq_machine.specs.View.{IsStateOf, state_of, Applied, NotApplied}
+use Rattle.hq_machine.specs.View.{state_of, Applied, NotApplied}
 use Rattle.hq_model.specs.Job.{Job}
 use Rattle.hq_model.specs.Machine.{State, listed, start}
 use Rattle.hq_model.specs.Journal.{Coarse, Happens, Journal}
 use Rattle.hq_timeline.specs.declared.fault.ReplayFault.{ReplayFault}
 use Rattle.hq_timeline.specs.declared.fault.ReplayFault.TheVariants as fault
-use Rattle.hq_timeline.specs.Replays.{Goes, Stops, FaultOf, Replayed, NotReplayed}
+use Rattle.hq_timeline.specs.Replays.{Goes, Stops, FaultOf, Replayed}
 
 -- one event more behind those that led to a state
 journal_snoc : (job : Job) (old mid new : State) (events : List Coarse) (event : Coarse) → Journal job old events mid → Happens job mid event new → Journal job old (events ++ event ∷ []) new
@@ -38,10 +38,6 @@ take_all [] (suc n) l = refl
 take_all (x ∷ xs) zero l = absurd (omega arith)
 take_all (x ∷ xs) (suc n) l = ap (λ ys. x ∷ ys) (take_all xs n (omega arith))
 
-pub goes_none : (job : Job) (v : StateValue) (events : List Event) → IsStateOf job v → Goes job v (take 0 events) v
-goes_none job v [] is = record { is = is; journal = refl }
-goes_none job v (e ∷ events) is = record { is = is; journal = refl }
-
 pub goes_next : (job : Job) (old mid new : StateValue) (events : List Event) (i : ℕ) (d : Event) → Goes job old (take i events) mid → i < length events
     → Applied job mid (coarse_of (slice_index_or events i d)) new → Goes job old (take (i + 1) events) new
 goes_next job old mid new events i d g l a =
@@ -52,9 +48,6 @@ goes_next job old mid new events i d g l a =
           (subst (λ xs. Journal job (state_of job old) xs (state_of job new)) (sym (coarse_snoc (take i events) event))
           (journal_snoc job (state_of job old) (state_of job mid) (state_of job new) (map coarse_of (take i events)) (coarse_of event) g.journal a.happens));
     }
-
-pub goes_all : (job : Job) (old new : StateValue) (events : List Event) (n : ℕ) → length events ≤ n → Goes job old (take n events) new → Goes job old events new
-goes_all job old new events n l g = subst (λ xs. Goes job old xs new) (take_all events n l) g
 
 pub stops_here : (job : Job) (old mid : StateValue) (events : List Event) (i : ℕ) (d : Event) (why : StepFault) (answered : ReplayFault) → Goes job old (take i events) mid → i < length events
     → NotApplied job mid (coarse_of (slice_index_or events i d)) why → FaultOf i why answered → Stops job old events answered
@@ -81,15 +74,4 @@ replayed job old new events bytes begun g same =
       state = state_of job new;
       run = subst (λ s. Journal job s (map coarse_of events) (state_of job new)) begun g.journal;
       memory = same ∙ sym (listed_take (length job.memory) new.copies.memory (omega (arith, g.is.lengths.memory)) ∙ take_whole (length job.memory) new.copies.memory g.is.lengths.memory);
-    }
-
-pub not_replayed : (job : Job) (old : StateValue) (events : List Event) (why : ReplayFault) → state_of job old ≡ start job → Stops job old events why → NotReplayed job events why
-not_replayed job old events fault.Memory begun stops = tt
-not_replayed job old events (fault.NotEnabled place) begun stops =
-    record {
-      event = stops.event;
-      there = stops.there;
-      state = stops.state;
-      run = subst (λ s. Journal job s (map coarse_of (take place events)) stops.state) begun stops.journal;
-      refused = stops.refused;
     }

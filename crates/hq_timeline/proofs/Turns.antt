@@ -16,9 +16,6 @@ pub record Taken (all rest : List (List ℕ)) (count : ℕ) (s : State) : Type 0
   pub counted : length front ≡ count
   pub admitted : AdmitsAll start front s
 
-pub none_taken : (all rest : List (List ℕ)) (s : State) → rest ≡ all → s ≡ start → Taken all rest 0 s
-none_taken all rest s same e = record { front = []; whole = sym same; counted = refl; admitted = e }
-
 admits_more : (front : List (List ℕ)) (s mid new : State) (line : List ℕ) → AdmitsAll s front mid → Admits mid line new → AdmitsAll s (front ++ line ∷ []) new
 admits_more [] s mid new line all h = (new, subst (λ (t : State). Admits t line new) all h, refl)
 admits_more (first ∷ front) s mid new line all h = (all.0, all.1, admits_more front all.0 mid new line all.2 h)
