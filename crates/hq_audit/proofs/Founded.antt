@@ -63,9 +63,6 @@ mutual
   branch_first job (itself d) = d.is_packet
   branch_first job (after d b) = first_of job b
 
-pub before_first : (job : Job) (p r : ℕ) → Before job p r → IsPacket job p
-before_first job p r b = first_of job b
-
 -- ---- lower rounds
 
 pub below_before : (job : Job) (round p r : ℕ) → Below job round p r → Before job p r

@@ -1,5 +1,4 @@
 pub mod Each
-pub mod Cuts
 pub mod Turns
 pub mod Parts
 pub mod LinesRead
@@ -15,5 +14,4 @@ pub mod Nine
 pub mod Placed
 pub mod OnePass
 pub mod Taking
-pub mod Pieces
-pub mod Readers
+pub mod Progresses

@@ -131,9 +131,11 @@ pub read_fault_of : (r : Result model.Certificate CertFault) (lines : List (List
 read_fault_of (Ok c) lines h = tt
 read_fault_of (Err f) lines h = h
 
+-- a certificate's text has no fault but that memory ran out
+pub no_fault : (lines : List (List ℕ)) (c : model.Certificate) (f : CertFault) → CertText lines c → (f ≡ no_memory) ⊎ FirstFault lines f → f ≡ no_memory
+no_fault lines c f h (inl e) = e
+no_fault lines c f h (inr k) = absurd (faultless lines c f h k)
+
 pub text_only : {X : Type 0} (view : X → model.Certificate) (r : Result X CertFault) (lines : List (List ℕ)) (c : model.Certificate) → IfOk r (λ x. CertText lines (view x)) → IfErr r (λ f. (f ≡ no_memory) ⊎ FirstFault lines f) → CertText lines c → GivesCertificate view r c
 text_only view (Ok x) lines c found wrong h = one_certificate lines (view x) c found h
-text_only view (Err f) lines c found wrong h = by wrong where
-  by : (f ≡ no_memory) ⊎ FirstFault lines f → f ≡ no_memory
-  by (inl e) = e
-  by (inr k) = absurd (faultless lines c f h k)
+text_only view (Err f) lines c found wrong h = no_fault lines c f h wrong

@@ -24,6 +24,7 @@ mod rules;
 pub use certificate::{Branches, Certificate, Fences, Line, Pair, ReadChain, Rule, WriteChain};
 pub use citation::Citation;
 pub use fault::{CertFault, CertReason};
+pub use hq_text::ReadFault;
 pub use printing::{PrintFault, print};
-pub use reader::{ReadFault, read};
+pub use reader::read;
 pub use reading::parse;

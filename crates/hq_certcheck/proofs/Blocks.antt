@@ -5,15 +5,11 @@ use Rattle.hq_job.proofs.Grouped.{get_before, get_after}
 use Rattle.std.proofs.lemmas.Option.{slice_get_within}
 use Rattle.hq_model.specs.Job.{Job}
 use Rattle.hq_certcheck.specs.declared.extents.Extent.{Extent}
-use Rattle.hq_certcheck.specs.Covering.{IsFlagged, BlockFlagged, AllFlagged}
-use Rattle.hq_certcheck.specs.Extents.{IsApart, IsAmong, HasBlock}
+use Rattle.hq_certcheck.specs.Covering.{IsFlagged, BlockFlagged}
+use Rattle.hq_certcheck.specs.Extents.{IsAmong, HasBlock}
 
 among_more : (e f g : Extent) → IsAmong e f → IsAmong f g → IsAmong e g
 among_more e f g h i = record { low = omega (arith, h.low, i.low); end = omega (arith, h.end, i.end) }
-
-apart_among : (d e f : Extent) → IsAmong e f → IsApart d f → IsApart d e
-apart_among d e f h (inl a) = inl (omega (arith, a, h.low))
-apart_among d e f h (inr a) = inr (omega (arith, a, h.end))
 
 -- one packet more lies within the block's extent
 pub block_more : (es : List Extent) (start b : ℕ) (f g d : Extent) → HasBlock es start b f → slice_get es b ≡ Some d → IsAmong f g → IsAmong d g → HasBlock es start (b + 1) g
@@ -55,9 +51,6 @@ below_more job cells count p block h here = λ s above below low. elim (cases_eq
   | inl same ↦ here s above below same
   | inr apart ↦ h s above below (omega arith)
 ]
-
-pub all_after : (job : Job) (cells : List ℕ) (count p block blocks : ℕ) → count ≤ blocks * 32 → blocks ≤ block → FlaggedBelow job cells count p block → AllFlagged job cells count p count
-all_after job cells count p block blocks room over h = λ s above below. h s above below (omega arith)
 
 -- ---- flags of one block
 

@@ -45,10 +45,6 @@ removed m b f same others n = elim (cases_eq n b) [
 
 -- ---- layers
 
-pub settled : (upper lower : Option ℕ) → layered true None (or_lower upper lower) ≡ layered false upper lower
-settled None lower = refl
-settled (Some value) lower = refl
-
 pub over_layers : (run upper lower : Option ℕ) → layered true (or_lower run upper) lower ≡ dirty_over run (layered true upper lower)
 over_layers None upper lower = refl
 over_layers (Some value) upper lower = refl

@@ -4,10 +4,7 @@ use Rattle.hq_text.specs.Lines.{lines_of}
 use Rattle.hq_cert.specs.Gives.{no_memory as memory_fault}
 use Rattle.hq_cert.specs.TextFaults.{FirstFault}
 use Rattle.hq_cert.specs.Grammar.{CertText}
-use Rattle.hq_cert.specs.SoFar.{FaultOf}
 use Rattle.hq_cert.specs.declared.fault.CertFault.{CertFault}
-use Rattle.hq_cert.specs.declared.reader.ReadFault.{ReadFault}
-use Rattle.hq_cert.specs.declared.reader.ReadFault.TheVariants.{Text}
 use Rattle.hq_engines.specs.Check.{NoCertificate, SaysNoCertificate, cert_refusal}
 use Rattle.hq_engines.specs.Check.NoCertificate.{refused, no_memory}
 use Rattle.hq_job.specs.JobText.{JobText}
@@ -27,21 +24,10 @@ use Rattle.hq_engines.specs.Reports.{NoJob, Reported, Said, with_feed}
 use Rattle.hq_engines.specs.declared.status.Status.{Status}
 use Rattle.hq_engines.specs.declared.status.Status.TheVariants.{Done, CertificateRefused, Memory}
 
-pub always : (old : Option (List ℕ)) (P : List ℕ → Type 0) → ((text : List ℕ) → P text) → IfSome old P
-always None P p = tt
-always (Some xs) P p = p xs
-
 pub no_certificate_said : (text : List ℕ) (fault : CertFault) (old new : Option (List ℕ)) (answered : Status) → (fault ≡ memory_fault) ⊎ FirstFault (lines_of text) fault → SaysNoCertificate fault old new answered → Reported (NoCertificate text) old new answered
 no_certificate_said text fault old new answered why (inl said) = (with_feed (codes "out of memory"), Memory, no_memory, said.1)
 no_certificate_said text fault old new answered (inl e) (inr said) = absurd (said.0 (ap (λ (f : CertFault). f.reason) e))
 no_certificate_said text fault old new answered (inr first) (inr said) = (with_feed (cert_refusal fault), CertificateRefused, refused fault first, said.1)
-
--- the same of what a reader gave
-pub unread_said : (left : Option (List ℕ)) (e : ReadFault) (fault : CertFault) (old new : Option (List ℕ)) (answered : Status) → e ≡ Text fault → IfSome left (λ text. FaultOf e (λ f. (f ≡ memory_fault) ⊎ FirstFault (lines_of text) f) (Unit {0}))
-    → SaysNoCertificate fault old new answered → IfSome left (λ text. Reported (NoCertificate text) old new answered)
-unread_said None e fault old new answered is why said = tt
-unread_said (Some text) e fault old new answered is why said =
-    no_certificate_said text fault old new answered (subst (λ (x : ReadFault). FaultOf x (λ f. (f ≡ memory_fault) ⊎ FirstFault (lines_of text) f) (Unit {0})) is why) said
 
 -- what a check answered is its report
 pub checked_reported : (job : JobValue) (c : Certificate) (r : Result AcceptedJob (CheckNo × JobValue)) (old new : Option (List ℕ)) (answered : Status)

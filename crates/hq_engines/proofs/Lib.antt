@@ -5,3 +5,4 @@ pub mod Packs
 pub mod Audits
 pub mod Checks
 pub mod Replays
+pub mod ReadTexts

@@ -10,9 +10,9 @@ use crate::buffers::say_buffers;
 use crate::saying::{say, say_file, say_memory};
 use crate::status::Status;
 use crate::taking::take_job;
-use hq_job::{Job, TextFault, take_text};
+use hq_job::Job;
 use hq_machine::Journal;
-use hq_timeline::{ReplayFault, TimeFault, TimeReason, parse, replay};
+use hq_timeline::{ReadFault, ReplayFault, TimeFault, TimeReason, read, replay};
 use std::alloc::Global;
 use std::fmt;
 use std::io::{Read, Write};
@@ -57,18 +57,6 @@ fn say_no_timeline<W: Write>(writer: &mut W, fault: TimeFault) -> Status
     }
 }
 
-/// The journal that a text is; or, where it is none, the status of the refusal, which is written.
-fn journal_of<W: Write>(alloc: Global, text: &[u8], writer: &mut W) -> Result<Journal, Status>
-    ensures found { IfOk result (λ journal. TimeText (lines_of text.now) journal) }
-    ensures unwritten { OnOk result (writer.new ≡ writer.old) }
-    ensures refused { IfErr result (Reported (NoTimeline text.now) (W.contents writer.old) (W.contents writer.new)) }
-{
-    match parse(alloc, text) {
-        Ok(journal) => Ok(journal),
-        Err(fault) => Err(say_no_timeline(writer, fault)),
-    }
-}
-
 /// The journal of a reader's text; or, where there is none, the status of the refusal, which is written.
 fn take_journal<R: Read, W: Write>(
     alloc: Global,
@@ -79,10 +67,10 @@ fn take_journal<R: Read, W: Write>(
     ensures unwritten { OnOk result (writer.new ≡ writer.old) }
     ensures refused { IfSome (R.remaining reader.old) (λ text. IfErr result (Reported (NoTimeline text) (W.contents writer.old) (W.contents writer.new))) }
 {
-    match take_text(alloc, reader) {
-        Ok(text) => journal_of(alloc, &text, writer),
-        Err(TextFault::Read) => Err(say_file(writer)),
-        Err(TextFault::Memory) => Err(say_memory(writer)),
+    match read(alloc, reader) {
+        Ok(journal) => Ok(journal),
+        Err(ReadFault::Reader) => Err(say_file(writer)),
+        Err(ReadFault::Text(fault)) => Err(say_no_timeline(writer, fault)),
     }
 }
 

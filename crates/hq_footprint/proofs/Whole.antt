@@ -29,9 +29,6 @@ fits_or_passes r = elim (cases_lt (2 ^ 64) (r.at + r.len)) [ inl lt ↦ inr lt |
 pub some_passes : (rs : List Range) → (All Fits rs → ⊥) → Any Passes rs
 some_passes rs not_all = elim (all_or_any Fits Passes fits_or_passes rs) [ inl all ↦ absurd (not_all all) | inr any ↦ any ]
 
-pub none_passes : (rs : List Range) → All Fits rs → Any Passes rs → ⊥
-none_passes = not_both Fits Passes (λ r f p. omega arith)
-
 -- ---- the buffers
 
 within_or_not : (r buffer : Range) → IsWithin r buffer ⊎ (IsWithin r buffer → ⊥)

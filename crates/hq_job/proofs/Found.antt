@@ -8,7 +8,6 @@ use Rattle.std.proofs.lemmas.List.{get_or-map, get_or_default, length-map}
 use Rattle.std.proofs.lemmas.Cmp.{nat_list_eq_equiv}
 use Rattle.std.proofs.lemmas.Slice.Eq.{bytes_eq-Decides}
 use Rattle.std.proofs.lemmas.Map.Views.{Contains-from_any, list_any-from_Contains}
-use Rattle.std.proofs.lemmas.List.Quantifiers.{position-Some}
 use Rattle.std.proofs.lemmas.Bool.Decides.{nat_tests}
 use Rattle.std.proofs.lemmas.List.Folds.{Any-from_list_any, list_any-from_Any}
 
@@ -83,9 +82,6 @@ no_place names name e h = let there : is_some (position (bytes_eq name) names) �
 
 pub has_place : (names : List (List ℕ)) (name : List ℕ) (i : ℕ) → position (bytes_eq name) names ≡ Some i → Contains names name
 has_place names name i e = name_there names name (sym (place_found (bytes_eq name) names) ∙ ap is_some e)
-
-pub place_below : (names : List (List ℕ)) (name : List ℕ) (i : ℕ) → position (bytes_eq name) names ≡ Some i → i < length names
-place_below names name i e = (position-Some (bytes_eq name) names i [] e).0
 
 pub place_of_some : (names : List (List ℕ)) (name : List ℕ) → is_some (position (bytes_eq name) names) ≡ true → Contains names name
 place_of_some names name e = name_there names name (sym (place_found (bytes_eq name) names) ∙ e)

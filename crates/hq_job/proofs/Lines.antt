@@ -6,10 +6,8 @@ use Rattle.std.proofs.lemmas.List.{length-map, length-take-le}
 use Rattle.hq_lines.specs.Bytes.{is_outside}
 use Rattle.hq_lines.specs.declared.fault.LineFault.{LineFault}
 use Rattle.hq_lines.specs.declared.fault.LineFault.TheVariants as fault
-use Rattle.hq_lines.specs.Meaning as says
 use Rattle.hq_lines.specs.Meaning.{Meaning}
-use Rattle.hq_lines.specs.Says as form
-use Rattle.hq_lines.specs.Says.{Says, SaysLine}
+use Rattle.hq_lines.specs.Says.{SaysLine}
 use Rattle.hq_lines.specs.Order.{line_fault}
 use Rattle.hq_job.specs.declared.fault.Reason.{Reason}
 use Rattle.hq_job.specs.declared.fault.Reason.TheVariants as reason
@@ -18,25 +16,10 @@ use Rattle.hq_job.specs.LineFaults.{reason_of}
 use Rattle.hq_job.specs.Tables.{Tables, empty, tests, IsFirst}
 use Rattle.hq_job.specs.JobText.{SaysVersion, misplaced, Admits, AdmitsAll, Refused, by_itself, by_tables, IsEnd, FirstFault, faulty, behind, endless, at_line}
 use Rattle.hq_job.specs.Fits.{TablesFit}
-use Rattle.hq_job.specs.Adds.{TakesAll, StartFits, Behind, no_memory}
+use Rattle.hq_job.specs.Adds.{TakesAll, Behind, no_memory}
 use Rattle.hq_job.proofs.Kept.{fits_added}
 
 -- ---- one line
-
-start_of : (words : List (List ℕ)) (m : Meaning) → Says words m → StartFits m
-start_of _ _ (form.agent name n) = tt
-start_of _ _ (form.zeros name addr len at n a b c) = tt
-start_of _ _ (form.buffer name addr len digits at n bytes a b c d e) = tt
-start_of _ _ (form.args name addr digits at bytes a b c d e) = tt
-start_of _ _ (form.signal name h s handle start a b c) = let upto = c.upto in omega arith
-start_of _ _ (form.kernel name o c object kind a b d) = tt
-start_of _ _ (form.queue name owner s size a b c d) = tt
-start_of _ _ (form.to name a) = tt
-start_of _ _ (form.packets digits bytes p a b c) = tt
-start_of _ _ form.ends = tt
-
-pub start_fits : (line : List ℕ) (m : Meaning) → SaysLine line m → StartFits m
-start_fits line m h = start_of _ m h.words
 
 -- a line that is refused by itself
 pub refused_itself : (ts : Tables) (line : List ℕ) (f : LineFault) → (f ≡ fault.Memory) ⊎ (line_fault line ≡ Some f) → (reason_of f ≡ reason.Memory) ⊎ Refused ts line (reason_of f)

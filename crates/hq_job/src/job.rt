@@ -136,7 +136,7 @@ impl Job {
     pub fn packets(&self) -> &[Placed]
         ensures { result.now ≡ self.now.packets }
     {
-        &self.packets
+        self.packets.as_slice()
     }
 
     /// The packet of a number.

@@ -77,9 +77,6 @@ is_agent_push _ = false
 
 -- ---- reads and stores
 
-some_is : (o : Option ℕ) (x : ℕ) → o ≡ Some x → IsSome o
-some_is o x e = subst IsSome (sym e) refl
-
 -- What holds at the place that is set, and at those where it held, holds after.
 set_or : {X : Type 0} (f g : ℕ → ℕ → X) (q j : ℕ) (x : X) (P : X → Type 0) → g ≡ put2 f q j x → P x → (p i : ℕ) (A : Type 0) → P (f p i) ⊎ (((p ≡ q) × (i ≡ j)) ⊎ A) → P (g p i) ⊎ A
 set_or f g q j x P is holds p i A h = elim (cases_eq p q) [

@@ -19,11 +19,6 @@ count job = length-map job.packets planned
 
 -- ---- by the place in the queue
 
-pub precedes_earlier : (job : Job) (p r : ℕ) → Precedes job p r → Earlier job p r
-precedes_earlier job p r (by_bit_of e b) = e
-precedes_earlier job p r (by_bit_ahead {j} e b f) = record { ahead = omega (arith, e.ahead, f.ahead); is_packet = f.is_packet; same_queue = e.same_queue ∙ f.same_queue }
-precedes_earlier job p r (by_queue e b) = e
-
 further : (job : Job) (p q r : ℕ) → Earlier job p q → Earlier job q r → Earlier job p r
 further job p q r e f = record { ahead = omega (arith, e.ahead, f.ahead); is_packet = f.is_packet; same_queue = e.same_queue ∙ f.same_queue }
 
@@ -122,16 +117,6 @@ direct_packet_r job p r (inr (by_and k d c)) = d.is_packet
 direct_packet_r job p r (inr (by_or k d c)) = d.is_packet
 
 -- ---- the packets of a queue
-
--- nothing stays ahead of the first of a queue
-pub first_of_queue : (job : Job) (queue start stop p r : ℕ) → AreOfQueue job queue start stop → (packet job r).queue ≡ queue → r ≤ start → Precedes job p r → ⊥
-first_of_queue job queue start stop p r q e low x =
-    let f = precedes_earlier job p r x in
-    let ahead : p < r = f.ahead in
-    let packets : r < length job.packets = f.is_packet in
-    let there : p < length job.packets = omega arith in
-    let above : start ≤ p = (q.within p there (f.same_queue ∙ e)).0 in
-    omega arith
 
 -- those earlier than r are all from the first on
 pub earlier_range : (job : Job) (queue start stop p r : ℕ) → AreOfQueue job queue start stop → (packet job r).queue ≡ queue → IsPacket job r → Earlier job p r ↔ ((p < r) × (start ≤ p))

@@ -1,7 +1,6 @@
+use crate::readers::Pieces;
 use hq_cert::{CertFault, CertReason, Citation, ReadFault, parse, print, read};
 use std::alloc::Global;
-use std::io;
-use std::io::Read;
 use std::process::Abort;
 use std::test::*;
 
@@ -72,38 +71,10 @@ fn faults(rt: HostRuntime) {
     }
 }
 
-/// A reader of so many bytes a turn, that fails once its turns are over.
-#[derive(Drop)]
-struct Pieces<'a> {
-    text: &'a [u8],
-    len: usize,
-    turns: usize,
-}
-
-impl<'a> Read for Pieces<'a> {
-    fn read(&mut self, buf: &mut [u8]) -> io::Result<usize> {
-        if self.turns == 0 {
-            return Err(io::Error::from(io::ErrorKind::Interrupted));
-        }
-        self.turns -= 1;
-        let count = self.len.min(self.text.len()).min(buf.len());
-        let (piece, rest) = self.text.split_at(count);
-        for (place, byte) in buf.iter_mut().zip(piece) {
-            *place = *byte;
-        }
-        self.text = rest;
-        Ok(count)
-    }
-}
-
 #[test]
 fn read_in_pieces(rt: HostRuntime) -> Result<(), Fail> {
     for len in 1..40 {
-        let mut reader = Pieces {
-            text: TEXT,
-            len,
-            turns: 1000,
-        };
+        let mut reader = Pieces::new(TEXT, len, 1000);
         let certificate = read(rt.alloc(), &mut reader)?;
         let mut text = Vec::new(rt.alloc());
         print(rt.alloc(), &certificate, &mut text)?;
@@ -112,12 +83,14 @@ fn read_in_pieces(rt: HostRuntime) -> Result<(), Fail> {
     Ok(())
 }
 
-fn is_read_fault(rt: &impl Abort, alloc: Global, turns: usize, text: &[u8], fault: ReadFault) {
-    let mut reader = Pieces {
-        text,
-        len: 3,
-        turns,
-    };
+fn is_read_fault(
+    rt: &impl Abort,
+    alloc: Global,
+    turns: usize,
+    text: &[u8],
+    fault: ReadFault<CertFault>,
+) {
+    let mut reader = Pieces::new(text, 3, turns);
     match read(alloc, &mut reader) {
         Ok(_) => assert!(rt; false),
         Err(found) => assert!(rt; found == fault),

@@ -24,6 +24,8 @@ mod machines;
 #[cfg(test)]
 mod orders;
 #[cfg(test)]
+mod readers;
+#[cfg(test)]
 mod reports;
 #[cfg(test)]
 mod timelines;

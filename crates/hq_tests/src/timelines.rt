@@ -1,5 +1,6 @@
+use crate::readers::Pieces;
 use hq_machine::{Event, Journal};
-use hq_timeline::{TimeFault, TimeReason, parse, print};
+use hq_timeline::{ReadFault, TimeFault, TimeReason, parse, print, read};
 use std::alloc::Global;
 use std::process::Abort;
 use std::test::*;
@@ -54,5 +55,42 @@ fn faults(rt: HostRuntime) {
         (b"hsat 1\nend\n\n", 3, TimeReason::Word),
     ] {
         is_fault(&rt, rt.alloc(), text, line, reason);
+    }
+}
+
+#[test]
+fn read_in_pieces(rt: HostRuntime) -> Result<(), Fail> {
+    for len in 1..40 {
+        let journal = read(rt.alloc(), &mut Pieces::new(TEXT, len, 1000))?;
+        let mut text = Vec::new(rt.alloc());
+        print(rt.alloc(), &journal, &mut text)?;
+        assert!(rt; text.as_slice() == TEXT);
+    }
+    Ok(())
+}
+
+fn is_read_fault(
+    rt: &impl Abort,
+    alloc: Global,
+    turns: usize,
+    text: &[u8],
+    fault: ReadFault<TimeFault>,
+) {
+    match read(alloc, &mut Pieces::new(text, 3, turns)) {
+        Ok(_) => assert!(rt; false),
+        Err(found) => assert!(rt; found == fault),
+    }
+}
+
+#[test]
+fn read_faults(rt: HostRuntime) {
+    let text = b"hsat 1\nsubmit\nlaunch x\nend\n".as_slice();
+    let number = ReadFault::Text(TimeFault {
+        line: 3,
+        reason: TimeReason::Number,
+    });
+    is_read_fault(&rt, rt.alloc(), 1000, text, number);
+    for turns in 0..10 {
+        is_read_fault(&rt, rt.alloc(), turns, text, ReadFault::Reader);
     }
 }

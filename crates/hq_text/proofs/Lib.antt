@@ -3,3 +3,4 @@ pub mod Cuts
 pub mod NumberLaws
 pub mod Spelled
 pub mod Taken
+pub mod Pieces

@@ -1,9 +1,12 @@
 -- Pieces that were taken from a reader, joined.
 use Rattle.std.proofs.Common.{◌≡◌, ℕ, ◌+◌, ◌<◌, ◌≤◌, List, [], ◌++◌, take, Option, Some, None, refl, sym, ap, subst, ◌∙◌, append_assoc, arith}
-use Rattle.std.specs.Prelude.{Result, Ok, Err, IfOk, IfSome}
+use Rattle.std.specs.Prelude.{Result, Ok, Err, IfOk, IfErr, IfSome}
 use Rattle.std.specs.Io.KnownBytes.{Consumes, IsAtEnd}
 use Rattle.std.proofs.lemmas.List.{append-nil}
 use Rattle.hq_text.specs.Turns.{Turn, Gives, start, more, Ends, Passes, ReadTurn}
+use Rattle.hq_text.specs.Intake.{OfText, FaultOf, GivesUnlessRead}
+use Rattle.hq_text.specs.declared.intake.ReadFault.{ReadFault}
+use Rattle.hq_text.specs.declared.intake.ReadFault.TheVariants.{Reader, Text}
 
 pub starts : (S : Type 0) (T : Turn S) (s : S) (text : List ℕ) → text ≡ [] → Gives S T s 0 text s
 starts S T s text e = subst (λ (t : List ℕ). Gives S T s 0 t s) (sym e) (start s)
@@ -63,3 +66,33 @@ known_text P (Some xs) (Some ys) text p q h = subst P (sym (p ∙ ap (λ r. text
 pub any_known : (P : List ℕ → Type 0) (old : Option (List ℕ)) → ((xs : List ℕ) → P xs) → IfSome old P
 any_known P None h = tt
 any_known P (Some xs) h = h xs
+
+-- ---- what is read while it comes
+
+-- so many turns gave a text, and of this the fact holds
+pub record Follows (S : Type 0) (T : Turn S) (old : S) (n : ℕ) (new : S) (P : List ℕ → Type 0) : Type 0 where
+  pub text : List ℕ
+  pub given : Gives S T old n text new
+  pub so : P text
+
+known : {S : Type 0} (left : S → Option (List ℕ)) (turns : ℕ) (old new : S) (P : List ℕ → Type 0) → OfText S (ReadTurn left) turns old new P → IfSome (left old) P
+known left turns old new P h = known_text P (left old) (left new) h.text (ends_consumes left turns old new h.text h.ended) (ends_at_end left turns old new h.text h.ended) h.so
+
+-- what holds of the text of the turns holds of the bytes that the reader had left, where they are known
+pub known_found : {A E S : Type 0} (r : Result A E) (P : List ℕ → A → Type 0) (left : S → Option (List ℕ)) (turns : ℕ) (old new : S) → IfOk r (λ a. OfText S (ReadTurn left) turns old new (λ text. P text a)) → IfSome (left old) (λ text. IfOk r (P text))
+known_found (Ok a) P left turns old new h = known left turns old new (λ text. P text a) h
+known_found (Err e) P left turns old new h = any_known (λ text. Unit {0}) (left old) (λ text. tt)
+
+pub known_fault : {A F S : Type 0} (r : Result A (ReadFault F)) (Q : List ℕ → F → Type 0) (left : S → Option (List ℕ)) (turns : ℕ) (old new : S) (failed : Type 0) → IfErr r (λ e. FaultOf e (λ f. OfText S (ReadTurn left) turns old new (λ text. Q text f)) failed)
+    → IfSome (left old) (λ text. IfErr r (λ e. FaultOf e (Q text) (Unit {0})))
+known_fault (Ok a) Q left turns old new failed h = any_known (λ text. Unit {0}) (left old) (λ text. tt)
+known_fault (Err (Text f)) Q left turns old new failed h = known left turns old new (λ text. Q text f) h
+known_fault (Err Reader) Q left turns old new failed h = any_known (λ text. Unit {0}) (left old) (λ text. tt)
+
+-- where a text is of one value, and has no fault then
+pub known_only : {A F : Type 0} (r : Result A (ReadFault F)) (P : List ℕ → A → Type 0) (Q : List ℕ → F → Type 0) (no_memory : F) → ((text : List ℕ) (a b : A) → P text a → P text b → a ≡ b) → ((text : List ℕ) (a : A) (f : F) → P text a → Q text f → f ≡ no_memory)
+    → (bytes : Option (List ℕ)) → IfSome bytes (λ text. IfOk r (P text)) → IfSome bytes (λ text. IfErr r (λ e. FaultOf e (Q text) (Unit {0}))) → IfSome bytes (λ text. (a : A) → P text a → GivesUnlessRead no_memory r a)
+known_only r P Q no_memory one none None found wrong = tt
+known_only (Ok b) P Q no_memory one none (Some text) found wrong = λ a h. one text b a found h
+known_only (Err Reader) P Q no_memory one none (Some text) found wrong = λ a h. tt
+known_only (Err (Text f)) P Q no_memory one none (Some text) found wrong = λ a h. none text a f h wrong

@@ -3,3 +3,4 @@ pub mod Numbers
 pub mod Names
 pub mod Padded
 pub mod Turns
+pub mod Intake

@@ -1,11 +1,14 @@
-//! What every text of the project is made of: lines, words, numbers and names, and how a whole text is taken from a reader.
+//! What every text of the project is made of: lines, words, numbers and names, and how a text is taken from a
+//! reader, whole or line by line.
 #![tactic(auto)]
 
+mod intake;
 mod name;
 mod number;
 mod take;
 mod words;
 
+pub use intake::{ReadFault, TakesLines, read_lines};
 pub use name::Name;
 pub use number::number_of;
 pub use take::{Source, TURN_LEN, TURNS, TextFault, take_text};

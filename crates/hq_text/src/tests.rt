@@ -1,4 +1,7 @@
+ghost use Rattle.std.specs.Prelude.{◌≡◌, length};
+
 use super::*;
+use std::alloc::Global;
 use std::io;
 use std::io::Read;
 use std::test::*;
@@ -40,6 +43,98 @@ fn takes(rt: HostRuntime) -> Result<(), Fail> {
         assert_eq!(rt; taken.err(), Some(TextFault::Read));
     }
     Ok(())
+}
+
+/// Gives a line of two letters a turn, so many of them, an empty one, if one is wanted, and then its end or an error.
+#[derive(Drop)]
+struct LineByLine {
+    left: usize,
+    empty: bool,
+    fails: bool,
+}
+
+impl Read for LineByLine {
+    fn read(&mut self, buffer: &mut [u8]) -> io::Result<usize> {
+        let line: &[u8] = if self.left > 0 {
+            self.left -= 1;
+            b"ab\n"
+        } else if self.empty {
+            self.empty = false;
+            b"\n"
+        } else if self.fails {
+            return Err(io::ErrorKind::Interrupted.into());
+        } else {
+            b""
+        };
+        if buffer.len() < line.len() {
+            return Ok(0);
+        }
+        buffer[..line.len()].copy_from_slice(line);
+        Ok(line.len())
+    }
+}
+
+/// Counts lines, and refuses empty ones.
+#[derive(Drop)]
+struct Counter {
+    count: usize,
+}
+
+#[derive(Clone, Copy, Debug, PartialEq, Eq)]
+enum CounterFault {
+    Empty,
+    Memory,
+}
+
+impl TakesLines for Counter {
+    type Fault = CounterFault;
+
+    ghost Took = { λ lines counter. counter.count ≡ length lines };
+
+    ghost Refuses = { λ lines fault. Unit {0} };
+
+    fn take_lines(&mut self, alloc: Global, text: &[u8]) -> Result<(), CounterFault> {
+        let Ok(lines) = lines_of(alloc, text) else {
+            return Err(CounterFault::Memory);
+        };
+        if lines.iter().any(|line| line.is_empty()) {
+            return Err(CounterFault::Empty);
+        }
+        match self.count.checked_add(lines.len()) {
+            Some(count) => self.count = count,
+            None => return Err(CounterFault::Memory),
+        }
+        Ok(())
+    }
+
+    fn no_memory() -> CounterFault {
+        CounterFault::Memory
+    }
+}
+
+#[test]
+fn takes_lines(rt: HostRuntime) {
+    for (left, empty, fails, is) in [
+        (0, false, false, Ok(0)),
+        (30_000, false, false, Ok(30_000)),
+        (
+            30_000,
+            true,
+            false,
+            Err(ReadFault::Text(CounterFault::Empty)),
+        ),
+        (2, true, true, Err(ReadFault::Reader)),
+        (0, false, true, Err(ReadFault::Reader)),
+        (2_000_000, false, false, Err(ReadFault::Reader)),
+    ] {
+        let mut reader = LineByLine { left, empty, fails };
+        let counter = Counter { count: 0 };
+        let counted = read_lines(rt.alloc(), &mut reader, counter).map(|c| c.count);
+        assert!(rt; counted == is);
+    }
+    let mut whole: &[u8] = b"a\nb\nc";
+    let counted = read_lines(rt.alloc(), &mut whole, Counter { count: 0 });
+    assert!(rt; counted.map(|c| c.count) == Ok(3));
 }
 
 #[test]

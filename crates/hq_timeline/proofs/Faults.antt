@@ -1,16 +1,20 @@
 -- The first line that the tests refuse is the first faulty line.
-use Rattle.std.proofs.Common.{◌≡◌, ℕ, ◌⊎◌, inl, inr, true, false, List, [], refl, sym, ap, subst, ◌∙◌}
-use Rattle.std.specs.Prelude.{map, Result, Ok, Err, IfErr}
+use Rattle.std.proofs.Common.{◌≡◌, ℕ, ◌+◌, ◌⊎◌, inl, inr, true, false, List, [], ◌∷◌, ◌++◌, length, refl, sym, ap, subst, ◌∙◌, append_assoc, append-nil, length-append, arith}
+use Rattle.std.specs.Prelude.{map, Result, Ok, Err, IfOk, IfErr}
 use Rattle.hq_text.specs.Lines.{words_of}
+use Rattle.hq_machine.specs.declared.event.Event.{Event}
 use Rattle.hq_timeline.specs.declared.fault.TimeFault.{TimeFault}
+use Rattle.hq_timeline.specs.declared.fault.TimeReason.TheVariants as reason
+use Rattle.hq_timeline.specs.Grammar.{TimeText}
 use Rattle.hq_timeline.specs.declared.draft.Stage.{Stage}
 use Rattle.hq_timeline.specs.declared.draft.Stage.TheVariants as stage
-use Rattle.hq_timeline.specs.TextFaults.{Begins, Refused, FirstFault, faulty, endless, FaultlessWhereJournal, OneFirstFault}
+use Rattle.hq_timeline.specs.TextFaults.{Begins, Refused, FirstFault, faulty, endless, at_line, FaultlessWhereJournal, OneFirstFault}
 use Rattle.hq_timeline.specs.TextStates.{State, start, is_end, is_ended, AdmitsAll, FirstRefused, refused, unended}
-use Rattle.hq_timeline.specs.Gives.{no_memory}
+use Rattle.hq_timeline.specs.Gives.{GivesJournal, HasFault, LineFault, ReadOf, no_memory}
 use Rattle.hq_timeline.proofs.States.{Kept, kept_start, so_far, begun_state, adds_begun}
 use Rattle.hq_timeline.proofs.Forms.{told, refuses}
-use Rattle.hq_timeline.proofs.Wholes.{kept_lines, admits_of, never_refused, one_refused}
+use Rattle.hq_timeline.proofs.Turns.{admits_both}
+use Rattle.hq_timeline.proofs.Wholes.{kept_lines, read_found, admits_of, one_journal, never_refused, one_refused}
 
 -- ---- what was admitted begins a text
 
@@ -63,7 +67,45 @@ one_first_fault lines f g h k = one_refused lines f g (first_refused lines f h) 
 
 -- ---- what the code learns
 
-pub fault_found : {X : Type 0} (r : Result X TimeFault) (lines : List (List ℕ)) → IfErr r (λ f. (f ≡ no_memory) ⊎ FirstRefused lines f) → IfErr r (λ f. (f ≡ no_memory) ⊎ FirstFault lines f)
-fault_found (Ok x) lines h = tt
-fault_found (Err f) lines (inl e) = inl e
-fault_found (Err f) lines (inr h) = inr (first_fault lines f h)
+-- ---- what the code learns
+
+pub ended_found : (lines : List (List ℕ)) (s : State) (c : List Event) → AdmitsAll start lines s → is_ended s ≡ true → c ≡ s.events → TimeText lines c
+ended_found lines s c h e is = subst (λ (d : List Event). TimeText lines d) (sym is) (read_found lines s h e)
+
+pub unended_fault : (lines : List (List ℕ)) (n : ℕ) (s : State) (f : TimeFault) → n ≡ length lines → AdmitsAll start lines s → is_ended s ≡ false → f ≡ at_line (n + 1) reason.NoEnd → HasFault lines f
+unended_fault lines n s f number h e is = inr (subst (λ (g : TimeFault). FirstFault lines g) (ap (λ k. at_line (k + 1) reason.NoEnd) (sym number) ∙ sym is) (first_fault lines _ (unended s h e)))
+
+-- a line's fault is the text's, whatever follows it, behind lines that were taken in
+pub fault_behind : (taken lines more : List (List ℕ)) (n : ℕ) (s : State) (f : TimeFault) → n ≡ length taken → AdmitsAll start taken s → (f ≡ no_memory) ⊎ LineFault n s lines f → HasFault (taken ++ (lines ++ more)) f
+fault_behind taken lines more n s f number h (inl e) = inl e
+fault_behind taken lines more n s f number h (inr l) =
+    inr
+    (subst (λ (g : TimeFault). FirstFault (taken ++ (lines ++ more)) g) (sym (l.is ∙ ap (λ k. at_line k l.why) at))
+    (first_fault (taken ++ (lines ++ more)) _ (refused (taken ++ l.front) l.line (l.rest ++ more) l.mid l.why whole (admits_both taken l.front start s l.mid h l.admitted) l.refused)))
+  where
+    at : n + length l.front + 1 ≡ length (taken ++ l.front) + 1
+    at = omega (arith, length-append taken l.front)
+
+    whole : taken ++ (lines ++ more) ≡ (taken ++ l.front) ++ l.line ∷ (l.rest ++ more)
+    whole = ap (λ ls. taken ++ (ls ++ more)) l.whole ∙ ap (λ ls. taken ++ ls) (append_assoc l.front (l.line ∷ l.rest) more) ∙ sym (append_assoc taken l.front (l.line ∷ (l.rest ++ more)))
+
+-- a line's fault is that of the text of these lines
+pub fault_from_start : (lines : List (List ℕ)) (s : State) (f : TimeFault) → s ≡ start → (f ≡ no_memory) ⊎ LineFault 0 s lines f → HasFault lines f
+fault_from_start lines s f e h = subst (λ (ls : List (List ℕ)). HasFault ls f) (append-nil lines) (fault_behind [] lines [] 0 s f refl e h)
+
+-- a journal's text has no fault but that memory ran out
+pub no_fault : (lines : List (List ℕ)) (c : List Event) (f : TimeFault) → TimeText lines c → HasFault lines f → f ≡ no_memory
+no_fault lines c f h (inl e) = e
+no_fault lines c f h (inr k) = absurd (faultless lines c f h k)
+
+pub read_found_of : (r : Result (List Event) TimeFault) (lines : List (List ℕ)) → ReadOf r lines → IfOk r (λ c. TimeText lines c)
+read_found_of (Ok c) lines h = h
+read_found_of (Err f) lines h = tt
+
+pub read_fault_of : (r : Result (List Event) TimeFault) (lines : List (List ℕ)) → ReadOf r lines → IfErr r (λ f. HasFault lines f)
+read_fault_of (Ok c) lines h = tt
+read_fault_of (Err f) lines h = h
+
+pub text_only : (r : Result (List Event) TimeFault) (lines : List (List ℕ)) (c : List Event) → ReadOf r lines → TimeText lines c → GivesJournal r c
+text_only (Ok x) lines c found h = one_journal lines x c found h
+text_only (Err f) lines c wrong h = no_fault lines c f h wrong

@@ -55,9 +55,6 @@ one_fits {A = A} P xs i d lt h f = rw add-one (by xs i lt h f) where
   by (x ∷ xs) zero lt h f = (f, tt)
   by (x ∷ xs) (suc i) lt h f = (h.0, by xs i (omega arith) h.1 f)
 
-pub all_fit : {A : Type 0} (P : A → Type 0) (xs : List A) (i : ℕ) → length xs ≤ i → AllByRecursion P (take i xs) → AllByRecursion P xs
-all_fit P xs i le h = subst (λ (ys : List _). AllByRecursion P ys) (whole xs i le) h
-
 pub at_last : {A : Type 0} (a b : Option (List ℕ)) (F : List A → List ℕ) (xs : List A) (i : ℕ) → length xs ≤ i → Appends a b (F (take i xs)) → Appends a b (F xs)
 at_last a b F xs i le h = subst (λ (ys : List _). Appends a b (F ys)) (whole xs i le) h
 

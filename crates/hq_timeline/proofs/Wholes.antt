@@ -1,6 +1,6 @@
 -- A text is one journal's or has one first fault, and not both.
 use Rattle.std.proofs.Common.{◌≡◌, ℕ, ◌+◌, ◌⊎◌, inl, inr, Bool, true, false, List, [], ◌∷◌, ◌++◌, length, Option, Some, None, refl, sym, ap, subst, ◌∙◌, append-nil, append_assoc, arith}
-use Rattle.std.specs.Prelude.{map, Result, Ok, Err, IfOk, IfErr}
+use Rattle.std.specs.Prelude.{map, Result, Ok, Err}
 use Rattle.hq_text.specs.Lines.{words_of}
 use Rattle.hq_timeline.specs.declared.fault.TimeReason.{TimeReason}
 use Rattle.hq_timeline.specs.declared.fault.TimeReason.TheVariants as reason
@@ -9,7 +9,6 @@ use Rattle.hq_machine.specs.declared.event.Event.{Event}
 use Rattle.hq_timeline.specs.Grammar.{TimeText}
 use Rattle.hq_timeline.specs.TextFaults.{at_line, OneJournal}
 use Rattle.hq_timeline.specs.TextStates.{State, start, is_ended, Admits, Refuses, AdmitsAll, FirstRefused, refused, unended}
-use Rattle.hq_timeline.specs.Gives.{TakesAll, GivesJournal, no_memory}
 use Rattle.hq_timeline.proofs.Parts.{ok_is}
 use Rattle.hq_timeline.proofs.States.{Kept, kept, kept_start, kept_all, AddsAll, ended_of, adds_journal}
 
@@ -101,18 +100,3 @@ one_refused lines f g h k = some_is (one_outcome start 1 lines (Some f) (Some g)
   where
     some_is : Some f ≡ Some g → f ≡ g
     some_is e = cc
-
--- ---- what the code learns
-
-pub ended_found : (lines : List (List ℕ)) (n : ℕ) (s : State) (c : List Event) → TakesAll (Ok n) lines s → is_ended s ≡ true → c ≡ s.events → TimeText lines c
-ended_found lines n s c h e is = subst (λ (d : List Event). TimeText lines d) (sym is) (read_found lines s h.1 e)
-
-pub not_ended : (lines : List (List ℕ)) (n : ℕ) (s : State) (f : TimeFault) → TakesAll (Ok n) lines s → is_ended s ≡ false → f ≡ at_line (n + 1) reason.NoEnd → (f ≡ no_memory) ⊎ FirstRefused lines f
-not_ended lines n s f h e is = inr (subst (λ (g : TimeFault). FirstRefused lines g) (ap (λ k. at_line (k + 1) reason.NoEnd) (sym h.0) ∙ sym is) (unended s h.1 e))
-
-pub text_only : (r : Result (List Event) TimeFault) (lines : List (List ℕ)) (c : List Event) → IfOk r (λ x. TimeText lines x) → IfErr r (λ f. (f ≡ no_memory) ⊎ FirstRefused lines f) → TimeText lines c → GivesJournal r c
-text_only (Ok x) lines c found wrong h = one_journal lines x c found h
-text_only (Err f) lines c found wrong h = by wrong where
-  by : (f ≡ no_memory) ⊎ FirstRefused lines f → f ≡ no_memory
-  by (inl e) = e
-  by (inr k) = absurd (never_refused lines c f h k)

@@ -9,3 +9,4 @@ pub mod Split
 pub mod Printed
 pub mod Replays
 pub mod OnePass
+pub mod SoFar

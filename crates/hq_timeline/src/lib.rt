@@ -11,11 +11,15 @@ pub mod laws;
 mod one_pass;
 mod pen;
 mod printing;
+mod progress;
+mod reader;
 mod reading;
 mod replaying;
 mod words;
 
 pub use fault::{ReplayFault, TimeFault, TimeReason};
+pub use hq_text::ReadFault;
 pub use printing::{PrintFault, print};
+pub use reader::read;
 pub use reading::parse;
 pub use replaying::replay;

@@ -1,13 +1,13 @@
 //! Texts to journals.
 
-ghost use Rattle.std.specs.Prelude.{◌≡◌, ◌<◌, ◌≤◌, ◌⊎◌, List, length, IfOk, IfErr};
+ghost use Rattle.std.specs.Prelude.{◌≡◌, ◌+◌, ◌⊎◌, List, ℕ, length, IfOk, IfErr};
 ghost use Rattle.hq_text.specs.Lines.{lines_of, words_of};
 ghost use Rattle.hq_machine.specs.declared.event.Event.{Event};
 ghost use Rattle.hq_timeline.specs.DraftView.{state_of};
-ghost use Rattle.hq_timeline.specs.Gives.{Gives, GivesJournal, TakesAll, no_memory};
+ghost use Rattle.hq_timeline.specs.Gives.{Gives, GivesJournal, HasFault, ReadOf, TakesAll, no_memory};
 ghost use Rattle.hq_timeline.specs.Grammar.{TimeText};
-ghost use Rattle.hq_timeline.specs.TextFaults.{FirstFault, at_line};
-ghost use Rattle.hq_timeline.specs.TextStates.{FirstRefused, added, start};
+ghost use Rattle.hq_timeline.specs.TextFaults.{at_line};
+ghost use Rattle.hq_timeline.specs.TextStates.{AdmitsAll, added, start};
 
 use crate::draft::Draft;
 use crate::fault::{TimeFault, TimeReason};
@@ -17,15 +17,20 @@ use hq_machine::Journal;
 use hq_text::first_line;
 use std::alloc::Global;
 
+/// Out of memory, told of line 0.
+pub const NO_MEMORY: TimeFault = TimeFault {
+    line: 0,
+    reason: TimeReason::Memory,
+};
+
 /// A fault at a line, or out of memory at line 0.
 fn fault_at(line: usize, reason: TimeReason) -> TimeFault
     ensures { ((reason ≡ TimeReason.Memory) × (result ≡ no_memory)) ⊎ ((¬ (reason ≡ TimeReason.Memory)) × (result ≡ at_line line reason)) }
 {
-    let line = match reason {
-        TimeReason::Memory => 0,
-        _ => line,
-    };
-    TimeFault { line, reason }
+    match reason {
+        TimeReason::Memory => NO_MEMORY,
+        _ => TimeFault { line, reason },
+    }
 }
 
 /// Takes in the next line.
@@ -40,17 +45,26 @@ fn take_line(draft: &mut Draft, line: &[u8]) -> Result<(), TimeReason>
     draft.add(Words::of_line(line))
 }
 
-/// Takes in all lines of a text.
-fn take_lines(draft: &mut Draft, text: &[u8]) -> Result<usize, TimeFault>
-    requires { state_of draft.old ≡ start }
-    ensures taken { TakesAll result (lines_of text.now) (state_of draft.new) }
-    ensures count { IfOk result (λ n. n ≤ length text.now) }
+/// The number behind a line's.
+fn next_number(line: usize) -> Result<usize, TimeFault>
+    ensures found { IfOk result (λ n. n ≡ line + 1) }
+    ensures memory { IfErr result (λ f. f ≡ no_memory) }
+{
+    match line.checked_add(1) {
+        Some(next) => Ok(next),
+        None => Err(NO_MEMORY),
+    }
+}
+
+/// Takes in all lines of a text, behind so many. Answers how many there are then.
+pub fn take_lines(draft: &mut Draft, before: usize, text: &[u8]) -> Result<usize, TimeFault>
+    ensures { TakesAll result before (lines_of text.now) (state_of draft.old) (state_of draft.new) }
 {
     let mut rest = text;
-    let mut count = 0;
+    let mut count = before;
     while !rest.is_empty() {
         let (line, behind) = first_line(rest);
-        count += 1;
+        count = next_number(count)?;
         if let Err(reason) = take_line(draft, line) {
             return Err(fault_at(count, reason));
         }
@@ -59,20 +73,26 @@ fn take_lines(draft: &mut Draft, text: &[u8]) -> Result<usize, TimeFault>
     Ok(count)
 }
 
-fn read(alloc: Global, text: &[u8]) -> Result<Journal, TimeFault>
-    ensures found { IfOk result (λ journal. TimeText (lines_of text.now) journal) }
-    ensures fault { IfErr result (λ f. (f ≡ no_memory) ⊎ FirstRefused (lines_of text.now) f) }
+/// The journal of a text of so many lines, all of them taken in; or that it has no end.
+pub fn finished(draft: Draft, count: usize) -> Result<Journal, TimeFault>
+    ensures { (lines : List (List ℕ)) → count ≡ length lines → AdmitsAll start lines (state_of draft) → ReadOf result lines }
+{
+    if draft.is_ended() {
+        return Ok(draft.journal());
+    }
+    let line = next_number(count)?;
+    Err(TimeFault {
+        line,
+        reason: TimeReason::NoEnd,
+    })
+}
+
+fn read_all(alloc: Global, text: &[u8]) -> Result<Journal, TimeFault>
+    ensures { ReadOf result (lines_of text.now) }
 {
     let mut draft = Draft::new(alloc);
-    let count = take_lines(&mut draft, text)?;
-    if draft.is_ended() {
-        Ok(draft.journal())
-    } else {
-        Err(TimeFault {
-            line: count + 1,
-            reason: TimeReason::NoEnd,
-        })
-    }
+    let count = take_lines(&mut draft, 0, text)?;
+    finished(draft, count)
 }
 
 /// The journal that a text is, or the first faulty line. Where memory runs out, that is the fault, at line 0.
@@ -80,7 +100,7 @@ pub fn parse(alloc: Global, text: &[u8]) -> Result<Journal, TimeFault>
     ensures found { IfOk result (λ journal. TimeText (lines_of text.now) journal) }
     // The journal of a text is read, unless memory runs out.
     ensures only { (events : List Event) → TimeText (lines_of text.now) events → GivesJournal result events }
-    ensures fault { IfErr result (λ f. (f ≡ no_memory) ⊎ FirstFault (lines_of text.now) f) }
+    ensures fault { IfErr result (λ f. HasFault (lines_of text.now) f) }
 {
-    read(alloc, text)
+    read_all(alloc, text)
 }

@@ -1,16 +1,14 @@
-use Rattle.std.proofs.Common.{arith}
 use Rattle.hq_text.specs.Lines.{lines_of}
 use Rattle.hq_timeline.specs.DraftView.{state_of}
-use Rattle.hq_timeline.proofs.Turns.{one_taken, none_more}
+use Rattle.hq_timeline.proofs.Turns.{none_more, one_taken}
 use Rattle.hq_timeline.proofs.reading.take_lines.Goals as goal
 
-pub returns-in-Err-clause-taken : goal.returns-in-Err-clause-taken
-returns-in-Err-clause-taken c =
-    none_more (lines_of c.args.text.now) (lines_of c.loop-rest.rest.now) (lines_of c.first_line.result.1.now) c.first_line.result.0.now c.loop-rest.count (state_of c.loop-rest.draft) (state_of c.take_line.new.draft) c.in-Err.reason c.fault_at.result
-    c.loop-rest.invariant.taken c.first_line.ensures.cut c.in-Err.ensures c.fault_at.ensures
+pub returns-in-Err : goal.returns-in-Err
+returns-in-Err c =
+    none_more (lines_of c.args.text.now) (lines_of c.loop-rest.rest.now) (lines_of c.first_line.result.1.now) c.first_line.result.0.now c.args.before c.loop-rest.count c.in_ok-count.count (state_of c.args.draft.now) (state_of c.loop-rest.draft) (state_of c.take_line.new.draft) c.in-Err.reason
+    c.fault_at.result c.loop-rest.invariant c.first_line.ensures.cut c.in_ok-count.ensures.found c.in-Err.ensures c.fault_at.ensures
 
 pub loop-rest-preserved : goal.loop-rest-preserved
-loop-rest-preserved c = record {
-  taken = one_taken (lines_of c.args.text.now) (lines_of c.loop-rest.rest.now) (lines_of c.first_line.result.1.now) c.first_line.result.0.now c.loop-rest.count (state_of c.loop-rest.draft) (state_of c.take_line.new.draft) c.loop-rest.invariant.taken c.first_line.ensures.cut c.in_default.ensures;
-  short = omega arith;
-}
+loop-rest-preserved c =
+    one_taken (lines_of c.args.text.now) (lines_of c.loop-rest.rest.now) (lines_of c.first_line.result.1.now) c.first_line.result.0.now c.args.before c.loop-rest.count c.in_ok-count.count (state_of c.args.draft.now) (state_of c.loop-rest.draft) (state_of c.take_line.new.draft) c.loop-rest.invariant
+    c.first_line.ensures.cut c.in_ok-count.ensures.found c.in_default.ensures
