@@ -1,15 +1,14 @@
 -- Packets whose parts of memory are apart don't conflict.
-use Rattle.std.proofs.Common.{◌≡◌, ℕ, zero, suc, ◌+◌, ◌*◌, ◌/◌, ◌%◌, ◌<◌, ◌≤◌, inl, inr, List, [], ◌∷◌, ◌++◌, length, refl, sym, ◌∙◌, ap, subst, arith, Some, slice_get, slice_index_or, take, bit_and, bit_or, min, w64, length-append, ◌^◌}
+use Rattle.std.proofs.Common.{◌≡◌, ◌≢◌, ◌↔◌, ◌⊎◌, ◌||◌, ◌==◌, Bool, true, false, IsTrue, drop, ℕ, zero, suc, ◌+◌, ◌*◌, ◌/◌, ◌%◌, ◌<◌, ◌≤◌, inl, inr, List, [], ◌∷◌, ◌++◌, length, refl, sym, ◌∙◌, ap, subst, arith, Some, slice_get, slice_index_or, take, bit_or, w64, ◌^◌}
 use Rattle.std.specs.Prelude.{All}
 use Rattle.std.specs.Int.{bit_at}
 use Rattle.std.specs.List.{AllZip, flat_map}
 use Rattle.std.proofs.Math.Nat.{div-mul-le_self}
-use Rattle.std.proofs.lemmas.Bool.{cases_eq, cases_lt}
+use Rattle.std.proofs.lemmas.Bool.{cases_eq, cases_lt, eq-eqb}
 use Rattle.std.proofs.lemmas.List.{length-map, take_more}
 use Rattle.std.proofs.lemmas.Nat.{le-div}
-use Rattle.std.proofs.lemmas.Nat.Bits.{bit_at_or, bit_at_and, bit_at-lt, bit_at-zero, bit_at_set_same, bit_at_set_other, bit_at_ones}
+use Rattle.std.proofs.lemmas.Nat.Bits.{bit_at_or, bit_at-lt, bit_at-zero, bit_at_set_same, bit_at_set_other, bit_at_ones, bit_at_above}
 use Rattle.std.proofs.lemmas.Option.{slice_get_within, slice_get-get_or}
-use Rattle.hq_job.proofs.Grouped.{get_before, get_after}
 use Rattle.hq_job.proofs.Lines.{take_all}
 use Rattle.hq_footprint.specs.declared.footprint.Range.{Range}
 use Rattle.hq_footprint.specs.Bytes as bytes
@@ -23,17 +22,15 @@ use Rattle.hq_model.specs.Job.{Job, packet}
 use Rattle.hq_model.specs.Certificate as model
 use Rattle.hq_model.specs.Fence.{Share}
 use Rattle.hq_model.specs.Fence.Conflict.{WriteRead, WriteWrite, ReadWrite}
+use Rattle.hq_audit.specs.declared.parts.Parts.{Parts}
 use Rattle.hq_audit.specs.declared.parts.Touch.{Touch}
+use Rattle.hq_order.specs.Bits.{has}
+use Rattle.hq_order.proofs.Crossing.{column_has}
 use Rattle.hq_audit.specs.Refused.{RowShown}
 use Rattle.hq_audit.specs.Paired.{RowPaired}
-use Rattle.hq_audit.specs.Parts.{HasRange, HasFoot, AreDisjoint, IsApart, IsAmong, NeverConflict, TellConflicts, HasBlock, AreBlocks, NoneOfBlock, IsFirstOfBlock}
+use Rattle.hq_audit.specs.Parts.{HasRange, HasFoot, AreDisjoint, IsApart, NeverConflict, TellConflicts, IsTable, AreParts, TakesRows}
 
 -- ---- masks
-
-pub disjoint : (a b : ℕ) → bit_and a b ≡ 0 → AreDisjoint a b
-disjoint a b e k x y =
-    let none : min (bit_at a k) (bit_at b k) ≡ 0 = sym (bit_at_and a b k) ∙ ap (λ m. bit_at m k) e ∙ bit_at-zero k in
-    omega (arith, none, x, y)
 
 pub in_left : (a b k : ℕ) → bit_at a k ≡ 1 → bit_at (bit_or a b) k ≡ 1
 in_left a b k x = let low = bit_at-lt b k in bit_at_or a b k ∙ omega (arith, x, low)
@@ -155,92 +152,94 @@ of_packets size v ts h =
 pub of_all : (size : ℕ) (v : JobValue) (ts : List Touch) (i : ℕ) → length v.packets ≤ i → AreOf size ts (take i v.packets) → TellConflicts (plan v) ts
 of_all size v ts i l h = of_packets size v ts (subst (AreOf size ts) (take_all v.packets i l) h)
 
--- ---- blocks
-
-pub among_more : (t u v : Touch) → IsAmong t u → IsAmong u v → IsAmong t v
-among_more t u v g h = record { written = λ k x. h.written k (g.written k x); touched = λ k x. h.touched k (g.touched k x) }
-
-pub apart_among : (t u v : Touch) → IsAmong u v → IsApart t v → IsApart t u
-apart_among t u v g h = record { first = λ k x y. h.first k x (g.touched k y); second = λ k x y. h.second k x (g.written k y) }
-
--- one packet more is among the block's parts
-pub block_more : (touches : List Touch) (start b : ℕ) (u v w : Touch) → HasBlock touches start b u → slice_get touches b ≡ Some w → IsAmong u v → IsAmong w v → HasBlock touches start (b + 1) v
-block_more touches start b u v w h e g i = λ k t low high f. elim (cases_eq k b) [
-  | inl same ↦
-      let there : slice_get touches b ≡ Some t = subst (λ m. slice_get touches m ≡ Some t) same f in
-      let is : w ≡ t = cc in
-      subst (λ x. IsAmong x v) is i
-  | inr apart ↦ among_more t u v (h k t low (omega arith) f) g
-]
-
--- the blocks of the first numbers
-abbrev pub Blocks : List Touch → List Touch → Type 0
-Blocks touches blocks = (k : ℕ) (u : Touch) → slice_get blocks k ≡ Some u → HasBlock touches (k * 32) (k * 32 + 32) u
-
-pub blocks_more : (touches blocks : List Touch) (u : Touch) (n : ℕ) → length blocks ≡ n → Blocks touches blocks → HasBlock touches (n * 32) (n * 32 + 32) u → Blocks touches (blocks ++ u ∷ [])
-blocks_more touches blocks u n len h this = λ k v e. elim (cases_lt k (length blocks)) [
-  | inl low ↦ h k v (sym (get_before blocks (u ∷ []) k low) ∙ e)
-  | inr high ↦
-      let short : k < length (blocks ++ u ∷ []) = slice_get_within (blocks ++ u ∷ []) k v e in
-      let here : k ≡ length blocks + 0 = last_place blocks k high short in
-      let is : Some u ≡ Some v = sym (get_after blocks (u ∷ []) 0) ∙ ap (slice_get (blocks ++ u ∷ [])) (sym here) ∙ e in
-      let same : u ≡ v = cc in
-      let number : n ≡ k = omega (arith, len, here) in
-      subst (λ m. HasBlock touches (m * 32) (m * 32 + 32) v) number (subst (HasBlock touches (n * 32) (n * 32 + 32)) same this)
-]
-  where
-    last_place : (blocks : List Touch) (k : ℕ) → length blocks ≤ k → k < length (blocks ++ u ∷ []) → k ≡ length blocks + 0
-    last_place blocks k high short = omega (arith, length-append blocks (u ∷ []))
-
--- ---- what is read at a place
+-- ---- rows of packets
 
 pub read_at : (xs : List Touch) (i : ℕ) (x : Touch) → x ≡ slice_index_or xs i x → i < length xs → slice_get xs i ≡ Some x
 read_at xs i x e low = slice_get-get_or xs i x low ∙ ap Some (sym e)
 
-pub next_apart : (touches : List Touch) (t w : Touch) (from block b : ℕ)
-    → ((s : ℕ) (u : Touch) → from ≤ s → s < b → s / 32 ≡ block → slice_get touches s ≡ Some u → IsApart t u) → slice_get touches b ≡ Some w → IsApart t w
-    → (s : ℕ) (u : Touch) → from ≤ s → s < b + 1 → s / 32 ≡ block → slice_get touches s ≡ Some u → IsApart t u
-next_apart touches t w from block b h e apart = λ s u above low of f. elim (cases_eq s b) [
-  | inl same ↦
-      let there : slice_get touches b ≡ Some u = subst (λ m. slice_get touches m ≡ Some u) same f in
-      let is : w ≡ u = cc in
-      subst (IsApart t) is apart
-  | inr other ↦ h s u above (omega arith) of f
+-- so for the first packets
+abbrev pub AreNoted : (Touch → ℕ) → List Touch → ℕ → List ℕ → Type 0
+AreNoted mask touches n table = (k b : ℕ) (t : Touch) → b < n → k < 64 → slice_get touches b ≡ Some t → bit_at (mask t) k ≡ 1 → IsTrue (has table (k * 1024 + b))
+
+-- what a row of a table takes in with a word
+abbrev IsTurned : List ℕ → List ℕ → ℕ → ℕ → Type 0
+IsTurned old new word r = (x : ℕ) → IsTrue (has new x) ↔ (IsTrue (has old x) ⊎ ((bit : ℕ) × (bit < 64) × (IsTrue (bit_at word bit == 1) × (x ≡ (0 + bit) * 1024 + r))))
+
+pub noted_next : (mask : Touch → ℕ) (touches : List Touch) (n : ℕ) (old new : List ℕ) (t : Touch) → AreNoted mask touches n old → slice_get touches n ≡ Some t → IsTurned old new (mask t) n → AreNoted mask touches (n + 1) new
+noted_next mask touches n old new t h there turned = λ k b u low part e x. elim (cases_lt b n) [
+  | inl ahead ↦ (turned (k * 1024 + b)).1 (inl (h k b u ahead part e x))
+  | inr behind ↦
+      let here : b ≡ n = omega arith in
+      let same : slice_get touches n ≡ Some u = subst (λ m. slice_get touches m ≡ Some u) here e in
+      let is : u ≡ t = cc in
+      let bit : bit_at (mask t) k ≡ 1 = subst (λ (w : Touch). bit_at (mask w) k ≡ 1) is x in
+      (turned (k * 1024 + b)).1 (inr (k, part, (eq-eqb (bit_at (mask t) k) 1 bit, omega arith)))
 ]
 
-pub none_of_block : (touches blocks : List Touch) (t v : Touch) (from block : ℕ) → AreBlocks touches blocks → slice_get blocks block ≡ Some v → IsApart t v → NoneOfBlock touches t from block
-none_of_block touches blocks t v from block h e apart = λ b u above of f. apart_among t u v (h.each block v e b u (omega arith) (omega arith) f) apart
+pub all_noted : (mask : Touch → ℕ) (touches : List Touch) (n : ℕ) (table : List ℕ) → length table ≡ 1024 → length touches ≤ n → AreNoted mask touches n table → IsTable mask touches table
+all_noted mask touches n table len over h = record { len = len; each = λ k b t part e x. h k b t (let low = slice_get_within touches b t e in omega arith) part e x }
 
-pub none_behind : (touches : List Touch) (t : Touch) (from block stop b : ℕ) → stop ≡ min (length touches) ((block + 1) * 32) → stop ≤ b
-    → ((s : ℕ) (u : Touch) → from ≤ s → s < b → s / 32 ≡ block → slice_get touches s ≡ Some u → IsApart t u) → NoneOfBlock touches t from block
-none_behind touches t from block stop b is over h = λ s u above of e.
-    let low : s < length touches = slice_get_within touches s u e in
-    h s u above (omega arith) of e
+-- the packets of the parts that are gone from the rest
+abbrev pub TakesGone : List ℕ → ℕ → ℕ → List ℕ → Type 0
+TakesGone table mask rest row = (k p : ℕ) → k < 64 → p < 1024 → bit_at mask k ≡ 1 → bit_at rest k ≡ 0 → IsTrue (has table (k * 1024 + p)) → IsTrue (has row p)
 
-pub never_apart : (job : Job) (touches : List Touch) (a s : ℕ) (t : Touch) → TellConflicts job touches → slice_get touches a ≡ Some t → s < length touches
-    → ((u : Touch) → slice_get touches s ≡ Some u → IsApart t u) → NeverConflict job a s
-never_apart job touches a s t tell e low apart =
-    let there = slice_get-get_or touches s t low in
-    tell.apart a s t (slice_index_or touches s t) e there (apart (slice_index_or touches s t) there)
+in_first : (x y z : Bool) → x ≡ (y || z) → IsTrue y → IsTrue x
+in_first x true z e h = e
+in_first x false z e h = absurd cc
 
-pub none_ahead : (job : Job) (touches : List Touch) (a from block b : ℕ) (t : Touch) → TellConflicts job touches → slice_get touches a ≡ Some t
-    → ((s : ℕ) (u : Touch) → from ≤ s → s / 32 < block → slice_get touches s ≡ Some u → IsApart t u) → IsFirstOfBlock touches t from block b
-    → (s : ℕ) → from ≤ s → s < b → NeverConflict job a s
-none_ahead job touches a from block b t tell e h first = λ s above low.
-    let of = first.of_block in
-    let below = first.below in
-    never_apart job touches a s t tell e (omega arith) (λ u f. elim (cases_lt (s / 32) block) [
-      | inl ahead ↦ h s u above ahead f
-      | inr behind ↦ first.none s u above low (omega arith) f
-    ])
+in_second : (x y z : Bool) → x ≡ (y || z) → IsTrue z → IsTrue x
+in_second x true z e h = e
+in_second x false true e h = e
+in_second x false false e h = absurd cc
 
-pub none_left : (job : Job) (touches blocks : List Touch) (a from block : ℕ) (t : Touch) → TellConflicts job touches → AreBlocks touches blocks → slice_get touches a ≡ Some t → length blocks ≤ block
-    → ((s : ℕ) (u : Touch) → from ≤ s → s / 32 < block → slice_get touches s ≡ Some u → IsApart t u)
-    → (s : ℕ) → from ≤ s → s < length job.packets → NeverConflict job a s
-none_left job touches blocks a from block t tell are e over h = λ s above low.
-    let room = are.room in
-    let there : s < length touches = omega (arith, tell.len, low) in
-    never_apart job touches a s t tell e there (λ u f. h s u above (omega arith) f)
+pub kept_on : (first row new column : List ℕ) → ((p : ℕ) → has new p ≡ (has row p || has column p)) → ((p : ℕ) → IsTrue (has first p) → IsTrue (has row p)) → (p : ℕ) → IsTrue (has first p) → IsTrue (has new p)
+kept_on first row new column united h p x = in_first (has new p) (has row p) (has column p) (united p) (h p x)
+
+pub takes_next : (table row new column : List ℕ) (mask rest less part : ℕ) → column ≡ take 16 (drop (part * 16) table) → ((p : ℕ) → has new p ≡ (has row p || has column p)) → ((i : ℕ) → i < 64 → i ≢ part → bit_at less i ≡ bit_at rest i)
+    → TakesGone table mask rest row → TakesGone table mask less new
+takes_next table row new column mask rest less part is united same h = λ k p low few x gone there. elim (cases_eq k part) [
+  | inl here ↦
+      let in_column : has column p ≡ has table (part * 1024 + p) = ap (λ c. has c p) is ∙ column_has table part p (omega arith) in
+      in_second (has new p) (has row p) (has column p) (united p) (in_column ∙ subst (λ m. IsTrue (has table (m * 1024 + p))) here there)
+  | inr other ↦ in_first (has new p) (has row p) (has column p) (united p) (h k p low few x (sym (same k low other) ∙ gone) there)
+]
+
+low_bit : (mask k : ℕ) → mask < 2 ^ 64 → bit_at mask k ≡ 1 → k < 64
+low_bit mask k small x = elim (cases_lt k 64) [ inl low ↦ low | inr high ↦ absurd (never k x (bit_at_above mask 64 k small high)) ] where
+  never : (k : ℕ) → bit_at mask k ≡ 1 → bit_at mask k ≡ 0 → ⊥
+  never k x y = omega (arith, x, y)
+
+pub takes_all : (table row : List ℕ) (mask rest : ℕ) → mask < 2 ^ 64 → rest ≡ 0 → TakesGone table mask rest row → TakesRows table mask row
+takes_all table row mask rest small none h =
+    record {
+      low = λ k x. low_bit mask k small x;
+      rows = λ k p few x there. h k p (low_bit mask k small x) few x (ap (λ r. bit_at r k) none ∙ bit_at-zero k) there;
+    }
+
+pub takes_more : (table row new : List ℕ) (mask : ℕ) → TakesRows table mask row → ((p : ℕ) → IsTrue (has row p) → IsTrue (has new p)) → TakesRows table mask new
+takes_more table row new mask h kept = record { low = h.low; rows = λ k p few x there. kept p (h.rows k p few x there) }
+
+-- a packet that isn't in the row is apart
+no_row : (mask : ℕ) (touches : List Touch) (table bits : List ℕ) (of : Touch → ℕ) (u : Touch) (s : ℕ) → IsTable of touches table → TakesRows table mask bits → slice_get touches s ≡ Some u → s < 1024 → has bits s ≡ false → AreDisjoint mask (of u)
+no_row mask touches table bits of u s are takes there few none = λ k x y. never (has bits s) none (takes.rows k s few x (are.each k s u (takes.low k x) there y)) where
+  never : (b : Bool) → b ≡ false → IsTrue b → ⊥
+  never true e h = absurd cc
+  never false e h = absurd cc
+
+pub none_of_others : (job : Job) (parts : Parts) (bits : List ℕ) (a : ℕ) (t : Touch) → AreParts job parts → slice_get parts.packets.items a ≡ Some t
+    → TakesRows parts.tables.touched.items t.written bits → TakesRows parts.tables.written.items t.touched bits → (s : ℕ) → s < length job.packets → has bits s ≡ false → NeverConflict job a s
+none_of_others job parts bits a t are e touched written s low none =
+    let touches = parts.packets.items in
+    let tell = are.tell in
+    let within : s < length touches = omega (arith, tell.len, low) in
+    let few : s < 1024 = omega (arith, are.few, within) in
+    let u : Touch = slice_index_or touches s t in
+    let there : slice_get touches s ≡ Some u = slice_get-get_or touches s t within in
+    tell.apart a s t u e there
+    (record {
+      first = no_row t.written touches parts.tables.touched.items bits (λ v. v.touched) u s are.tables.touched touched there few none;
+      second = no_row t.touched touches parts.tables.written.items bits (λ v. v.written) u s are.tables.written written there few none;
+    })
 
 -- ---- pairs that are apart
 

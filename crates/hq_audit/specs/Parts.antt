@@ -1,12 +1,15 @@
 -- Which parts of memory packets write and touch: byte x lies in part x / size mod 64, and bit k of a mask stands for part k.
-use Rattle.std.specs.Prelude.{◌≡◌, ℕ, ◌+◌, ◌*◌, ◌/◌, ◌%◌, ◌<◌, ◌≤◌, List, Some, All, length, slice_get}
+use Rattle.std.specs.Prelude.{◌≡◌, ℕ, ◌+◌, ◌*◌, ◌/◌, ◌%◌, ◌<◌, ◌≤◌, IsTrue, false, List, Some, All, length, slice_get}
 use Rattle.std.specs.Int.{bit_at}
 use Rattle.hq_footprint.specs.declared.footprint.Range.{Range}
 use Rattle.hq_footprint.specs.declared.footprint.Footprint.{Footprint}
 use Rattle.hq_model.specs.Job.{Job}
 use Rattle.hq_model.specs.Fence.{Conflict, Conflicts}
-use Rattle.hq_audit.specs.declared.parts.Touch.{Touch}
+use Rattle.hq_order.specs.Bits.{has}
+use Rattle.hq_audit.specs.declared.parts.Others.{Others}
 use Rattle.hq_audit.specs.declared.parts.Parts.{Parts}
+use Rattle.hq_audit.specs.declared.parts.Tables.{Tables}
+use Rattle.hq_audit.specs.declared.parts.Touch.{Touch}
 
 -- The mask has the part of each byte of the range.
 pub record HasRange (size mask : ℕ) (r : Range) : Type 0 where
@@ -27,11 +30,6 @@ pub record IsApart (t u : Touch) : Type 0 where
   pub first : AreDisjoint t.written u.touched
   pub second : AreDisjoint t.touched u.written
 
--- all parts of the first are among those of the second
-pub record IsAmong (t u : Touch) : Type 0 where
-  pub written : (k : ℕ) → bit_at t.written k ≡ 1 → bit_at u.written k ≡ 1
-  pub touched : (k : ℕ) → bit_at t.touched k ≡ 1 → bit_at u.touched k ≡ 1
-
 -- There is no conflict of a with b, a first.
 abbrev pub NeverConflict : Job → ℕ → ℕ → Type 0
 NeverConflict job a b = (kind : Conflict) → Conflicts job kind a b → ⊥
@@ -41,33 +39,27 @@ pub record TellConflicts (job : Job) (touches : List Touch) : Type 0 where
   pub len : length touches ≡ length job.packets
   pub apart : (a b : ℕ) (t u : Touch) → slice_get touches a ≡ Some t → slice_get touches b ≡ Some u → IsApart t u → NeverConflict job a b
 
--- the parts of the packets from start up to stop are among these
-abbrev pub HasBlock : List Touch → ℕ → ℕ → Touch → Type 0
-HasBlock touches start stop u = (b : ℕ) (t : Touch) → start ≤ b → b < stop → slice_get touches b ≡ Some t → IsAmong t u
+-- the table has, in the row of each part, every packet whose mask has the part
+pub record IsTable (mask : Touch → ℕ) (touches : List Touch) (table : List ℕ) : Type 0 where
+  pub len : length table ≡ 1024
+  pub each : (k b : ℕ) (t : Touch) → k < 64 → slice_get touches b ≡ Some t → bit_at (mask t) k ≡ 1 → IsTrue (has table (k * 1024 + b))
 
--- Each packet is of a block, and its parts are among those of its block.
-pub record AreBlocks (touches blocks : List Touch) : Type 0 where
-  pub few : length blocks ≤ 32
-  pub room : length touches ≤ length blocks * 32
-  pub each : (k : ℕ) (u : Touch) → slice_get blocks k ≡ Some u → HasBlock touches (k * 32) (k * 32 + 32) u
-
--- so are these blocks
-pub record HasParts (parts : Parts) : Type 0 where
-  pub few : length parts.packets.items ≤ 1024
-  pub blocks : AreBlocks parts.packets.items parts.blocks.items
+-- the tables of these packets
+pub record AreTables (touches : List Touch) (tables : Tables) : Type 0 where
+  pub written : IsTable (λ t. t.written) touches tables.written.items
+  pub touched : IsTable (λ t. t.touched) touches tables.touched.items
 
 -- the parts of the packets of a job
 pub record AreParts (job : Job) (parts : Parts) : Type 0 where
+  pub few : length parts.packets.items ≤ 1024
   pub tell : TellConflicts job parts.packets.items
-  pub has : HasParts parts
+  pub tables : AreTables parts.packets.items parts.tables
 
--- No packet of the block, from one on, touches what these write, or writes what they touch.
-abbrev pub NoneOfBlock : List Touch → Touch → ℕ → ℕ → Type 0
-NoneOfBlock touches t from block = (b : ℕ) (u : Touch) → from ≤ b → b / 32 ≡ block → slice_get touches b ≡ Some u → IsApart t u
+-- the row has all packets that the table has for the parts of the mask
+pub record TakesRows (table : List ℕ) (mask : ℕ) (row : List ℕ) : Type 0 where
+  pub low : (k : ℕ) → bit_at mask k ≡ 1 → k < 64
+  pub rows : (k p : ℕ) → p < 1024 → bit_at mask k ≡ 1 → IsTrue (has table (k * 1024 + p)) → IsTrue (has row p)
 
--- It is of the block, and none of those ahead of it does.
-pub record IsFirstOfBlock (touches : List Touch) (t : Touch) (from block b : ℕ) : Type 0 where
-  pub above : from ≤ b
-  pub below : b < length touches
-  pub of_block : b / 32 ≡ block
-  pub none : (s : ℕ) (u : Touch) → from ≤ s → s < b → s / 32 ≡ block → slice_get touches s ≡ Some u → IsApart t u
+-- a packet that is none of them doesn't conflict with a
+abbrev pub AreOthers : Job → ℕ → Others → Type 0
+AreOthers job a others = (s : ℕ) → s < length job.packets → has others.bits s ≡ false → NeverConflict job a s

@@ -141,10 +141,11 @@ fn need_row(needs: &mut Needs, before: &Before, parts: &Parts, a: usize) -> Resu
 {
     before.job().valid();
     let mut count = 0usize;
-    let mut b = parts.next(before, a, a + 1);
+    let row = parts.others(before, a);
+    let mut b = row.next(before, a + 1);
     'others: while b < before.len() {
         count = count.saturating_add(need_pair(needs, before, a, b)?);
-        b = parts.next(before, a, b + 1);
+        b = row.next(before, b + 1);
     }
     Ok(count)
 }

@@ -427,10 +427,11 @@ fn add_row(
     ensures goes { OnOk result (PairsGo before.now lines.old lines.new (pairs_of pairs.old) (pairs_of pairs.new)) }
     ensures paired { OnOk result (RowPaired before.now (pairs_of pairs.new) a (length before.now.packets)) }
 {
-    let mut b = parts.next(before, a, a + 1);
+    let row = parts.others(before, a);
+    let mut b = row.next(before, a + 1);
     'others: while b < before.len() {
         add_pair(pairs, lines, alloc, before, a, b)?;
-        b = parts.next(before, a, b + 1);
+        b = row.next(before, b + 1);
     }
     Ok(())
 }

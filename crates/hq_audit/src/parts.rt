@@ -1,54 +1,29 @@
 //! Which parts of memory packets write and touch, as far as that tells at once that two of them don't conflict.
 
-ghost use Rattle.std.specs.Prelude.{◌≡◌, ℕ, ◌+◌, ◌%◌, ◌^◌, ◌<◌, ◌≤◌, IsTrue, IfOk, MatchOption, All, length};
+ghost use Rattle.std.specs.Prelude.{◌≡◌, ℕ, ◌+◌, ◌%◌, ◌^◌, ◌<◌, ◌≤◌, IsTrue, IfOk, All, length};
 ghost use Rattle.std.specs.Int.{bit_at};
 ghost use Rattle.hq_job.specs.Plan.{plan};
 ghost use Rattle.hq_model.specs.Job.{IsPacket};
-ghost use Rattle.hq_audit.specs.Parts.{HasRange, HasFoot, AreDisjoint, IsApart, IsAmong, TellConflicts, HasBlock, AreBlocks, HasParts, AreParts, NeverConflict, NoneOfBlock, IsFirstOfBlock};
+ghost use Rattle.hq_order.specs.Bits.{has};
+ghost use Rattle.hq_audit.specs.Parts.{HasRange, HasFoot, TellConflicts, IsTable, AreTables, AreParts, AreOthers, NeverConflict, TakesRows};
 
 use hq_footprint::{Footprint, Range};
 use hq_job::Job;
 use hq_order::Before;
+use hq_order::bits::{WORDS, column_of, first_from, lowest, turn_word, unite, without};
 use std::alloc::{AllocError, Global};
 
 /// How many parts there are: byte x lies in part x / size mod 64.
 const PARTS: u64 = 64;
 
-/// How many packets a block has.
-const BLOCK: usize = 32;
+/// How many words a row of bits for each part takes.
+const TABLE: usize = 1024;
 
-/// The parts in which a packet, or each of some packets, writes, and those in which it reads or writes, as bits.
+/// The parts in which a packet writes, and those in which it reads or writes, as bits.
 #[derive(Clone, Copy, Debug)]
 struct Touch {
     written: u64,
     touched: u64,
-}
-
-impl Touch {
-    /// The parts of both.
-    fn joined(self, other: Touch) -> Touch
-        ensures first { IsAmong self result }
-        ensures second { IsAmong other result }
-    {
-        Touch {
-            written: self.written | other.written,
-            touched: self.touched | other.touched,
-        }
-    }
-
-    /// Whether neither writes in a part that the other touches.
-    fn is_apart(self, other: Touch) -> bool
-        ensures { IsTrue result → IsApart self other }
-    {
-        are_disjoint(self.written, other.touched) && are_disjoint(self.touched, other.written)
-    }
-}
-
-/// Whether the two have no bit in common.
-fn are_disjoint(left: u64, right: u64) -> bool
-    ensures { IsTrue result → AreDisjoint left right }
-{
-    left & right == 0
 }
 
 /// From the first of these parts on, so many more.
@@ -143,40 +118,80 @@ fn touches_of(alloc: Global, job: &Job, size: u64) -> Result<Vec<Touch>, AllocEr
     Ok(touches)
 }
 
-/// The parts of the packets of a block, which begins with this one.
-fn block_from(touches: &[Touch], start: usize) -> Touch
-    requires { start ≤ 1024 }
-    ensures { HasBlock touches.now start (start + 32) result }
-{
-    let end = touches.len().min(start + BLOCK);
-    let mut block = Touch {
-        written: 0,
-        touched: 0,
-    };
-    for b in start..end {
-        block = block.joined(touches[b]);
-    }
-    block
+/// For each part a row of bits: the packets that write in it, and those that touch it.
+#[derive(Drop)]
+struct Tables {
+    written: Vec<u64>,
+    touched: Vec<u64>,
 }
 
-/// The parts of each block of packets.
-fn blocks_of(alloc: Global, touches: &[Touch]) -> Result<Vec<Touch>, AllocError>
-    requires { length touches.now ≤ 1024 }
-    ensures { IfOk result (λ blocks. AreBlocks touches.now blocks.items) }
+/// Takes each packet in the rows of its parts.
+fn note_all(written: &mut [u64], touched: &mut [u64], touches: &[Touch])
+    requires few { length touches.now ≤ 1024 }
+    requires written { length written.old ≡ 1024 }
+    requires touched { length touched.old ≡ 1024 }
+    ensures written { IsTable (λ t. t.written) touches.now written.new }
+    ensures touched { IsTable (λ t. t.touched) touches.now touched.new }
 {
-    let mut blocks = Vec::new(alloc);
-    for block in 0..(touches.len() + BLOCK - 1) / BLOCK {
-        blocks.push(block_from(touches, block * BLOCK))?;
+    for (packet, touch) in touches.iter().enumerate() {
+        turn_word(written, touch.written, 0, packet);
+        turn_word(touched, touch.touched, 0, packet);
     }
-    Ok(blocks)
+}
+
+/// The tables of these packets.
+fn tables_of(alloc: Global, touches: &[Touch]) -> Result<Tables, AllocError>
+    requires { length touches.now ≤ 1024 }
+    ensures { IfOk result (AreTables touches.now) }
+{
+    let mut written = vec![in alloc; 0; TABLE]?;
+    let mut touched = vec![in alloc; 0; TABLE]?;
+    note_all(&mut written, &mut touched, touches);
+    Ok(Tables { written, touched })
+}
+
+/// Takes in the packets that a table has for each of these parts.
+fn take_rows(row: &mut [u64], table: &[u64], parts: u64)
+    requires row { length row.old ≡ 16 }
+    requires table { length table.now ≡ 1024 }
+    ensures kept { (p : ℕ) → IsTrue (has row.old p) → IsTrue (has row.new p) }
+    ensures taken { TakesRows table.now parts row.new }
+{
+    let mut rest = parts;
+    'each: while rest != 0 {
+        let part = lowest(rest);
+        unite(row, column_of(table, part));
+        rest = without(rest, part);
+    }
+}
+
+/// The packets that a packet may conflict with, as bits.
+#[derive(Clone, Copy, Debug)]
+pub struct Others {
+    bits: [u64; WORDS],
+}
+
+impl Others {
+    /// The first of them from one on, or the number of packets where there is none.
+    pub fn next(&self, before: &Before, from: usize) -> usize
+        requires { from ≤ length before.now.packets }
+        ensures above { from ≤ result }
+        ensures below { result ≤ length before.now.packets }
+        ensures apart { (a s : ℕ) → AreOthers before.now a self.now → from ≤ s → s < result → NeverConflict before.now a s }
+    {
+        before.job().valid();
+        match first_from(&self.bits, from) {
+            Some(b) => b.min(before.len()),
+            None => before.len(),
+        }
+    }
 }
 
 /// The parts of memory that a job's packets write and touch.
 #[derive(Drop)]
 pub struct Parts {
     packets: Vec<Touch>,
-    /// So for each block of packets that follow one another.
-    blocks: Vec<Touch>,
+    tables: Tables,
 }
 
 impl Parts {
@@ -186,43 +201,21 @@ impl Parts {
     {
         job.valid();
         let packets = touches_of(alloc, job, part_size(job))?;
-        let blocks = blocks_of(alloc, &packets)?;
-        Ok(Parts { packets, blocks })
+        let tables = tables_of(alloc, &packets)?;
+        Ok(Parts { packets, tables })
     }
 
-    /// The first packet of a block, from one on, that isn't told apart from those that touch these parts.
-    fn first_of_block(&self, touch: Touch, from: usize, block: usize) -> Option<usize>
-        requires parts { HasParts self.now }
-        requires block { block < length self.now.blocks.items }
-        ensures { MatchOption result (NoneOfBlock self.now.packets.items touch from block) (IsFirstOfBlock self.now.packets.items touch from block) }
-    {
-        if touch.is_apart(self.blocks[block]) {
-            return None;
-        }
-        let end = self.packets.len().min((block + 1) * BLOCK);
-        for b in from.max(block * BLOCK)..end {
-            if !touch.is_apart(self.packets[b]) {
-                return Some(b);
-            }
-        }
-        None
-    }
-
-    /// The first packet from one on that isn't told apart from a, or the number of packets where there is none.
-    pub fn next(&self, before: &Before, a: usize, from: usize) -> usize
+    /// The packets that a may conflict with: those that touch a part in which it writes, and those that write in a part that it
+    /// touches.
+    pub fn others(&self, before: &Before, a: usize) -> Others
         requires parts { AreParts before.now self.now }
         requires a_is { IsPacket before.now a }
-        requires from { from ≤ length before.now.packets }
-        ensures above { from ≤ result }
-        ensures below { result ≤ length before.now.packets }
-        ensures apart { (s : ℕ) → from ≤ s → s < result → NeverConflict before.now a s }
+        ensures { AreOthers before.now a result }
     {
         let touch = self.packets[a];
-        for block in from / BLOCK..self.blocks.len() {
-            if let Some(b) = self.first_of_block(touch, from, block) {
-                return b;
-            }
-        }
-        before.len()
+        let mut bits = [0; WORDS];
+        take_rows(&mut bits, &self.tables.touched, touch.written);
+        take_rows(&mut bits, &self.tables.written, touch.touched);
+        Others { bits }
     }
 }

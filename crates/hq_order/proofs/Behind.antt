@@ -1,5 +1,5 @@
 -- What a packet stays behind, gathered from its parts.
-use Rattle.std.proofs.Common.{◌≡◌, ◌≢◌, ℕ, ◌↔◌, ◌⊎◌, inl, inr, ◌||◌, IsTrue, List, refl}
+use Rattle.std.proofs.Common.{◌≡◌, ◌≢◌, ℕ, ◌↔◌, ◌⊎◌, inl, inr, IsTrue, List, refl}
 use Rattle.hq_packet.specs.declared.packet.Packet.{Packet}
 use Rattle.hq_packet.specs.declared.packet.Packet.TheVariants as format
 use Rattle.hq_packet.specs.declared.packet.Barrier.{Barrier}
@@ -10,7 +10,6 @@ use Rattle.hq_model.specs.Order.{FreesFor}
 use Rattle.hq_order.specs.Bits.{has}
 use Rattle.hq_order.specs.Placing.{OfDependencies, Needs}
 use Rattle.hq_order.specs.Placing.Needs.{by_queue, by_slot, by_and}
-use Rattle.hq_order.proofs.Filling.{united}
 
 pub and_packet : (p : Packet) → kind_of p ≡ BarrierAnd → (b : Barrier) × (p ≡ format.And b)
 and_packet (format.Kernel k) e = absurd (cc)
@@ -24,13 +23,9 @@ or_packet (format.Agent k) e = absurd (cc)
 or_packet (format.And b) e = absurd (cc)
 or_packet (format.Or b) e = (b, refl)
 
-module _ (job : Job) (p : ℕ) (old first set second : List ℕ)
+module _ (job : Job) (p : ℕ) (old first second : List ℕ)
     (queue : (e : ℕ) → IsTrue (has first e) ↔ (IsTrue (has old e) ⊎ Earlier job e p))
-    (free : (e : ℕ) → IsTrue (has set e) ↔ FreesFor job e p)
-    (joins : (e : ℕ) → has second e ≡ (has first e || has set e)) where
-  both : (e : ℕ) → IsTrue (has second e) ↔ (IsTrue (has first e) ⊎ FreesFor job e p)
-  both = united (λ e. FreesFor job e p) first set second joins free
-
+    (both : (e : ℕ) → IsTrue (has second e) ↔ (IsTrue (has first e) ⊎ FreesFor job e p)) where
   into : (e : ℕ) → IsTrue (has second e) → IsTrue (has old e) ⊎ Needs job p e
   into e h = elim ((both e).0 h) [
     | inl t ↦ elim ((queue e).0 t) [ inl o ↦ inl o | inr q ↦ inr (by_queue q) ]

@@ -183,7 +183,7 @@ turned_done rows table len few h = record {
 
 -- ---- a packet's part of the table
 
-column_has : (table : List ℕ) (p m : ℕ) → m / 64 < 16 → has (take 16 (drop (p * 16) table)) m ≡ has table (p * 1024 + m)
+pub column_has : (table : List ℕ) (p m : ℕ) → m / 64 < 16 → has (take 16 (drop (p * 16) table)) m ≡ has table (p * 1024 + m)
 column_has table p m l =
     let word : slice_index (take 16 (drop (p * 16) table)) (m / 64) ≡ slice_index table (p * 16 + m / 64) = get_or-take 16 (drop (p * 16) table) (m / 64) 0 l ∙ get_or-drop (p * 16) table (m / 64) 0 in
     let place : p * 16 + m / 64 ≡ (p * 1024 + m) / 64 = omega arith in

@@ -15,3 +15,4 @@ pub mod Slots
 pub mod Behind
 pub mod Settling
 pub mod Completions
+pub mod First

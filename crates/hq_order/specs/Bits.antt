@@ -1,5 +1,5 @@
 -- Sets of numbers as rows of bits.
-use Rattle.std.specs.Prelude.{IsTrue, ℕ, ◌<◌, ◌/◌, ◌%◌, Bool, List, slice_index, ◌==◌}
+use Rattle.std.specs.Prelude.{◌≡◌, IsTrue, ℕ, ◌<◌, ◌≤◌, ◌/◌, ◌%◌, Bool, true, false, List, slice_index, ◌==◌}
 use Rattle.std.specs.Int.{bit_at}
 
 -- whether p is in the set: bit p mod 64 of word p / 64
@@ -15,3 +15,9 @@ pub record IsFirstCommon (left right : List ℕ) (n : ℕ) : Type 0 where
   pub in_left : IsTrue (has left n)
   pub in_right : IsTrue (has right n)
   pub first : (i : ℕ) → i < n → IsTrue (has left i) → IsTrue (has right i) → ⊥
+
+-- n is the least number from one on that is in the set
+pub record IsFirstFrom (row : List ℕ) (from n : ℕ) : Type 0 where
+  pub above : from ≤ n
+  pub there : has row n ≡ true
+  pub first : (i : ℕ) → from ≤ i → i < n → has row i ≡ false

@@ -9,7 +9,7 @@ ghost use Rattle.hq_order.specs.Matrix.{row, words_for, Marks, IsSquare, Grown, 
 ghost use Rattle.hq_order.specs.Uniting.{CanUnite, Stepped};
 
 use crate::bits;
-use crate::columns::{WORDS, all_turned, between};
+use crate::columns::{all_turned, between};
 use crate::completing::completing;
 use crate::direct::{direct_row, go_on};
 use crate::fault::OrderFault;
@@ -170,7 +170,7 @@ fn add_round(
     ensures closed { IfOk result (λ more. more ≡ false → IsClosed (plan job.now) rounds.new.items) }
 {
     job.valid();
-    let mut new = bits::empty(alloc, WORDS)?;
+    let mut new = bits::empty(alloc, bits::WORDS)?;
     let next = following(alloc, job, completing, rounds, renewed, &mut new)?;
     if are_same(&next, last_rows(rounds)) {
         return Ok(false);
@@ -189,7 +189,7 @@ fn all_rounds(alloc: Global, job: &Job) -> Result<Vec<Vec<Vec<u64>>>, AllocError
     let completing = completing(alloc, job, words_of(job))?;
     let mut rounds = Vec::new(alloc);
     rounds.push(first_rows(alloc, job, &completing)?)?;
-    let mut renewed = bits::full(alloc, WORDS)?;
+    let mut renewed = bits::full(alloc, bits::WORDS)?;
     'rounds: while add_round(alloc, job, &completing, &mut rounds, &mut renewed)? {}
     Ok(rounds)
 }

@@ -1,12 +1,18 @@
-//! Sets of numbers as rows of bits: number `p` is bit `p % 64` of word `p / 64`.
+//! Sets of numbers as rows of bits, number `p` as bit `p % 64` of word `p / 64`, and tables of such, one row behind another.
 
 ghost use Rattle.std.specs.Prelude.{◌≡◌, ◌+◌, ◌*◌, ◌^◌, ◌/◌, ◌<◌, ◌≤◌, ◌||◌, ◌&&◌, ◌==◌, ℕ, length, true, false, All};
-ghost use Rattle.std.specs.Prelude.{◌≢◌, not, IfOk, IsTrue, ◌↔◌, ◌⊎◌, MatchOption, slice_index};
+ghost use Rattle.std.specs.Prelude.{◌≢◌, not, IfOk, IsTrue, ◌↔◌, ◌⊎◌, MatchOption, drop, slice_index, take};
 ghost use Rattle.std.specs.Int.{bit_at};
-ghost use Rattle.hq_order.specs.Bits.{has, Covers, IsFirstCommon};
+ghost use Rattle.hq_order.specs.Bits.{has, Covers, IsFirstCommon, IsFirstFrom};
 ghost use Rattle.hq_order.specs.Matrix.{Grown};
 
 use std::alloc::{AllocError, Global};
+
+/// How many numbers a row of a table has room for: the most packets that a job has.
+pub const WIDTH: usize = 1024;
+
+/// How many words that takes.
+pub const WORDS: usize = 16;
 
 /// No number, in so many words.
 pub fn empty(alloc: Global, words: usize) -> Result<Vec<u64>, AllocError>
@@ -157,4 +163,47 @@ pub fn first_common(left: &[u64], right: &[u64]) -> Option<usize>
         }
     }
     None
+}
+
+/// The least number from one on that the set has.
+pub fn first_from(row: &[u64], from: usize) -> Option<usize>
+    requires few { length row.now ≤ 16 }
+    requires from { from ≤ 1024 }
+    ensures { MatchOption result ((n : ℕ) → from ≤ n → has row.now n ≡ false) (IsFirstFrom row.now from) }
+{
+    if let Some(bit) = lowest_bit(word_at(row, from / 64) >> (from % 64)) {
+        return Some(from + bit);
+    }
+    for place in from / 64 + 1..row.len() {
+        if let Some(bit) = lowest_bit(row[place]) {
+            return Some(place * 64 + bit);
+        }
+    }
+    None
+}
+
+/// Takes r in each row whose bit the word has; the row of its first bit is `first`.
+pub fn turn_word(table: &mut [u64], word: u64, first: usize, r: usize)
+    requires room { (first + 64) * 16 ≤ length table.old }
+    requires first { first + 64 ≤ 1024 }
+    requires r { r < 1024 }
+    ensures { (x : ℕ) → IsTrue (has table.new x) ↔ (IsTrue (has table.old x) ⊎ ((bit : ℕ) × (bit < 64) × (IsTrue (bit_at word bit == 1) × (x ≡ (first + bit) * 1024 + r)))) }
+{
+    let mut rest = word;
+    'each: while rest != 0 {
+        let bit = lowest(rest);
+        insert(table, (first + bit) * WIDTH + r);
+        rest = without(rest, bit);
+    }
+}
+
+/// The row of p in a table.
+pub fn column_of(table: &[u64], p: usize) -> &[u64]
+    requires room { (p + 1) * 16 ≤ length table.now }
+    requires p { p < 1024 }
+    ensures column { result.now ≡ take 16 (drop (p * 16) table.now) }
+    ensures len { length result.now ≡ 16 }
+{
+    let start = p * WORDS;
+    &table[start..start + WORDS]
 }

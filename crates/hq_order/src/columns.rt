@@ -1,33 +1,11 @@
 //! The rows turned round: for each packet what it is before.
 
-ghost use Rattle.std.specs.Prelude.{◌≡◌, ℕ, ◌+◌, ◌*◌, ◌<◌, ◌≤◌, ◌↔◌, ◌⊎◌, ◌==◌, IsTrue, IfOk, MatchOption, length, take, drop};
-ghost use Rattle.std.specs.Int.{bit_at};
+ghost use Rattle.std.specs.Prelude.{◌≡◌, ℕ, ◌+◌, ◌*◌, ◌<◌, ◌≤◌, ◌↔◌, ◌⊎◌, IsTrue, IfOk, MatchOption, length};
 ghost use Rattle.hq_order.specs.Bits.{has};
 ghost use Rattle.hq_order.specs.Matrix.{row, Marks, matrix, Turned, AreTurned, IsMarkedBetween};
 
-use crate::bits::{first_common, insert, lowest, without, word_at};
+use crate::bits::{WIDTH, WORDS, column_of, first_common, turn_word, word_at};
 use std::alloc::{AllocError, Global};
-
-/// How many numbers a row of the table has room for: the most packets that a job has.
-const WIDTH: usize = 1024;
-
-/// How many words that takes.
-pub const WORDS: usize = 16;
-
-/// Takes in r for each packet that the word has; the packet of its first bit is `first`.
-fn turn_word(table: &mut [u64], word: u64, first: usize, r: usize)
-    requires len { length table.old ≡ 16384 }
-    requires first { first + 64 ≤ 1024 }
-    requires r { r < 1024 }
-    ensures { (x : ℕ) → IsTrue (has table.new x) ↔ (IsTrue (has table.old x) ⊎ ((bit : ℕ) × (bit < 64) × (IsTrue (bit_at word bit == 1) × (x ≡ (first + bit) * 1024 + r)))) }
-{
-    let mut rest = word;
-    'each: while rest != 0 {
-        let bit = lowest(rest);
-        insert(table, (first + bit) * WIDTH + r);
-        rest = without(rest, bit);
-    }
-}
 
 /// Takes in r for each packet that the row has.
 fn turn_row(table: &mut [u64], row: &[u64], r: usize)
@@ -86,17 +64,6 @@ pub fn row_of(rows: &[Vec<u64>], r: usize) -> &[u64]
         Some(row) => row,
         None => &[],
     }
-}
-
-/// The part of p in the table.
-fn column_of(table: &[u64], p: usize) -> &[u64]
-    requires len { length table.now ≡ 16384 }
-    requires p { p < 1024 }
-    ensures column { result.now ≡ take 16 (drop (p * 16) table.now) }
-    ensures len { length result.now ≡ 16 }
-{
-    let start = p * WORDS;
-    &table[start..start + WORDS]
 }
 
 /// The least packet that p is before and that is before r.

@@ -5,7 +5,7 @@
 #![tactic(auto)]
 
 mod before;
-mod bits;
+pub mod bits;
 mod columns;
 mod completing;
 mod direct;

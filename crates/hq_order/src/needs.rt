@@ -3,7 +3,7 @@
 ghost use Rattle.std.specs.Prelude.{◌≡◌, ◌↔◌, ◌⊎◌, IsTrue, ◌*◌, ◌<◌, ◌≤◌, ℕ, length, IfOk};
 ghost use Rattle.hq_job.specs.Plan.{plan};
 ghost use Rattle.hq_model.specs.Job.{packet, Earlier};
-ghost use Rattle.hq_model.specs.Order.{place};
+ghost use Rattle.hq_model.specs.Order.{FreesFor, place};
 ghost use Rattle.hq_order.specs.Bits.{has};
 ghost use Rattle.hq_order.specs.Placing.{AllAre, Completing, Freeing, OfDependencies, Needs, Needed};
 
@@ -56,6 +56,20 @@ pub fn unite_dependencies(job: &Job, completing: &[Vec<u64>], number: usize, row
     }
 }
 
+/// Takes in the packets that free the slot of a packet, or that of one submitted before it. Only rings have such.
+fn unite_freeing(job: &Job, freeing: &[Vec<u64>], number: usize, row: &mut [u64])
+    requires number { number < length job.now.packets }
+    requires freeing { AllAre (λ k set. Freeing (plan job.now) k set.items × (length set.items ≡ length row.old)) freeing.now }
+    requires turns { length freeing.now ≡ length job.now.submissions }
+    ensures taken { (e : ℕ) → IsTrue (has row.new e) ↔ (IsTrue (has row.old e) ⊎ FreesFor (plan job.now) e number) }
+    ensures len { length row.new ≡ length row.old }
+{
+    if !job.rings() {
+        return;
+    }
+    unite(row, &freeing[turn(job, number)]);
+}
+
 /// Takes in the packets that a packet stays behind.
 fn insert_needs(
     job: &Job,
@@ -74,7 +88,7 @@ fn insert_needs(
     ensures len { length row.new ≡ length row.old }
 {
     insert_earlier(job, number, row);
-    unite(row, &freeing[turn(job, number)]);
+    unite_freeing(job, freeing, number, row);
     if let Packet::And(_) = job.packet(number).packet {
         unite_dependencies(job, completing, number, row);
     }

@@ -10,8 +10,8 @@ others-init c =
     let next = c.next-b.ensures in
     record {
       above = omega (arith, next.above);
-      shown = row_skipped c.args.before.now c.args.a (c.args.a + 1) c.next-b.result (λ s above low is. absurd (omega arith)) next.apart;
-      none = λ zero. row_paired_skipped c.args.before.now [] c.args.a (c.args.a + 1) c.next-b.result (λ s above low is. absurd (omega arith)) next.apart;
+      shown = row_skipped c.args.before.now c.args.a (c.args.a + 1) c.next-b.result (λ s above low is. absurd (omega arith)) (λ s. next.apart c.args.a s c.others-row.ensures);
+      none = λ zero. row_paired_skipped c.args.before.now [] c.args.a (c.args.a + 1) c.next-b.result (λ s above low is. absurd (omega arith)) (λ s. next.apart c.args.a s c.others-row.ensures);
     }
 
 pub others-preserved : goal.others-preserved
@@ -20,9 +20,9 @@ others-preserved c =
     let next = c.next-b-in-others.ensures in
     record {
       above = omega (arith, next.above, c.others.invariant.above);
-      shown = row_skipped job c.args.a (c.others.b + 1) c.next-b-in-others.result (row_next job c.args.a c.others.b c.others.invariant.shown c.in_ok-need_pair.ensures.shown) next.apart;
+      shown = row_skipped job c.args.a (c.others.b + 1) c.next-b-in-others.result (row_next job c.args.a c.others.b c.others.invariant.shown c.in_ok-need_pair.ensures.shown) (λ s. next.apart c.args.a s c.others-row.ensures);
       none = λ zero. row_paired_skipped job [] c.args.a (c.others.b + 1) c.next-b-in-others.result
-          (row_paired_next job c.args.a c.others.b [] [] (c.others.invariant.none (omega (arith, zero, c.saturating_add-count.ensures))) (longer_same []) (c.in_ok-need_pair.ensures.none (omega (arith, zero, c.saturating_add-count.ensures)))) next.apart;
+          (row_paired_next job c.args.a c.others.b [] [] (c.others.invariant.none (omega (arith, zero, c.saturating_add-count.ensures))) (longer_same []) (c.in_ok-need_pair.ensures.none (omega (arith, zero, c.saturating_add-count.ensures)))) (λ s. next.apart c.args.a s c.others-row.ensures);
     }
 
 pub returns-clause-shown : goal.returns-clause-shown

@@ -17,7 +17,7 @@ others-init c =
     record {
       above = omega (arith, next.above);
       goes = pairs_same job c.args.lines.now pairs c.requires.kept c.requires.hold;
-      paired = row_paired_skipped job pairs c.args.a (c.args.a + 1) c.next-b.result (λ s above low is. absurd (omega arith)) next.apart;
+      paired = row_paired_skipped job pairs c.args.a (c.args.a + 1) c.next-b.result (λ s above low is. absurd (omega arith)) (λ s. next.apart c.args.a s c.others-row.ensures);
     }
 
 pub others-preserved : goal.others-preserved
@@ -30,7 +30,7 @@ others-preserved c =
       above = omega (arith, next.above, c.others.invariant.above);
       goes = pairs_more job c.args.lines.now c.others.lines c.add_pair.new.lines (pairs_of c.args.pairs.now) old new c.others.invariant.goes c.in_ok-add_pair.ensures.goes;
       paired = row_paired_skipped job new c.args.a (c.others.b + 1) c.next-b-in-others.result
-          (row_paired_next job c.args.a c.others.b old new c.others.invariant.paired c.in_ok-add_pair.ensures.goes.longer c.in_ok-add_pair.ensures.has) next.apart;
+          (row_paired_next job c.args.a c.others.b old new c.others.invariant.paired c.in_ok-add_pair.ensures.goes.longer c.in_ok-add_pair.ensures.has) (λ s. next.apart c.args.a s c.others-row.ensures);
     }
 
 pub returns-clause-paired : goal.returns-clause-paired

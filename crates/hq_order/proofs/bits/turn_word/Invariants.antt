@@ -1,7 +1,7 @@
 use Rattle.std.proofs.Common.{ℕ, ◌≡◌, ◌+◌, ◌*◌, ◌↔◌, ◌⊎◌, IsTrue}
 use Rattle.hq_order.specs.Bits.{has}
 use Rattle.hq_order.proofs.Crossing.{Gone, Under}
-use Rattle.hq_order.proofs.columns.turn_word.Given as goal
+use Rattle.hq_order.proofs.bits.turn_word.Given as goal
 
 abbrev pub invariant-each : goal.invariant-each
 invariant-each l = record {

@@ -1,7 +1,7 @@
 use Rattle.std.proofs.Common.{◌≡◌, ◌+◌, ◌*◌, IsTrue}
 use Rattle.hq_order.specs.Bits.{has}
 use Rattle.hq_order.proofs.Crossing.{mark_bit, gone_none, gone_more, gone_all, under_less}
-use Rattle.hq_order.proofs.columns.turn_word.Goals as goal
+use Rattle.hq_order.proofs.bits.turn_word.Goals as goal
 
 pub each-init : goal.each-init
 each-init c = record {
