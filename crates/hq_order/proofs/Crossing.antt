@@ -1,6 +1,6 @@
 -- Rows of bits turned round, and the least number that two rows have.
 use Rattle.std.specs.Prelude.{MatchOption}
-use Rattle.std.proofs.Common.{Option, Some, None, ◌≡◌, ◌≢◌, ◌↔◌, ℕ, ◌+◌, ◌*◌, ◌/◌, ◌%◌, ◌<◌, ◌≤◌, ◌⊎◌, inl, inr, List, [], ◌∷◌, ◌++◌, length, refl, sym, ◌∙◌, ap, subst, arith, IsTrue, Bool, true, false, ◌||◌, ◌==◌, slice_index, bit_and, min, take, drop}
+use Rattle.std.proofs.Common.{Option, Some, None, ◌≡◌, ◌≢◌, ◌↔◌, ℕ, ◌+◌, ◌*◌, ◌/◌, ◌%◌, ◌<◌, ◌≤◌, ◌⊎◌, inl, inr, List, [], ◌∷◌, ◌++◌, length, refl, sym, ◌∙◌, ap, subst, arith, IsTrue, Bool, true, false, ◌||◌, ◌&&◌, ◌==◌, not, slice_index, bit_and, min, take, drop}
 use Rattle.std.specs.Int.{bit_at}
 use Rattle.std.specs.Global.{Vec}
 use Rattle.std.proofs.lemmas.Bool.{cases_lt, cases_eq, eq-eqb, eqb-true}
@@ -138,6 +138,29 @@ of_zero first r x o =
     let never : true ≡ false = sym is ∙ zeros in
     absurd (cc)
 
+-- the bits that are known are there already
+pub word_fresh : (A B : Type 0) (w o l first r x : ℕ) → ((bit : ℕ) → (bit_at l bit == 1) ≡ ((bit_at w bit == 1) && not (bit_at o bit == 1))) → ((bit : ℕ) → bit < 64 → IsTrue (bit_at o bit == 1) → x ≡ (first + bit) * 1024 + r → A)
+    → B ↔ (A ⊎ OfWord l first r x) → B ↔ (A ⊎ OfWord w first r x)
+word_fresh A B w o l first r x is there h = (
+  λ b. elim (h.0 b) [ inl a ↦ inl a | inr f ↦ inr (f.0, f.1, (in_word (bit_at l f.0 == 1) (bit_at w f.0 == 1) (bit_at o f.0 == 1) (is f.0) f.2.0, f.2.1)) ],
+  λ t. elim t [
+    | inl a ↦ h.1 (inl a)
+    | inr f ↦ by f (bit_at o f.0 == 1) refl
+  ],
+)
+  where
+    in_word : (a b c : Bool) → a ≡ (b && not c) → IsTrue a → IsTrue b
+    in_word a true c e t = refl
+    in_word a false c e t = absurd cc
+
+    fresh : (a b : Bool) → a ≡ (b && not false) → IsTrue b → IsTrue a
+    fresh a true e t = e
+    fresh a false e t = absurd cc
+
+    by : (f : OfWord w first r x) (known : Bool) → (bit_at o f.0 == 1) ≡ known → B
+    by f true e = h.1 (inl (there f.0 f.1 e f.2.1))
+    by f false e = h.1 (inr (f.0, f.1, (fresh (bit_at l f.0 == 1) (bit_at w f.0 == 1) (is f.0 ∙ ap (λ c. (bit_at w f.0 == 1) && not c) e) f.2.0, f.2.1)))
+
 -- so for a packet of this row
 abbrev pub OfRow : List ℕ → ℕ → ℕ → Type 0
 OfRow row r x = (p : ℕ) × (p < 1024) × IsTrue (has row p) × (x ≡ p * 1024 + r)
@@ -180,6 +203,22 @@ turned_done rows table len few h = record {
     λ m. (h (p * 1024 + r)).1 (r, marked_below rows p r m, (p, lp, m, refl)),
   );
 }
+
+-- what a table of earlier rows has, is of these rows too
+pub turned_more : (known rows : List (Vec ℕ)) (old new : List ℕ) → Turned known old → length new ≡ 16384 → length rows ≤ 1024 → ((p r : ℕ) → Marks known p r → Marks rows p r)
+    → ((x : ℕ) → IsTrue (has new x) ↔ (IsTrue (has old x) ⊎ ((r : ℕ) × (r < length rows) × OfRow (row rows r) r x))) → Turned rows new
+turned_more known rows old new t len few grown h = turned_done rows new len few (λ x. (
+  λ n. elim ((h x).0 n) [
+    | inl o ↦
+        let low : x / 64 < length old = within old x o in
+        let p : x / 1024 < 1024 = omega (arith, low, t.len) in
+        let is : x ≡ x / 1024 * 1024 + x % 1024 = omega arith in
+        let m : Marks rows (x / 1024) (x % 1024) = grown (x / 1024) (x % 1024) ((t.exact (x / 1024) (x % 1024) p (omega arith)).0 (subst (λ y. IsTrue (has old y)) is o)) in
+        (x % 1024, marked_below rows (x / 1024) (x % 1024) m, (x / 1024, p, m, is))
+    | inr q ↦ q
+  ],
+  λ q. (h x).1 (inr q),
+))
 
 -- ---- a packet's part of the table
 

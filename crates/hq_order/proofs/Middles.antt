@@ -1,5 +1,5 @@
 -- The packets between two by lower rounds.
-use Rattle.std.proofs.Common.{◌≡◌, ℕ, zero, suc, ◌-◌, ◌<◌, ◌≤◌, inl, inr, List, length, subst, arith, Option, Some, None}
+use Rattle.std.proofs.Common.{◌≡◌, ℕ, zero, suc, ◌+◌, ◌-◌, ◌<◌, ◌≤◌, inl, inr, List, length, subst, arith, Option, Some, None}
 use Rattle.std.specs.Prelude.{MatchOption}
 use Rattle.std.specs.Global.{Vec}
 use Rattle.std.proofs.lemmas.Bool.{cases_lt}
@@ -52,3 +52,9 @@ middle_found job rounds round p r (Some m) a some l h =
       between = record { k = k; lower = below; first = (a.exact k p m low).0 h.first; second = (a.exact k m r low).0 h.second };
       least = λ i lower b. let x = between_marks job rounds round p r i a l b in h.least i lower x.0 x.1;
     }
+
+-- what is there in a round is there in the next
+pub rounds_grow : (job : Job) (rounds : List (Vec (Vec ℕ))) (k p r : ℕ) → AreRounds job rounds → k + 1 < length rounds → Marks (matrix rounds k) p r → Marks (matrix rounds (k + 1)) p r
+rounds_grow job rounds k p r a l m =
+    let low : k < length rounds = omega arith in
+    (a.exact (k + 1) p r l).1 (within_le job (k + 1) k p r (omega arith) ((a.exact k p r low).0 m))

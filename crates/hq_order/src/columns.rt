@@ -4,31 +4,33 @@ ghost use Rattle.std.specs.Prelude.{◌≡◌, ℕ, ◌+◌, ◌*◌, ◌<◌, �
 ghost use Rattle.hq_order.specs.Bits.{has};
 ghost use Rattle.hq_order.specs.Matrix.{row, Marks, matrix, Turned, AreTurned, IsMarkedBetween};
 
-use crate::bits::{WIDTH, WORDS, column_of, first_common, turn_word, word_at};
+use crate::bits::{WIDTH, WORDS, column_of, first_common, less, turn_word, word_at};
 use std::alloc::{AllocError, Global};
 
-/// Takes in r for each packet that the row has.
-fn turn_row(table: &mut [u64], row: &[u64], r: usize)
+/// Takes in r for each packet that the row has. Those that are known are there.
+fn turn_row(table: &mut [u64], row: &[u64], known: &[u64], r: usize)
     requires len { length table.old ≡ 16384 }
     requires r { r < 1024 }
+    requires known { (p : ℕ) → p < 1024 → IsTrue (has known.now p) → IsTrue (has table.old (p * 1024 + r)) }
     ensures { (x : ℕ) → IsTrue (has table.new x) ↔ (IsTrue (has table.old x) ⊎ ((p : ℕ) × (p < 1024) × IsTrue (has row.now p) × (x ≡ p * 1024 + r))) }
 {
     for place in 0..WORDS {
-        let word = word_at(row, place);
+        let word = less(word_at(row, place), word_at(known, place));
         if word != 0 {
             turn_word(table, word, place * 64, r);
         }
     }
 }
 
-/// Takes in each packet for those that its row has.
-fn turn_rows(table: &mut [u64], rows: &[Vec<u64>])
+/// Takes in each packet for those that its row has. Those of the known rows are there.
+fn turn_rows(table: &mut [u64], rows: &[Vec<u64>], known: &[Vec<u64>])
     requires len { length table.old ≡ 16384 }
     requires few { length rows.now ≤ 1024 }
+    requires known { (p r : ℕ) → p < 1024 → Marks known.now p r → IsTrue (has table.old (p * 1024 + r)) }
     ensures { (x : ℕ) → IsTrue (has table.new x) ↔ (IsTrue (has table.old x) ⊎ ((r : ℕ) × (r < length rows.now) × ((p : ℕ) × (p < 1024) × Marks rows.now p r × (x ≡ p * 1024 + r)))) }
 {
     for (r, row) in rows.iter().enumerate() {
-        turn_row(table, row, r);
+        turn_row(table, row, row_of(known, r), r);
     }
 }
 
@@ -38,20 +40,62 @@ fn turned(alloc: Global, rows: &[Vec<u64>]) -> Result<Vec<u64>, AllocError>
     ensures { IfOk result (λ table. Turned rows.now table.items) }
 {
     let mut table = vec![in alloc; 0; WIDTH * WORDS]?;
-    turn_rows(&mut table, rows);
+    turn_rows(&mut table, rows, &[]);
     Ok(table)
+}
+
+/// The rows turned round, by the table of rows of which they have all.
+fn turned_on(
+    alloc: Global,
+    table: &[u64],
+    known: &[Vec<u64>],
+    rows: &[Vec<u64>],
+) -> Result<Vec<u64>, AllocError>
+    requires few { length rows.now ≤ 1024 }
+    requires turned { Turned known.now table.now }
+    requires grown { (p r : ℕ) → Marks known.now p r → Marks rows.now p r }
+    ensures { IfOk result (λ table. Turned rows.now table.items) }
+{
+    let mut table = table.to_vec(alloc)?;
+    turn_rows(&mut table, rows, known);
+    Ok(table)
+}
+
+/// The rows of a round turned round, by the tables of all rounds ahead of it.
+fn next_turned(
+    alloc: Global,
+    rounds: &[Vec<Vec<u64>>],
+    tables: &[Vec<u64>],
+) -> Result<Vec<u64>, AllocError>
+    requires more { length tables.now < length rounds.now }
+    requires few { (k : ℕ) → k < length rounds.now → length (matrix rounds.now k) ≤ 1024 }
+    requires grown { (k p r : ℕ) → k + 1 < length rounds.now → Marks (matrix rounds.now k) p r → Marks (matrix rounds.now (k + 1)) p r }
+    requires tables { (k : ℕ) → k < length tables.now → Turned (matrix rounds.now k) (row tables.now k) }
+    ensures { IfOk result (λ table. Turned (matrix rounds.now (length tables.now)) table.items) }
+{
+    let round = tables.len();
+    if round == 0 {
+        return turned(alloc, &rounds[0]);
+    }
+    turned_on(
+        alloc,
+        &tables[round - 1],
+        &rounds[round - 1],
+        &rounds[round],
+    )
 }
 
 /// The rows of each round but the last turned round.
 pub fn all_turned(alloc: Global, rounds: &[Vec<Vec<u64>>]) -> Result<Vec<Vec<u64>>, AllocError>
     requires some { 0 < length rounds.now }
     requires few { (k : ℕ) → k < length rounds.now → length (matrix rounds.now k) ≤ 1024 }
+    requires grown { (k p r : ℕ) → k + 1 < length rounds.now → Marks (matrix rounds.now k) p r → Marks (matrix rounds.now (k + 1)) p r }
     ensures { IfOk result (λ tables. AreTurned rounds.now tables.items) }
 {
     let last = rounds.len() - 1;
     let mut tables = Vec::with_capacity(alloc, last)?;
-    for k in 0..last {
-        tables.push(turned(alloc, &rounds[k])?)?;
+    for _k in 0..last {
+        tables.push(next_turned(alloc, rounds, &tables)?)?;
     }
     Ok(tables)
 }
