@@ -5,7 +5,8 @@ use Rattle.std.proofs.lemmas.List.{map-append}
 use Rattle.hq_cert.specs.declared.fault.CertReason.{CertReason}
 use Rattle.hq_cert.specs.declared.fault.CertReason.TheVariants as reason
 use Rattle.hq_cert.specs.Gives.{Fails}
-use Rattle.hq_cert.specs.LineTests.{◌>>=◌, each}
+use Rattle.hq_text.specs.InTurn.{◌>>=◌}
+use Rattle.hq_cert.specs.LineTests.{each}
 
 -- what was read, and then what the rest gives
 abbrev pub with_front : {A : Type 0} → List A → Result (List A) CertReason → Result (List A) CertReason

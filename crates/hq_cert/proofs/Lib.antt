@@ -14,4 +14,3 @@ pub mod Nine
 pub mod Placed
 pub mod OnePass
 pub mod Taking
-pub mod Progresses

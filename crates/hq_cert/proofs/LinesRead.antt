@@ -11,7 +11,8 @@ use Rattle.hq_cert.specs.declared.forms.RuleKind.{RuleKind}
 use Rattle.hq_cert.specs.declared.forms.RuleKind.TheVariants as kinds
 use Rattle.hq_cert.specs.Grammar.{IsSmall, citation_word, rule_words, line_words, RuleFits, LineFits}
 use Rattle.hq_cert.specs.LineTests.{number_said, next_said, citation_said, below, cited_below, each, rule_kind, bit_said, and_said, or_said, through_of, through_said, rule_said, line_of, line_if, line_said}
-use Rattle.hq_cert.proofs.Parts.{steps, ok_is, both, word_is, number_ok, number_is, next_ok, next_is, below_ok, below_is, citations_ok, citations_are, all_ok, all_are}
+use Rattle.hq_text.proofs.InTurn.{steps, ok_is, both, word_is}
+use Rattle.hq_cert.proofs.Parts.{number_ok, number_is, next_ok, next_is, below_ok, below_is, citations_ok, citations_are, all_ok, all_are}
 
 -- the words are those of the rule of line k
 pub record RuleRead (k : ℕ) (name : List ℕ) (operands : List (List ℕ)) (rule : model.Rule) : Type 0 where

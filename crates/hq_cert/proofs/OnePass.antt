@@ -14,7 +14,7 @@ use Rattle.hq_model.specs.Certificate as model
 use Rattle.hq_model.specs.Certificate.Rule.{Bit, Queue, And, Or, Through}
 use Rattle.hq_model.specs.Certificate.Fences.{ForReadWrite, ForWriteWrite, ForWriteRead, ForWriteWriteChained, ForWriteReadChained}
 use Rattle.hq_cert.specs.Grammar.{IsSmall, citation_word, rule_words, fences_words}
-use Rattle.hq_cert.specs.Printed.{spaced, line_text}
+use Rattle.hq_text.specs.Printed.{spaced, line_text}
 use Rattle.hq_cert.specs.OnePass.{DigitsAhead, NumberAhead, BelowAhead, CitationAhead, RuleAhead, LineAhead, FencesAhead, PairAhead}
 
 -- ---- digits

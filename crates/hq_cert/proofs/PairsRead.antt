@@ -11,7 +11,8 @@ use Rattle.hq_cert.specs.declared.pairs.Packets.{Packets}
 use Rattle.hq_cert.specs.declared.pairs.Numbers.{Numbers}
 use Rattle.hq_cert.specs.Grammar.{IsSmall, IsBelow, IsCited, citation_word, fences_words, pair_words, FencesFit, PairFits}
 use Rattle.hq_cert.specs.LineTests.{number_said, citation_said, below, cited_below, fences_kind, read_write_said, write_write_of, write_write_said, write_read_of, write_read_said, write_chain_of, write_chain_said, packets_said, links_said, links_below, chain_of, read_chain_of, read_chain_said, fences_said, pair_of, pair_if, pair_said}
-use Rattle.hq_cert.proofs.Parts.{steps, ok_is, both, word_is, SmallCited, Number, number_ok, number_is, citation_ok, citation_is, below_ok, below_is, cited_ok, cited_is, small_of}
+use Rattle.hq_text.proofs.InTurn.{steps, ok_is, both, word_is}
+use Rattle.hq_cert.proofs.Parts.{SmallCited, Number, number_ok, number_is, citation_ok, citation_is, below_ok, below_is, cited_ok, cited_is, small_of}
 
 -- the words are those of the fences
 pub record FencesRead (chained : Bool) (count : ℕ) (name : List ℕ) (operands : List (List ℕ)) (fences : model.Fences) : Type 0 where

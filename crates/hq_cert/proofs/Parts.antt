@@ -1,41 +1,18 @@
 -- Numbers and citations, both ways.
 use Rattle.std.proofs.Common.{◌≡◌, ℕ, ◌^◌, Bool, true, false, cond, List, [], ◌∷◌, Option, Some, None, refl, sym, ap, subst, ◌∙◌, arith, eqb}
-use Rattle.std.specs.Prelude.{◌&&◌, codes, map, Result, Ok, Err, nat_lt}
+use Rattle.std.specs.Prelude.{codes, map, Ok, Err, nat_lt}
 use Rattle.std.specs.List.{AllByRecursion}
 use Rattle.std.specs.Fmt.{decimal}
 use Rattle.std.specs.Str.{bytes_eq}
-use Rattle.std.proofs.lemmas.Slice.Eq.{bytes_eq-Decides}
 use Rattle.std.proofs.lemmas.Bool.{ltb-true, lt-ltb, eqb-true, eq-eqb}
 use Rattle.hq_text.specs.Numbers.{IsNumber, number_of}
+use Rattle.hq_text.proofs.InTurn.{steps, ok_is, word_is, guarded}
 use Rattle.hq_text.proofs.NumberLaws.{number_only, number_tells}
 use Rattle.hq_cert.specs.declared.fault.CertReason.{CertReason}
 use Rattle.hq_cert.specs.declared.fault.CertReason.TheVariants as reason
 use Rattle.hq_cert.specs.Grammar.{IsSmall, IsBelow, IsCited, citation_word}
-use Rattle.hq_cert.specs.LineTests.{◌>>=◌, small, number_said, next_said, citation_said, below, cited_below, each}
-
--- a step that went on
-pub record Steps {A B : Type 0} (r : Result A CertReason) (f : A → Result B CertReason) (y : B) : Type 0 where
-  pub value : A
-  pub first : r ≡ Ok value
-  pub next : f value ≡ Ok y
-
-pub steps : {A B : Type 0} (r : Result A CertReason) (f : A → Result B CertReason) (y : B) → (r >>= f) ≡ Ok y → Steps r f y
-steps (Ok x) f y e = record { value = x; first = refl; next = e }
-steps (Err r) f y e = absurd cc
-
-pub ok_is : {A : Type 0} (a b : A) → (let x : Result A CertReason = Ok a in let y : Result A CertReason = Ok b in x ≡ y) → a ≡ b
-ok_is a b e = cc
-
-pub both : (a b : Bool) → (a && b) ≡ true → (a ≡ true) × (b ≡ true)
-both true b e = (refl, e)
-both false b e = absurd cc
-
-pub word_is : (a b : List ℕ) → bytes_eq a b ≡ true → a ≡ b
-word_is a b e = (bytes_eq-Decides a b).0 e
-
-pub guarded : {A : Type 0} (b : Bool) (x y : A) (e : CertReason) → (let r : Result A CertReason = cond b (Ok x) (Err e) in r ≡ Ok y) → (b ≡ true) × (x ≡ y)
-guarded true x y e h = (refl, cc)
-guarded false x y e h = absurd cc
+use Rattle.hq_text.specs.InTurn.{◌>>=◌}
+use Rattle.hq_cert.specs.LineTests.{small, number_said, next_said, citation_said, below, cited_below, each}
 
 -- the word is the number
 pub record Number (word : List ℕ) (n : ℕ) : Type 0 where

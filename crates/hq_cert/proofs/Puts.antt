@@ -9,7 +9,8 @@ use Rattle.std.proofs.lemmas.Grind.{flat_map-append}
 use Rattle.hq_model.specs.Certificate as model
 use Rattle.hq_cert.specs.Gains.{Gains}
 use Rattle.hq_cert.specs.Grammar.{rule_words, line_words, lines_words, head_words, order_words, pair_words}
-use Rattle.hq_cert.specs.Printed.{spaced, line_text, lines_text, has_chain, text_of}
+use Rattle.hq_text.specs.Printed.{spaced, line_text, lines_text}
+use Rattle.hq_cert.specs.Printed.{has_chain, text_of}
 use Rattle.hq_cert.proofs.States.{lines_more}
 
 -- ---- with a writer

@@ -12,11 +12,12 @@ use Rattle.hq_cert.specs.declared.forms.FencesKind.TheVariants as kinds
 use Rattle.hq_cert.specs.declared.draft.Stage.{Stage}
 use Rattle.hq_cert.specs.declared.draft.Stage.TheVariants as stage
 use Rattle.hq_cert.specs.Grammar.{head_words}
-use Rattle.hq_cert.specs.LineTests.{◌>>=◌, number_said, each, rule_kind, line_if, line_said, fences_kind, pair_if, pair_said, head_said, order_said}
+use Rattle.hq_text.specs.InTurn.{◌>>=◌}
+use Rattle.hq_cert.specs.LineTests.{number_said, each, rule_kind, line_if, line_said, fences_kind, pair_if, pair_said, head_said, order_said}
 use Rattle.hq_cert.specs.TextFaults.{State, add_head, add_order, add_line, add_pair, add_end, add_behind, add_content, add_at}
 use Rattle.hq_cert.specs.LineForms.{RuleForm, KindForm, MayPair, HasForm}
 use Rattle.hq_cert.specs.LineForms as form
-use Rattle.hq_cert.proofs.Parts.{both, word_is}
+use Rattle.hq_text.proofs.InTurn.{both, word_is}
 
 abbrev pub OrWord : Type 0 → {A : Type 0} → Result A CertReason → Type 0
 OrWord P r = P ⊎ (r ≡ Err reason.Word)

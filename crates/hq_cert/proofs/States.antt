@@ -13,7 +13,9 @@ use Rattle.hq_cert.specs.declared.draft.Stage.TheVariants as stage
 use Rattle.hq_cert.specs.Grammar.{head_words, order_words, line_words, lines_words, pair_words, certificate_words, OrderFits, LineFits, LinesFit, PairFits, CertificateFits}
 use Rattle.hq_cert.specs.LineTests.{head_said, order_said, line_said, pair_said, number_said, each}
 use Rattle.hq_cert.specs.TextFaults.{State, start, with_head, with_order, with_line, with_pair, with_end, is_end, is_ended, read_of, add_head, add_order, add_line, add_pair, add_end, add_behind, add_content, add_at, added}
-use Rattle.hq_cert.proofs.Parts.{steps, ok_is, both, word_is, numbers_ok, numbers_are}
+use Rattle.hq_text.proofs.LineByLine.{AddsAll, adds_both}
+use Rattle.hq_text.proofs.InTurn.{steps, ok_is, both, word_is}
+use Rattle.hq_cert.proofs.Parts.{numbers_ok, numbers_are}
 use Rattle.hq_cert.proofs.LinesRead.{line_ok, line_is}
 use Rattle.hq_cert.proofs.PairsRead.{pair_ok, pair_is}
 
@@ -235,15 +237,6 @@ kept_all words s k e = by s.stage k.spelled e where
 
 -- ---- what is spelled is admitted
 
--- lines are admitted one behind another, by their words
-abbrev pub AddsAll : State → List Words → State → Type 0
-AddsAll s [] t = t ≡ s
-AddsAll s (w ∷ ws) t = (mid : State) × (added s w ≡ Ok mid) × AddsAll mid ws t
-
-adds_both : (s mid t : State) (xs bs : List Words) → AddsAll s xs mid → AddsAll mid bs t → AddsAll s (xs ++ bs) t
-adds_both s mid t [] bs h k = subst (λ (u : State). AddsAll u bs t) h k
-adds_both s mid t (w ∷ xs) bs h k = (h.0, h.1, adds_both h.0 mid t xs bs h.2 k)
-
 abbrev state_at : Stage → Bool → List ℕ → List model.Line → List model.Pair → State
 state_at st ch order ls ps = record { stage = st; chained = ch; order = order; lines = ls; pairs = ps }
 
@@ -251,13 +244,13 @@ adds_line : (ch : Bool) (order : List ℕ) (ls : List model.Line) (l : model.Lin
 unfolding added add_content add_line
 adds_line ch order ls l h = rw (line_is (length ls) l h) refl
 
-adds_lines : (ch : Bool) (order : List ℕ) (done ls : List model.Line) (n : ℕ) → n ≡ length done → LinesFit n ls → AddsAll (state_at stage.Lines ch order done []) (lines_words n ls) (state_at stage.Lines ch order (done ++ ls) [])
+adds_lines : (ch : Bool) (order : List ℕ) (done ls : List model.Line) (n : ℕ) → n ≡ length done → LinesFit n ls → AddsAll added (state_at stage.Lines ch order done []) (lines_words n ls) (state_at stage.Lines ch order (done ++ ls) [])
 adds_lines ch order done [] n e h = ap (λ ls. state_at stage.Lines ch order ls []) (append-nil done)
 adds_lines ch order done (l ∷ ls) n e h =
     let more = adds_lines ch order (done ++ l ∷ []) ls (n + 1) (omega (arith, length-append done (l ∷ []))) h.1 in (
       state_at stage.Lines ch order (done ++ l ∷ []) [],
       subst (λ (k : ℕ). added (state_at stage.Lines ch order done []) (line_words k l) ≡ Ok (state_at stage.Lines ch order (done ++ l ∷ []) [])) (sym e) (adds_line ch order done l (subst (λ (k : ℕ). LineFits k l) e h.0)),
-      subst (λ (all : List model.Line). AddsAll (state_at stage.Lines ch order (done ++ l ∷ []) []) (lines_words (n + 1) ls) (state_at stage.Lines ch order all [])) (append_assoc done (l ∷ []) ls) more,
+      subst (λ (all : List model.Line). AddsAll added (state_at stage.Lines ch order (done ++ l ∷ []) []) (lines_words (n + 1) ls) (state_at stage.Lines ch order all [])) (append_assoc done (l ∷ []) ls) more,
     )
 
 -- where pair lines may stand
@@ -275,12 +268,12 @@ unfolding added add_content add_behind add_end
 adds_end true ch order ls ps = refl
 adds_end false ch order ls ps = refl
 
-adds_pairs : (lines : Bool) (ch : Bool) (order : List ℕ) (ls : List model.Line) (done ps : List model.Pair) → AllByRecursion (PairFits ch (length ls)) ps → AddsAll (state_at (open_stage lines) ch order ls done) (map pair_words ps ++ (codes "end" ∷ []) ∷ []) (state_at stage.Ended ch order ls (done ++ ps))
+adds_pairs : (lines : Bool) (ch : Bool) (order : List ℕ) (ls : List model.Line) (done ps : List model.Pair) → AllByRecursion (PairFits ch (length ls)) ps → AddsAll added (state_at (open_stage lines) ch order ls done) (map pair_words ps ++ (codes "end" ∷ []) ∷ []) (state_at stage.Ended ch order ls (done ++ ps))
 adds_pairs lines ch order ls done [] h = (state_at stage.Ended ch order ls done, adds_end lines ch order ls done, ap (λ ps. state_at stage.Ended ch order ls ps) (append-nil done))
 adds_pairs lines ch order ls done (p ∷ ps) h = (
   state_at stage.Pairs ch order ls (done ++ p ∷ []),
   adds_pair lines ch order ls done p h.0,
-  subst (λ (all : List model.Pair). AddsAll (state_at stage.Pairs ch order ls (done ++ p ∷ [])) (map pair_words ps ++ (codes "end" ∷ []) ∷ []) (state_at stage.Ended ch order ls all)) (append_assoc done (p ∷ []) ps)
+  subst (λ (all : List model.Pair). AddsAll added (state_at stage.Pairs ch order ls (done ++ p ∷ [])) (map pair_words ps ++ (codes "end" ∷ []) ∷ []) (state_at stage.Ended ch order ls all)) (append_assoc done (p ∷ []) ps)
       (adds_pairs false ch order ls (done ++ p ∷ []) ps h.1),
 )
 
@@ -299,14 +292,14 @@ adds_order ch order h =
 abbrev pub ended_of : Bool → model.Certificate → State
 ended_of ch c = state_at stage.Ended ch c.order c.lines c.pairs
 
-pub adds_certificate : (ch : Bool) (c : model.Certificate) → CertificateFits ch c → AddsAll start (certificate_words ch c) (ended_of ch c)
+pub adds_certificate : (ch : Bool) (c : model.Certificate) → CertificateFits ch c → AddsAll added start (certificate_words ch c) (ended_of ch c)
 adds_certificate ch c h = (
   state_at stage.Order ch [] [] [],
   adds_head ch,
   (
     state_at stage.Lines ch c.order [] [],
     adds_order ch c.order h.order,
-    adds_both (state_at stage.Lines ch c.order [] []) (state_at stage.Lines ch c.order c.lines []) (state_at stage.Ended ch c.order c.lines c.pairs) (lines_words 0 c.lines) (map pair_words c.pairs ++ (codes "end" ∷ []) ∷ [])
+    adds_both added (state_at stage.Lines ch c.order [] []) (state_at stage.Lines ch c.order c.lines []) (state_at stage.Ended ch c.order c.lines c.pairs) (lines_words 0 c.lines) (map pair_words c.pairs ++ (codes "end" ∷ []) ∷ [])
         (adds_lines ch c.order [] c.lines 0 refl h.lines)
         (adds_pairs true ch c.order c.lines [] c.pairs h.pairs),
   ),

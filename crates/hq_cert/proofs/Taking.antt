@@ -1,17 +1,19 @@
 -- Lines that one pass found are taken in.
 use Rattle.std.proofs.Common.{◌≡◌, ℕ, ◌+◌, List, [], ◌∷◌, ◌++◌, length, Ok, refl, sym, ap, subst, ◌∙◌, arith, append_assoc, append-nil, length-append, true, eqb}
 use Rattle.std.proofs.lemmas.Bool.{eqb-true}
+use Rattle.hq_text.specs.LineByLine.{AdmitsAll}
 use Rattle.hq_text.specs.Lines.{lines_of}
+use Rattle.hq_text.specs.Printed.{line_text}
+use Rattle.hq_text.proofs.LineByLine.{Taken, admits_both, admits_more}
+use Rattle.hq_text.proofs.Printed.{PlainLine, line_first}
 use Rattle.hq_model.specs.Certificate as model
 use Rattle.hq_cert.specs.declared.draft.Stage.TheVariants as stage
 use Rattle.hq_cert.specs.Grammar.{line_words, pair_words, LineFits, PairFits}
-use Rattle.hq_cert.specs.Printed.{line_text}
 use Rattle.hq_cert.specs.OnePass.{LineAhead, PairAhead, TakenFrom}
-use Rattle.hq_cert.specs.TextFaults.{State, with_line, with_pair, added, add_content, add_line, add_behind, add_pair, AdmitsAll}
+use Rattle.hq_cert.specs.TextFaults.{State, with_line, with_pair, added, add_content, add_line, add_behind, add_pair}
 use Rattle.hq_cert.proofs.LinesRead.{line_is}
 use Rattle.hq_cert.proofs.PairsRead.{pair_is}
-use Rattle.hq_cert.proofs.Split.{PlainLine, line_first, plain_line_of, plain_pair_of}
-use Rattle.hq_cert.proofs.Turns.{admits_more, Taken}
+use Rattle.hq_cert.proofs.Split.{plain_line_of, plain_pair_of}
 use Rattle.hq_cert.specs.Gives.{TakesAll}
 
 pub none_taken_from : (text : List ℕ) (s t : State) → s ≡ t → TakenFrom text text 0 s t
@@ -26,7 +28,7 @@ one_more text rest behind count old mid new words so plain cut adds =
       front = so.front ++ line ∷ [];
       whole = so.whole ∙ ap (λ r. so.front ++ lines_of r) cut ∙ ap (λ r. so.front ++ r) first.cut ∙ sym (append_assoc so.front (line ∷ []) (lines_of behind));
       counted = length-append so.front (line ∷ []) ∙ ap (λ n. n + 1) so.counted;
-      admitted = admits_more so.front old mid new line so.admitted (ap (added mid) first.again ∙ adds);
+      admitted = admits_more added so.front old mid new line so.admitted (ap (added mid) first.again ∙ adds);
       short = let l = so.short in let n = ap length cut ∙ length-append (line_text words) behind in let some = first.some in omega arith;
     }
 
@@ -48,22 +50,18 @@ pair_taken text rest behind count k old mid new p so at number ahead is =
     let a : PairAhead (length mid.lines) rest p behind = subst (λ (n : ℕ). PairAhead n rest p behind) (sym number) ahead in
     one_more text rest behind count old mid new (pair_words p) so (plain_pair_of mid.chained (length mid.lines) p (a.fits mid.chained)) a.is (pair_added mid p at (a.fits mid.chained) ∙ ap (λ s. Ok s) (sym is))
 
-pub admits_both : (front lines : List (List ℕ)) (s mid new : State) → AdmitsAll s front mid → AdmitsAll mid lines new → AdmitsAll s (front ++ lines) new
-admits_both [] lines s mid new h k = subst (λ (t : State). AdmitsAll t lines new) h k
-admits_both (line ∷ front) lines s mid new h k = (h.0, h.1, admits_both front lines h.0 mid new h.2 k)
-
 -- the lines of one pass behind those before
-pub more_taken : (all text rest : List ℕ) (before count taken next : ℕ) (old mid new : State) → Taken (lines_of all) (lines_of text) before count old mid → TakenFrom text rest taken mid new → next ≡ count + taken → Taken (lines_of all) (lines_of rest) before next old new
+pub more_taken : (all text rest : List ℕ) (before count taken next : ℕ) (old mid new : State) → Taken added (lines_of all) (lines_of text) before count old mid → TakenFrom text rest taken mid new → next ≡ count + taken → Taken added (lines_of all) (lines_of rest) before next old new
 more_taken all text rest before count taken next old mid new so more number =
     record {
       front = so.front ++ more.front;
       whole = so.whole ∙ ap (λ r. so.front ++ r) more.whole ∙ sym (append_assoc so.front more.front (lines_of rest));
       counted = let long = length-append so.front more.front in let a = so.counted in let b = more.counted in omega arith;
-      admitted = admits_both so.front more.front old mid new so.admitted more.admitted;
+      admitted = admits_both added so.front more.front old mid new so.admitted more.admitted;
     }
 
-pub all_taken : (all left : List ℕ) (before n : ℕ) (old s : State) → Taken (lines_of all) (lines_of left) before n old s → true ≡ eqb (length left) 0 → TakesAll (Ok n) before (lines_of all) old s
+pub all_taken : (all left : List ℕ) (before n : ℕ) (old s : State) → Taken added (lines_of all) (lines_of left) before n old s → true ≡ eqb (length left) 0 → TakesAll (Ok n) before (lines_of all) old s
 all_taken all [] before n old s t e =
     let whole = t.whole ∙ append-nil t.front in
-    (sym t.counted ∙ ap (λ ls. before + length ls) (sym whole), subst (λ (ls : List (List ℕ)). AdmitsAll old ls s) (sym whole) t.admitted)
+    (sym t.counted ∙ ap (λ ls. before + length ls) (sym whole), subst (λ (ls : List (List ℕ)). AdmitsAll added old ls s) (sym whole) t.admitted)
 all_taken all (b ∷ left) before n old s t e = let none = eqb-true (length (b ∷ left)) 0 (sym e) in absurd (omega arith)

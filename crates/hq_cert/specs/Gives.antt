@@ -1,11 +1,12 @@
 -- What a function returned, against what the tests give, unless memory ran out.
-use Rattle.std.specs.Prelude.{◌≡◌, ℕ, ◌+◌, ◌⊎◌, List, ◌∷◌, ◌++◌, length, Result, Ok, Err}
+use Rattle.std.specs.Prelude.{◌≡◌, ℕ, ◌+◌, ◌⊎◌, List, length, Result, Ok, Err}
+use Rattle.hq_text.specs.LineByLine.{AdmitsAll, FirstRefused}
 use Rattle.hq_model.specs.Certificate as model
 use Rattle.hq_cert.specs.declared.fault.CertReason.{CertReason}
 use Rattle.hq_cert.specs.declared.fault.CertReason.TheVariants as reason
 use Rattle.hq_cert.specs.declared.fault.CertFault.{CertFault}
 use Rattle.hq_cert.specs.Grammar.{CertText}
-use Rattle.hq_cert.specs.TextFaults.{State, AdmitsAll, Refused, FirstFault, at_line}
+use Rattle.hq_cert.specs.TextFaults.{State, added, FirstFault, at_line}
 
 -- the fault is what the tests give, where it isn't that memory ran out
 abbrev pub Fails : {Y : Type 0} → CertReason → Result Y CertReason → Type 0
@@ -29,22 +30,10 @@ abbrev pub GivesCertificate : {X : Type 0} → (X → model.Certificate) → Res
 GivesCertificate view (Ok c) certificate = view c ≡ certificate
 GivesCertificate view (Err f) certificate = f ≡ no_memory
 
--- The fault is that of the first of these lines that is refused, behind so many lines that left the old state.
-pub record LineFault (before : ℕ) (old : State) (lines : List (List ℕ)) (f : CertFault) : Type 0 where
-  pub front : List (List ℕ)
-  pub line : List ℕ
-  pub rest : List (List ℕ)
-  pub mid : State
-  pub why : CertReason
-  pub whole : lines ≡ front ++ line ∷ rest
-  pub admitted : AdmitsAll old front mid
-  pub refused : Refused mid line why
-  pub is : f ≡ at_line (before + length front + 1) why
-
 -- What taking in all of these lines answers, behind so many lines that left the old state: how many there are then, or the first fault.
 abbrev pub TakesAll : Result ℕ CertFault → ℕ → List (List ℕ) → State → State → Type 0
-TakesAll (Ok n) before lines old new = (n ≡ before + length lines) × AdmitsAll old lines new
-TakesAll (Err f) before lines old new = (f ≡ no_memory) ⊎ LineFault before old lines f
+TakesAll (Ok n) before lines old new = (n ≡ before + length lines) × AdmitsAll added old lines new
+TakesAll (Err f) before lines old new = (f ≡ no_memory) ⊎ FirstRefused added old lines before f.line f.reason
 
 -- What reading a text of these lines answers: its certificate, or its first fault, unless memory ran out.
 abbrev pub ReadOf : Result model.Certificate CertFault → List (List ℕ) → Type 0

@@ -1,12 +1,13 @@
 -- What each reason of a fault means, by the forms that lines may have.
 use Rattle.std.specs.Prelude.{◌≡◌, ℕ, ◌≤◌, ◌^◌, ◌↔◌, Bool, true, List, [], ◌∷◌, length, codes}
+use Rattle.hq_text.specs.LineByLine.{Refuses}
 use Rattle.hq_text.specs.Lines.{words_of}
 use Rattle.hq_model.specs.Certificate as model
 use Rattle.hq_cert.specs.declared.draft.Stage.{Stage}
 use Rattle.hq_cert.specs.declared.draft.Stage.TheVariants as stage
 use Rattle.hq_cert.specs.declared.fault.CertReason.TheVariants as reason
 use Rattle.hq_cert.specs.Grammar.{IsSmall, head_words, order_words, line_words, pair_words, RuleFits, PairFits, OrderFits}
-use Rattle.hq_cert.specs.TextFaults.{State, Refused}
+use Rattle.hq_cert.specs.TextFaults.{State, added}
 
 -- a rule of this name has so many words behind its name
 pub data RuleForm : List ℕ → ℕ → Type 0 where
@@ -70,12 +71,12 @@ pub data CitesWrongly (s : State) (words : List (List ℕ)) : Type 0 where
 
 -- A line is refused for its words exactly where they have no form that may stand there.
 abbrev pub WordMeans : Type 0
-WordMeans = (s : State) (text : List ℕ) → Refused s text reason.Word ↔ (¬ HasForm s.stage s.chained (words_of text))
+WordMeans = (s : State) (text : List ℕ) → Refuses added s text reason.Word ↔ (¬ HasForm s.stage s.chained (words_of text))
 
 -- A line is refused for its numbers exactly where its words have a form, but spell no line of it.
 abbrev pub NumberMeans : Type 0
-NumberMeans = (s : State) (text : List ℕ) → Refused s text reason.Number ↔ Misspells s (words_of text)
+NumberMeans = (s : State) (text : List ℕ) → Refuses added s text reason.Number ↔ Misspells s (words_of text)
 
 -- A line is refused for what it cites exactly where it is right but for that.
 abbrev pub CitationMeans : Type 0
-CitationMeans = (s : State) (text : List ℕ) → Refused s text reason.Citation ↔ CitesWrongly s (words_of text)
+CitationMeans = (s : State) (text : List ℕ) → Refuses added s text reason.Citation ↔ CitesWrongly s (words_of text)

@@ -2,6 +2,7 @@
 use Rattle.std.specs.Prelude.{ℕ, ◌^◌, Bool, true, false, ◌&&◌, List, [], ◌∷◌, length, Option, Some, None, Result, Ok, Err, codes, ◌==◌, nat_le, nat_lt, if◌then◌else◌}
 use Rattle.std.specs.Str.{bytes_eq}
 use Rattle.hq_text.specs.Numbers.{number_of}
+use Rattle.hq_text.specs.InTurn.{◌>>=◌}
 use Rattle.hq_cert.specs.declared.fault.CertReason.{CertReason}
 use Rattle.hq_cert.specs.declared.fault.CertReason.TheVariants as reason
 use Rattle.hq_cert.specs.declared.forms.RuleKind.{RuleKind}
@@ -13,12 +14,6 @@ use Rattle.hq_cert.specs.declared.pairs.Numbers.{Numbers}
 use Rattle.hq_model.specs.Certificate as model
 use Rattle.hq_model.specs.Certificate.Rule.{Bit, Queue, And, Or, Through}
 use Rattle.hq_model.specs.Certificate.Fences.{ForReadWrite, ForWriteWrite, ForWriteRead, ForWriteWriteChained, ForWriteReadChained}
-
--- the next test with what the one before gave, or its fault
-infixl 10 ◌>>=◌
-abbrev pub ◌>>=◌ : {A B : Type 0} → Result A CertReason → (A → Result B CertReason) → Result B CertReason
-(Ok x) >>= f = f x
-(Err e) >>= f = Err e
 
 -- ---- numbers and citations
 

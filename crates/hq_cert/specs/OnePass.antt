@@ -1,11 +1,12 @@
 -- What a text is found to begin with, in one pass over its bytes.
 use Rattle.std.specs.Prelude.{◌≡◌, ℕ, ◌+◌, ◌<◌, ◌≤◌, List, ◌∷◌, ◌++◌, length, take, Bool, Option}
 use Rattle.std.specs.Fmt.{decimal}
+use Rattle.hq_text.specs.LineByLine.{AdmitsAll}
 use Rattle.hq_text.specs.Lines.{lines_of}
+use Rattle.hq_text.specs.Printed.{line_text}
 use Rattle.hq_model.specs.Certificate as model
 use Rattle.hq_cert.specs.Grammar.{IsSmall, IsBelow, IsCited, citation_word, rule_words, line_words, fences_words, pair_words, RuleFits, LineFits, FencesFit, PairFits}
-use Rattle.hq_cert.specs.Printed.{line_text}
-use Rattle.hq_cert.specs.TextFaults.{State, AdmitsAll}
+use Rattle.hq_cert.specs.TextFaults.{State, added}
 
 -- the text begins with so many digits, which are the number n, and goes on
 pub record DigitsAhead (text : List ℕ) (n count : ℕ) : Type 0 where
@@ -53,5 +54,5 @@ pub record TakenFrom (text rest : List ℕ) (count : ℕ) (old new : State) : Ty
   pub front : List (List ℕ)
   pub whole : lines_of text ≡ front ++ lines_of rest
   pub counted : length front ≡ count
-  pub admitted : AdmitsAll old front new
+  pub admitted : AdmitsAll added old front new
   pub short : count + length rest ≤ length text

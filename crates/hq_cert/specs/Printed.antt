@@ -1,26 +1,14 @@
 -- The text that a certificate prints.
-use Rattle.std.specs.Prelude.{ℕ, ◌^◌, ◌≤◌, Bool, true, false, List, [], ◌∷◌, ◌++◌, length}
-use Rattle.std.specs.List.{flat_map, list_any}
+use Rattle.std.specs.Prelude.{ℕ, ◌^◌, ◌≤◌, Bool, true, false, List, length}
+use Rattle.std.specs.List.{list_any}
 use Rattle.hq_text.specs.Lines.{lines_of}
+use Rattle.hq_text.specs.Printed.{lines_text}
 use Rattle.hq_model.specs.Job.{Job, packet}
 use Rattle.hq_model.specs.Theorems.{Valid}
 use Rattle.hq_model.specs.Certificate.{CertHolds}
 use Rattle.hq_model.specs.Certificate as model
 use Rattle.hq_model.specs.Certificate.Fences.{ForReadWrite, ForWriteWrite, ForWriteRead, ForWriteWriteChained, ForWriteReadChained}
 use Rattle.hq_cert.specs.Grammar.{certificate_words, CertificateFits, CertText}
-
--- each word behind a space
-abbrev pub spaced : List (List ℕ) → List ℕ
-spaced words = flat_map (λ word. 32 ∷ word) words
-
--- a line's words with a space between two, and a line feed
-abbrev pub line_text : List (List ℕ) → List ℕ
-line_text [] = 10 ∷ []
-line_text (word ∷ words) = word ++ (spaced words ++ 10 ∷ [])
-
--- each line behind the other
-abbrev pub lines_text : List (List (List ℕ)) → List ℕ
-lines_text lines = flat_map line_text lines
 
 -- fences that are chained
 abbrev pub is_chain : model.Fences → Bool

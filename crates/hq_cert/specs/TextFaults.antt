@@ -1,14 +1,15 @@
 -- What the lines before a line leave, and the first faulty line of a text.
-use Rattle.std.specs.Prelude.{◌≡◌, ℕ, ◌+◌, Bool, true, false, ◌&&◌, List, [], ◌∷◌, ◌++◌, length, Result, Ok, Err, codes, if◌then◌else◌}
+use Rattle.std.specs.Prelude.{◌≡◌, ℕ, Bool, true, false, ◌&&◌, List, [], ◌∷◌, ◌++◌, length, Option, Some, None, Result, Ok, Err, codes, if◌then◌else◌}
 use Rattle.std.specs.Str.{bytes_eq}
-use Rattle.hq_text.specs.Lines.{words_of}
+use Rattle.hq_text.specs.LineByLine as text
+use Rattle.hq_text.specs.InTurn.{◌>>=◌}
 use Rattle.hq_model.specs.Certificate as model
 use Rattle.hq_cert.specs.declared.fault.CertReason.{CertReason}
 use Rattle.hq_cert.specs.declared.fault.CertReason.TheVariants as reason
 use Rattle.hq_cert.specs.declared.fault.CertFault.{CertFault}
 use Rattle.hq_cert.specs.declared.draft.Stage.{Stage}
 use Rattle.hq_cert.specs.declared.draft.Stage.TheVariants as stage
-use Rattle.hq_cert.specs.LineTests.{◌>>=◌, head_said, order_said, line_said, pair_said}
+use Rattle.hq_cert.specs.LineTests.{head_said, order_said, line_said, pair_said}
 use Rattle.hq_cert.specs.Grammar.{CertText}
 
 -- What the lines so far leave: what may come next, whether chained pair lines may stand, and what was read.
@@ -54,6 +55,10 @@ is_end stage.Ended = true
 -- the end was read
 abbrev pub is_ended : State → Bool
 is_ended s = is_end s.stage
+
+-- what is wrong with a text that ends so
+abbrev pub unended : State → Option CertReason
+unended s = if is_ended s then None else Some reason.NoEnd
 
 -- what was read
 abbrev pub read_of : State → model.Certificate
@@ -105,19 +110,6 @@ add_at stage.Ended s words = Err reason.Word
 unfoldable pub added : State → List (List ℕ) → Result State CertReason
 added s words = add_at s.stage s words
 
--- The line is admitted behind the state, and leaves the new one.
-abbrev pub Admits : State → List ℕ → State → Type 0
-Admits s line new = added s (words_of line) ≡ Ok new
-
--- The line is refused behind the state, by the first test that it fails.
-abbrev pub Refused : State → List ℕ → CertReason → Type 0
-Refused s line why = added s (words_of line) ≡ Err why
-
--- Lines are admitted one behind another.
-abbrev pub AdmitsAll : State → List (List ℕ) → State → Type 0
-AdmitsAll s [] new = new ≡ s
-AdmitsAll s (line ∷ lines) new = (mid : State) × Admits s line mid × AdmitsAll mid lines new
-
 -- ---- the first fault
 
 -- the fault of a line, counted from 1
@@ -125,12 +117,8 @@ abbrev pub at_line : ℕ → CertReason → CertFault
 at_line line why = record { line = line; reason = why }
 
 -- The first fault of a text: of the first line that is refused, or that there is no end, told of the line behind the last.
-pub data FirstFault (lines : List (List ℕ)) : CertFault → Type 0 where
-  -- a line behind admitted ones is refused
-  faulty : (front : List (List ℕ)) (line : List ℕ) (rest : List (List ℕ)) (mid : State) (why : CertReason)
-      → lines ≡ front ++ line ∷ rest → AdmitsAll start front mid → Refused mid line why → FirstFault lines (at_line (length front + 1) why)
-  -- every line is admitted, and none is the end
-  endless : (mid : State) → AdmitsAll start lines mid → is_ended mid ≡ false → FirstFault lines (at_line (length lines + 1) reason.NoEnd)
+abbrev pub FirstFault : List (List ℕ) → CertFault → Type 0
+FirstFault lines f = text.FirstFault added unended start lines f.line f.reason
 
 -- ---- the laws
 

@@ -3,7 +3,7 @@
 ghost use Rattle.std.specs.Prelude.{◌≡◌, ◌+◌, ◌<◌, ◌≤◌, ◌∷◌, [], ◌++◌, codes, length, take};
 ghost use Rattle.std.specs.Fmt.{decimal};
 ghost use Rattle.hq_cert.specs.Grammar.{citation_word, fences_words, pair_words, head_words};
-ghost use Rattle.hq_cert.specs.Printed.{spaced, line_text};
+ghost use Rattle.hq_text.specs.Printed.{spaced, line_text};
 ghost use Rattle.hq_cert.specs.Rows.{three_digits};
 ghost use Rattle.hq_cert.specs.View.{cited, fences_of, pair_of};
 

@@ -5,7 +5,8 @@ ghost use Rattle.std.specs.Fmt.{decimal};
 ghost use Rattle.std.specs.List.{list_any};
 ghost use Rattle.std.specs.Io.KnownBytes.{Appends};
 ghost use Rattle.hq_cert.specs.Grammar.{citation_word, rule_words, head_words, order_words, lines_words, pair_words};
-ghost use Rattle.hq_cert.specs.Printed.{is_chain, has_chain, spaced, line_text, lines_text, text_of};
+ghost use Rattle.hq_text.specs.Printed.{spaced, line_text, lines_text};
+ghost use Rattle.hq_cert.specs.Printed.{is_chain, has_chain, text_of};
 ghost use Rattle.hq_cert.specs.Gains.{Gains};
 ghost use Rattle.hq_cert.specs.View.{cited, fences_of, rule_of, line_of, pair_of};
 

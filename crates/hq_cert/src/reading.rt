@@ -1,12 +1,13 @@
 //! Texts to certificates.
 
 ghost use Rattle.std.specs.Prelude.{◌≡◌, ℕ, ◌+◌, ◌<◌, ◌⊎◌, List, map, length, IfOk, IfErr, OnOk};
+ghost use Rattle.hq_text.specs.LineByLine.{AdmitsAll};
 ghost use Rattle.hq_text.specs.Lines.{lines_of, words_of};
 ghost use Rattle.hq_model.specs.Certificate as model;
 ghost use Rattle.hq_cert.specs.DraftView.{state_of};
 ghost use Rattle.hq_cert.specs.Gives.{Gives, GivesCertificate, TakesAll, ReadOf, no_memory};
 ghost use Rattle.hq_cert.specs.Grammar.{CertText};
-ghost use Rattle.hq_cert.specs.TextFaults.{AdmitsAll, FirstFault, added, at_line, start};
+ghost use Rattle.hq_cert.specs.TextFaults.{FirstFault, added, at_line, start};
 
 use crate::certificate::Certificate;
 use crate::draft::Draft;
@@ -95,7 +96,7 @@ pub fn take_lines(
 
 /// The certificate of a text of so many lines, all of them taken in; or that it has no end.
 pub fn finished(draft: Draft, count: usize) -> Result<Certificate, CertFault>
-    ensures { (lines : List (List ℕ)) → count ≡ length lines → AdmitsAll start lines (state_of draft) → ReadOf result lines }
+    ensures { (lines : List (List ℕ)) → count ≡ length lines → AdmitsAll added start lines (state_of draft) → ReadOf result lines }
 {
     if draft.is_ended() {
         return Ok(draft.certificate());

@@ -6,7 +6,8 @@ use Rattle.hq_lines.specs.declared.fault.LineFault.{LineFault}
 use Rattle.hq_lines.specs.Meaning.{Meaning, Agent, Buffer, Args, Signal, Kernel, Queue, To, Packet, End}
 use Rattle.hq_lines.specs.Says.{SpellsPacket, Says, agent, zeros, buffer, args, signal, kernel, queue, to, packets, ends}
 use Rattle.hq_lines.specs.Order.{name_said, ranged, code_said, sized_said, some_said, short_said, size_said, extent_said, agent_said, to_said, zeros_of, filled_of, buffer_said, args_of, args_said, signal_of, signal_said, kernel_of, kernel_said, queue_of, queue_said, end_said, plain_said, packet_digits}
-use Rattle.hq_lines.proofs.Parts.{steps, ok_is, word_is, name_ok, ranged_ok, code_ok, sized_ok, some_ok, short_ok, size_ok, extent_ok}
+use Rattle.hq_text.proofs.InTurn.{steps, ok_is, word_is}
+use Rattle.hq_lines.proofs.Parts.{name_ok, ranged_ok, code_ok, sized_ok, some_ok, short_ok, size_ok, extent_ok}
 
 says_if : (words : List (List ℕ)) (m n : Meaning) → m ≡ n → Says words m → Says words n
 says_if words m n e h = subst (λ (k : Meaning). Says words k) e h

@@ -2,7 +2,6 @@
 use Rattle.std.proofs.Common.{◌≡◌, ℕ, zero, suc, ◌*◌, ◌^◌, ◌≤◌, Bool, true, false, cond, eqb, List, [], ◌∷◌, length, Option, Some, None, refl, sym, ap, subst, ◌∙◌, arith}
 use Rattle.std.specs.Prelude.{◌&&◌, ◌||◌, codes, Result, Ok, Err, nat_le}
 use Rattle.std.specs.Str.{bytes_eq}
-use Rattle.std.proofs.lemmas.Slice.Eq.{bytes_eq-Decides}
 use Rattle.std.proofs.lemmas.Bool.{leb-true, le-leb, eqb-true}
 use Rattle.std.specs.List.{list_any}
 use Rattle.std.proofs.Math.Pow.{pow_mono}
@@ -14,34 +13,11 @@ use Rattle.hq_footprint.specs.declared.task.Code.TheVariants as code
 use Rattle.hq_text.specs.Names.{is_name, IsName}
 use Rattle.hq_text.specs.Numbers.{IsNumber, number_of}
 use Rattle.hq_text.proofs.NumberLaws.{number_only, number_tells}
+use Rattle.hq_text.proofs.InTurn.{steps, ok_is, both, word_is, guarded}
 use Rattle.hq_lines.specs.declared.fault.LineFault.{LineFault}
 use Rattle.hq_lines.specs.declared.fault.LineFault.TheVariants as fault
 use Rattle.hq_lines.specs.Says.{IsWithin, Spells, Codes, fill, copy, rev, xor, add, sum, IsPower}
-use Rattle.hq_lines.specs.Order.{◌>>=◌, within, decoded, decoded_some, name_said, ranged, code_said, sized_said, some_said, short_said, is_power, size_said, extent_said}
-
--- a step that went on
-pub record Steps {A B : Type 0} (r : Result A LineFault) (f : A → Result B LineFault) (y : B) : Type 0 where
-  pub value : A
-  pub first : r ≡ Ok value
-  pub next : f value ≡ Ok y
-
-pub steps : {A B : Type 0} (r : Result A LineFault) (f : A → Result B LineFault) (y : B) → (r >>= f) ≡ Ok y → Steps r f y
-steps (Ok x) f y e = record { value = x; first = refl; next = e }
-steps (Err r) f y e = absurd cc
-
-pub ok_is : {A : Type 0} (a b : A) → (let x : Result A LineFault = Ok a in let y : Result A LineFault = Ok b in x ≡ y) → a ≡ b
-ok_is a b e = cc
-
-both : (a b : Bool) → (a && b) ≡ true → (a ≡ true) × (b ≡ true)
-both true b e = (refl, e)
-both false b e = absurd cc
-
-pub word_is : (a b : List ℕ) → bytes_eq a b ≡ true → a ≡ b
-word_is a b e = (bytes_eq-Decides a b).0 e
-
-guarded : {A : Type 0} (b : Bool) (x y : A) (e : LineFault) → (let r : Result A LineFault = cond b (Ok x) (Err e) in r ≡ Ok y) → (b ≡ true) × (x ≡ y)
-guarded true x y e h = (refl, cc)
-guarded false x y e h = absurd cc
+use Rattle.hq_lines.specs.Order.{within, decoded, decoded_some, name_said, ranged, code_said, sized_said, some_said, short_said, is_power, size_said, extent_said}
 
 pub name_ok : (word n : List ℕ) → name_said word ≡ Ok n → IsName word × (word ≡ n)
 unfolding name_said

@@ -12,7 +12,8 @@ use Rattle.hq_lines.specs.Gives.{Gives, Fails}
 use Rattle.hq_lines.specs.Meaning.{Meaning, Packet}
 use Rattle.hq_lines.specs.Says.{SpellsPacket, Says, SaysLine, agent, zeros, buffer, args, signal, kernel, queue, to, packets, ends}
 use Rattle.hq_lines.specs.Order.{agent_said, to_said, zeros_of, filled_of, buffer_said, args_of, args_said, signal_of, signal_said, kernel_of, kernel_said, queue_of, queue_said, end_said, plain_said, packet_digits, digits_fault, fault_by, words_fault, line_fault, packet_fault}
-use Rattle.hq_lines.proofs.Parts.{name_is, ranged_is, code_is, sized_is, some_is, short_is, size_is, extent_is, ok_is}
+use Rattle.hq_text.proofs.InTurn.{ok_is}
+use Rattle.hq_lines.proofs.Parts.{name_is, ranged_is, code_is, sized_is, some_is, short_is, size_is, extent_is}
 use Rattle.hq_lines.proofs.Forms.{plain_ok, packet_ok}
 
 -- the meaning, by the order of tests

@@ -10,15 +10,11 @@ use Rattle.hq_packet.specs.declared.fault.PacketFault.{PacketFault}
 use Rattle.hq_text.specs.Lines.{words_of}
 use Rattle.hq_text.specs.Names.{is_name}
 use Rattle.hq_text.specs.Numbers.{number_of}
+use Rattle.hq_text.specs.InTurn.{◌>>=◌}
 use Rattle.hq_lines.specs.declared.fault.LineFault.{LineFault}
 use Rattle.hq_lines.specs.declared.fault.LineFault.TheVariants as fault
 use Rattle.hq_lines.specs.Meaning.{Meaning, Agent, Buffer, Args, Signal, Kernel, Queue, To, End}
 use Rattle.hq_lines.specs.Bytes.{is_outside}
-
-infixl 10 ◌>>=◌
-abbrev pub ◌>>=◌ : {A B : Type 0} → Result A LineFault → (A → Result B LineFault) → Result B LineFault
-(Ok x) >>= f = f x
-(Err e) >>= f = Err e
 
 -- the name that a word is
 unfoldable pub name_said : List ℕ → Result (List ℕ) LineFault

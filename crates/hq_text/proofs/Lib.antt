@@ -4,3 +4,6 @@ pub mod NumberLaws
 pub mod Spelled
 pub mod Taken
 pub mod Pieces
+pub mod InTurn
+pub mod Printed
+pub mod LineByLine

@@ -7,6 +7,7 @@ use Rattle.std.proofs.lemmas.Fmt.{decimal-digits_value, digits_decimal, digits_v
 use Rattle.std.proofs.lemmas.Str.Parse.{IsNumeralModel, numerals_by_fold, tells_all_ascii_digits}
 use Rattle.std.proofs.lemmas.Bool.{eqb-true, eqb-false, ltb-true, lt-ltb}
 use Rattle.hq_text.specs.Numbers.{IsNumber, is_digit, read_on, number_of}
+use Rattle.hq_text.proofs.InTurn.{both}
 
 abbrev value : ℕ → List ℕ → ℕ
 value n [] = n
@@ -14,10 +15,6 @@ value n (d ∷ ds) = value (n * 10 + (d - 48)) ds
 
 own : IsNumeralModel (λ ds. all_ascii_digits ds ≡ true) (value 0)
 own = numerals_by_fold _ tells_all_ascii_digits value (record { empty = λ n. refl; more = λ n c cs h. refl })
-
-both : (a b : Bool) → (a && b) ≡ true → (a ≡ true) × (b ≡ true)
-both true b e = (refl, e)
-both false b e = absurd cc
 
 grows : (n : ℕ) (ds : List ℕ) → n ≤ value n ds
 grows n [] = omega arith

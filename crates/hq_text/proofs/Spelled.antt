@@ -1,5 +1,5 @@
 -- What a name's characters are.
-use Rattle.std.proofs.Common.{◌≡◌, ℕ, zero, suc, ◌<◌, ◌≤◌, Bool, true, false, List, [], ◌∷◌, ◌++◌, length, take, drop, refl, ap, arith}
+use Rattle.std.proofs.Common.{◌≡◌, ℕ, zero, suc, ◌<◌, ◌≤◌, true, List, [], ◌∷◌, ◌++◌, length, take, drop, refl, ap, arith}
 use Rattle.std.specs.Prelude.{◌&&◌, nat_lt, replicate, MatchResult, IsOk, Result, Ok, Err}
 use Rattle.std.specs.List.{list_all}
 use Rattle.std.specs.Str.{IsAscii, IsUtf8}
@@ -9,16 +9,13 @@ use Rattle.std.proofs.lemmas.Bool.Decides.{nat_tests}
 use Rattle.std.proofs.Math.Seq.{take-append_seam}
 use Rattle.hq_text.specs.Names.{is_letter, is_name_char, is_name, IsName}
 use Rattle.hq_text.specs.Padded.{Padded}
+use Rattle.hq_text.proofs.InTurn.{both}
 
 letter_low : (c : ℕ) → is_letter c ≡ true → c < 128
 letter_low c h = grind (arith, nat_tests)
 
 char_low : (c : ℕ) → is_name_char c ≡ true → c < 128
 char_low c h = grind (arith, nat_tests)
-
-both : (a b : Bool) → (a && b) ≡ true → (a ≡ true) × (b ≡ true)
-both true b e = (refl, e)
-both false b e = absurd cc
 
 cons_ascii : (c : ℕ) (cs : List ℕ) → c < 128 → IsAscii cs → IsAscii (c ∷ cs)
 cons_ascii c cs low rest zero = low

@@ -4,3 +4,6 @@ pub mod Names
 pub mod Padded
 pub mod Turns
 pub mod Intake
+pub mod LineByLine
+pub mod Printed
+pub mod InTurn

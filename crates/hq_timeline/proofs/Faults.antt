@@ -1,20 +1,27 @@
 -- The first line that the tests refuse is the first faulty line.
-use Rattle.std.proofs.Common.{◌≡◌, ℕ, ◌+◌, ◌⊎◌, inl, inr, true, false, List, [], ◌∷◌, ◌++◌, length, refl, sym, ap, subst, ◌∙◌, append_assoc, append-nil, length-append, arith}
-use Rattle.std.specs.Prelude.{map, Result, Ok, Err, IfOk, IfErr}
+use Rattle.std.proofs.Common.{◌≡◌, ℕ, ◌+◌, ◌⊎◌, inl, inr, Bool, true, false, List, [], ◌++◌, length, Some, None, refl, sym, ap, subst, ◌∙◌, append-nil, arith}
+use Rattle.std.specs.Prelude.{map, Result, Ok, Err, IfOk, IfErr, if◌then◌else◌}
+use Rattle.hq_text.specs.LineByLine.{AdmitsAll, FirstRefused}
+use Rattle.hq_text.specs.LineByLine as text
 use Rattle.hq_text.specs.Lines.{words_of}
+use Rattle.hq_text.proofs.LineByLine.{admits_of, no_first_fault, one_fault, refused_behind}
 use Rattle.hq_machine.specs.declared.event.Event.{Event}
 use Rattle.hq_timeline.specs.declared.fault.TimeFault.{TimeFault}
+use Rattle.hq_timeline.specs.declared.fault.TimeReason.{TimeReason}
 use Rattle.hq_timeline.specs.declared.fault.TimeReason.TheVariants as reason
 use Rattle.hq_timeline.specs.Grammar.{TimeText}
 use Rattle.hq_timeline.specs.declared.draft.Stage.{Stage}
 use Rattle.hq_timeline.specs.declared.draft.Stage.TheVariants as stage
 use Rattle.hq_timeline.specs.TextFaults.{Begins, Refused, FirstFault, faulty, endless, at_line, FaultlessWhereJournal, OneFirstFault}
-use Rattle.hq_timeline.specs.TextStates.{State, start, is_end, is_ended, AdmitsAll, FirstRefused, refused, unended}
-use Rattle.hq_timeline.specs.Gives.{GivesJournal, HasFault, LineFault, ReadOf, no_memory}
-use Rattle.hq_timeline.proofs.States.{Kept, kept_start, so_far, begun_state, adds_begun}
+use Rattle.hq_timeline.specs.TextStates.{State, start, is_end, is_ended, unended, added}
+use Rattle.hq_timeline.specs.Gives.{GivesJournal, HasFault, ReadOf, no_memory}
+use Rattle.hq_timeline.proofs.States.{Kept, so_far, begun_state, adds_begun, ended_of}
 use Rattle.hq_timeline.proofs.Forms.{told, refuses}
-use Rattle.hq_timeline.proofs.Turns.{admits_both}
-use Rattle.hq_timeline.proofs.Wholes.{kept_lines, read_found, admits_of, one_journal, never_refused, one_refused}
+use Rattle.hq_timeline.proofs.Wholes.{kept_lines, read_found, admitted, one_journal}
+
+-- the first fault by the tests
+abbrev FirstTested : List (List ℕ) → TimeFault → Type 0
+FirstTested lines f = text.FirstFault added unended start lines f.line f.reason
 
 -- ---- what was admitted begins a text
 
@@ -25,32 +32,43 @@ begins words s k = by s.stage k.spelled where
   by stage.Events is = (s.events, is, k.fits)
   by stage.Ended is = (s.events, is, k.fits)
 
-begins_text : (lines : List (List ℕ)) (s : State) → AdmitsAll start lines s → Begins s.stage (map words_of lines)
-begins_text lines s h = begins (map words_of lines) s (kept_lines [] lines start s kept_start h)
+begins_text : (lines : List (List ℕ)) (s : State) → AdmitsAll added start lines s → Begins s.stage (map words_of lines)
+begins_text lines s h = begins (map words_of lines) s (kept_lines lines s h)
+
+-- why a text has no end
+open_end : (s : State) (why : TimeReason) → unended s ≡ Some why → (is_ended s ≡ false) × (why ≡ reason.NoEnd)
+open_end s why e = by (is_ended s) refl e where
+  by : (b : Bool) → is_ended s ≡ b → (if b then None else Some reason.NoEnd) ≡ Some why → (is_ended s ≡ false) × (why ≡ reason.NoEnd)
+  by true is e = absurd cc
+  by false is e = (is, cc)
 
 not_ended : (s : State) → is_ended s ≡ false → s.stage ≡ stage.Ended → ⊥
 not_ended s h e = by (sym (ap is_end e) ∙ h) where
   by : true ≡ false → ⊥
   by p = absurd cc
 
-first_fault : (lines : List (List ℕ)) (f : TimeFault) → FirstRefused lines f → FirstFault lines f
-first_fault lines f (refused front line rest mid why whole h refuse) = faulty front line rest mid.stage why whole (begins_text front mid h) (told mid (words_of line) why refuse)
-first_fault lines f (unended mid h none) = endless mid.stage (begins_text lines mid h) (not_ended mid none)
+first_fault : (lines : List (List ℕ)) (f : TimeFault) → FirstTested lines f → FirstFault lines f
+first_fault lines f (text.faulty r) =
+    let at : length r.front + 1 ≡ f.line = let so = r.counted in omega arith in
+    subst (λ (g : TimeFault). FirstFault lines g) (ap (λ n. at_line n f.reason) at) (faulty r.front r.line r.rest r.mid.stage f.reason r.whole (begins_text r.front r.mid r.admitted) (told r.mid (words_of r.line) f.reason r.refused))
+first_fault lines f (text.endless mid h ends number) =
+    let o = open_end mid f.reason ends in
+    subst (λ (g : TimeFault). FirstFault lines g) (ap (λ n. at_line n reason.NoEnd) (sym number) ∙ ap (λ w. at_line f.line w) (sym o.1)) (endless mid.stage (begins_text lines mid h) (not_ended mid o.0))
 
 -- ---- and back
 
-admits : (place : Stage) (lines : List (List ℕ)) → Begins place (map words_of lines) → (s : State) × AdmitsAll start lines s × (s.stage ≡ place)
+admits : (place : Stage) (lines : List (List ℕ)) → Begins place (map words_of lines) → (s : State) × AdmitsAll added start lines s × (s.stage ≡ place)
 admits place lines h =
     let b = begun_state place (map words_of lines) h in
-    (b.0, admits_of lines start b.0 (adds_begun place (map words_of lines) h), b.1)
+    (b.0, admits_of added lines start b.0 (adds_begun place (map words_of lines) h), b.1)
 
-first_refused : (lines : List (List ℕ)) (f : TimeFault) → FirstFault lines f → FirstRefused lines f
-first_refused lines f (faulty front line rest place why whole h refuse) =
+first_tested : (lines : List (List ℕ)) (f : TimeFault) → FirstFault lines f → FirstTested lines f
+first_tested lines f (faulty front line rest place why whole h refuse) =
     let a = admits place front h in
-    refused front line rest a.0 why whole a.1 (refuses a.0 (words_of line) why (subst (λ (p : Stage). Refused p (words_of line) why) (sym a.2) refuse))
-first_refused lines f (endless place h none) =
+    text.faulty (record { front = front; line = line; rest = rest; mid = a.0; whole = whole; admitted = a.1; refused = refuses a.0 (words_of line) why (subst (λ (p : Stage). Refused p (words_of line) why) (sym a.2) refuse); counted = omega arith })
+first_tested lines f (endless place h none) =
     let a = admits place lines h in
-    unended a.0 a.1 (by a.0.stage (λ e. none (sym a.2 ∙ e)))
+    text.endless a.0 a.1 (ap (λ b. if b then None else Some reason.NoEnd) (by a.0.stage (λ e. none (sym a.2 ∙ e)))) refl
   where
     by : (p : Stage) → (p ≡ stage.Ended → ⊥) → is_end p ≡ false
     by stage.Head other = refl
@@ -60,37 +78,29 @@ first_refused lines f (endless place h none) =
 -- ---- the laws
 
 pub faultless : FaultlessWhereJournal
-faultless lines events f h fault = never_refused lines events f h (first_refused lines f fault)
+faultless lines events f h fault = no_first_fault added unended start (ended_of events) lines f.line f.reason (admitted lines events h) refl (first_tested lines f fault)
 
 pub one_first_fault : OneFirstFault
-one_first_fault lines f g h k = one_refused lines f g (first_refused lines f h) (first_refused lines g k)
+one_first_fault lines f g h k =
+    let same = one_fault added unended start lines f.line g.line f.reason g.reason (first_tested lines f h) (first_tested lines g k) in
+    ap (λ n. at_line n f.reason) same.0 ∙ ap (λ w. at_line g.line w) same.1
 
 -- ---- what the code learns
 
--- ---- what the code learns
-
-pub ended_found : (lines : List (List ℕ)) (s : State) (c : List Event) → AdmitsAll start lines s → is_ended s ≡ true → c ≡ s.events → TimeText lines c
+pub ended_found : (lines : List (List ℕ)) (s : State) (c : List Event) → AdmitsAll added start lines s → is_ended s ≡ true → c ≡ s.events → TimeText lines c
 ended_found lines s c h e is = subst (λ (d : List Event). TimeText lines d) (sym is) (read_found lines s h e)
 
-pub unended_fault : (lines : List (List ℕ)) (n : ℕ) (s : State) (f : TimeFault) → n ≡ length lines → AdmitsAll start lines s → is_ended s ≡ false → f ≡ at_line (n + 1) reason.NoEnd → HasFault lines f
-unended_fault lines n s f number h e is = inr (subst (λ (g : TimeFault). FirstFault lines g) (ap (λ k. at_line (k + 1) reason.NoEnd) (sym number) ∙ sym is) (first_fault lines _ (unended s h e)))
+pub unended_fault : (lines : List (List ℕ)) (n : ℕ) (s : State) (f : TimeFault) → n ≡ length lines → AdmitsAll added start lines s → is_ended s ≡ false → f ≡ at_line (n + 1) reason.NoEnd → HasFault lines f
+unended_fault lines n s f number h e is =
+    inr (subst (λ (g : TimeFault). FirstFault lines g) (sym is) (first_fault lines (at_line (n + 1) reason.NoEnd) (text.endless s h (ap (λ b. if b then None else Some reason.NoEnd) e) (ap (λ k. k + 1) number))))
 
 -- a line's fault is the text's, whatever follows it, behind lines that were taken in
-pub fault_behind : (taken lines more : List (List ℕ)) (n : ℕ) (s : State) (f : TimeFault) → n ≡ length taken → AdmitsAll start taken s → (f ≡ no_memory) ⊎ LineFault n s lines f → HasFault (taken ++ (lines ++ more)) f
+pub fault_behind : (taken lines more : List (List ℕ)) (n : ℕ) (s : State) (f : TimeFault) → n ≡ length taken → AdmitsAll added start taken s → (f ≡ no_memory) ⊎ FirstRefused added s lines n f.line f.reason → HasFault (taken ++ (lines ++ more)) f
 fault_behind taken lines more n s f number h (inl e) = inl e
-fault_behind taken lines more n s f number h (inr l) =
-    inr
-    (subst (λ (g : TimeFault). FirstFault (taken ++ (lines ++ more)) g) (sym (l.is ∙ ap (λ k. at_line k l.why) at))
-    (first_fault (taken ++ (lines ++ more)) _ (refused (taken ++ l.front) l.line (l.rest ++ more) l.mid l.why whole (admits_both taken l.front start s l.mid h l.admitted) l.refused)))
-  where
-    at : n + length l.front + 1 ≡ length (taken ++ l.front) + 1
-    at = omega (arith, length-append taken l.front)
-
-    whole : taken ++ (lines ++ more) ≡ (taken ++ l.front) ++ l.line ∷ (l.rest ++ more)
-    whole = ap (λ ls. taken ++ (ls ++ more)) l.whole ∙ ap (λ ls. taken ++ ls) (append_assoc l.front (l.line ∷ l.rest) more) ∙ sym (append_assoc taken l.front (l.line ∷ (l.rest ++ more)))
+fault_behind taken lines more n s f number h (inr r) = inr (first_fault (taken ++ (lines ++ more)) f (text.faulty (refused_behind added taken lines more start s n f.line f.reason number h r)))
 
 -- a line's fault is that of the text of these lines
-pub fault_from_start : (lines : List (List ℕ)) (s : State) (f : TimeFault) → s ≡ start → (f ≡ no_memory) ⊎ LineFault 0 s lines f → HasFault lines f
+pub fault_from_start : (lines : List (List ℕ)) (s : State) (f : TimeFault) → s ≡ start → (f ≡ no_memory) ⊎ FirstRefused added s lines 0 f.line f.reason → HasFault lines f
 fault_from_start lines s f e h = subst (λ (ls : List (List ℕ)). HasFault ls f) (append-nil lines) (fault_behind [] lines [] 0 s f refl e h)
 
 -- a journal's text has no fault but that memory ran out

@@ -6,6 +6,7 @@ use Rattle.std.specs.Prelude.{MatchOption, IfSome}
 use Rattle.std.proofs.lemmas.Bool.{leb-true, lt-ltb, eqb-true, ne_eqb, eq-eqb, cond-true, cond-false}
 use Rattle.hq_text.specs.Lines.{words_of}
 use Rattle.hq_text.specs.Numbers.{is_digit, read_on, number_of}
+use Rattle.hq_text.proofs.InTurn.{both}
 use Rattle.hq_timeline.specs.declared.kinds.TwoNumbers.{TwoNumbers}
 use Rattle.hq_timeline.specs.declared.kinds.TwoNumbers.TheVariants as two
 use Rattle.hq_timeline.specs.declared.draft.Stage.TheVariants as stage
@@ -33,12 +34,8 @@ same_pair : (a b : ℕ) (x y : Option (List ℕ)) → ◌≡◌ {A = Option (ℕ
 unfolding number_in behind_in
 same_pair a b x y e = (ap number_in e, ap behind_in e)
 
-both_true : (a b : Bool) → (a && b) ≡ true → (a ≡ true) × (b ≡ true)
-both_true true b e = (refl, e)
-both_true false b e = absurd cc
-
 small_digit : (d : ℕ) → is_digit d ≡ true → d ≤ 57
-small_digit d e = leb-true d 57 (both_true (leb 48 d) (leb d 57) e).1
+small_digit d e = leb-true d 57 (both (leb 48 d) (leb d 57) e).1
 
 cut_at : (d : ℕ) (ds : List ℕ) (b : Bool) → eqb d 32 ≡ b → words_of (d ∷ ds) ≡ cond b ([] ∷ words_of ds) (onto_first d (words_of ds))
 cut_at d ds b e = ap (λ t. cond t ([] ∷ words_of ds) (onto_first d (words_of ds))) e
@@ -61,7 +58,7 @@ found n (d ∷ ds) m behind l e =
         let same = same_pair n m (Some ds) behind h in
         record { word = []; cut = cut_at d ds true is ∙ ap (λ b. [] ∷ words_behind b) same.1; reads = ap (λ k. Some k) same.0; fits = subst (λ k. k < 4294967296) same.0 l }
     at false true is test h more =
-        let both = both_true (is_digit d) (leb n 400000000) test in
+        let both = both (is_digit d) (leb n 400000000) test in
         let digit = small_digit d both.0 in
         let low = leb-true n 400000000 both.1 in
         let f = more (omega (arith, digit, low)) h in
@@ -97,7 +94,7 @@ digit_first n d m ds behind other e = by (is_digit d && leb n 400000000) refl (s
   where
     by : (t : Bool) → (is_digit d && leb n 400000000) ≡ t → cond t (digits_on (n * 10 + (d - 48)) ds) None ≡ Some (m, behind)
         → (is_digit d ≡ true) × (n ≤ 400000000) × (digits_on (n * 10 + (d - 48)) ds ≡ Some (m, behind))
-    by true test h = let both = both_true (is_digit d) (leb n 400000000) test in (both.0, leb-true n 400000000 both.1, h)
+    by true test h = let both = both (is_digit d) (leb n 400000000) test in (both.0, leb-true n 400000000 both.1, h)
     by false test h = absurd cc
 
 pub digits_ahead : (text rest : List ℕ) (d m : ℕ) (behind : Option (List ℕ)) → text ≡ d ∷ rest → d ≢ 48 → d ≢ 32 → digits_on 0 text ≡ Some (m, behind) → NumberAhead text m behind

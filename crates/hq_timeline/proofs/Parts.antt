@@ -1,11 +1,11 @@
 -- Numbers and lines, both ways.
 use Rattle.std.proofs.Common.{◌≡◌, ℕ, ◌^◌, Bool, true, false, cond, List, [], ◌∷◌, Option, Some, None, refl, sym, ap, subst, ◌∙◌, arith}
-use Rattle.std.specs.Prelude.{◌&&◌, Result, Ok, Err, nat_lt}
+use Rattle.std.specs.Prelude.{Result, Ok, Err, nat_lt}
 use Rattle.std.specs.Fmt.{decimal}
 use Rattle.std.specs.Str.{bytes_eq}
-use Rattle.std.proofs.lemmas.Slice.Eq.{bytes_eq-Decides}
 use Rattle.std.proofs.lemmas.Bool.{ltb-true, lt-ltb}
 use Rattle.hq_text.specs.Numbers.{IsNumber, number_of}
+use Rattle.hq_text.proofs.InTurn.{steps, ok_is, both, word_is, guarded}
 use Rattle.hq_text.proofs.NumberLaws.{number_only, number_tells}
 use Rattle.hq_machine.specs.declared.event.Event.{Event}
 use Rattle.hq_machine.specs.declared.event.Event.TheVariants as event
@@ -17,31 +17,7 @@ use Rattle.hq_timeline.specs.declared.kinds.TwoNumbers.{TwoNumbers}
 use Rattle.hq_timeline.specs.declared.kinds.TwoNumbers.TheVariants as two
 use Rattle.hq_timeline.specs.Names as word
 use Rattle.hq_timeline.specs.Grammar.{IsSmall, event_words, EventFits, Says, head_words, end_words}
-use Rattle.hq_timeline.specs.LineTests.{◌>>=◌, small, number_said, one_kind, event_of_one, two_kind, event_of_two, plain_said, one_said, two_said, event_said, is_head, is_last}
-
--- a step that went on
-pub record Steps {A B : Type 0} (r : Result A TimeReason) (f : A → Result B TimeReason) (y : B) : Type 0 where
-  pub value : A
-  pub first : r ≡ Ok value
-  pub next : f value ≡ Ok y
-
-pub steps : {A B : Type 0} (r : Result A TimeReason) (f : A → Result B TimeReason) (y : B) → (r >>= f) ≡ Ok y → Steps r f y
-steps (Ok x) f y e = record { value = x; first = refl; next = e }
-steps (Err r) f y e = absurd cc
-
-pub ok_is : {A : Type 0} (a b : A) → (let x : Result A TimeReason = Ok a in let y : Result A TimeReason = Ok b in x ≡ y) → a ≡ b
-ok_is a b e = cc
-
-pub both : (a b : Bool) → (a && b) ≡ true → (a ≡ true) × (b ≡ true)
-both true b e = (refl, e)
-both false b e = absurd cc
-
-pub word_is : (a b : List ℕ) → bytes_eq a b ≡ true → a ≡ b
-word_is a b e = (bytes_eq-Decides a b).0 e
-
-guarded : {A : Type 0} (b : Bool) (x y : A) (e : TimeReason) → (let r : Result A TimeReason = cond b (Ok x) (Err e) in r ≡ Ok y) → (b ≡ true) × (x ≡ y)
-guarded true x y e h = (refl, cc)
-guarded false x y e h = absurd cc
+use Rattle.hq_timeline.specs.LineTests.{small, number_said, one_kind, event_of_one, two_kind, event_of_two, plain_said, one_said, two_said, event_said, is_head, is_last}
 
 -- the word is the number
 pub record Number (word : List ℕ) (n : ℕ) : Type 0 where

@@ -6,7 +6,8 @@ use Rattle.std.specs.Io.KnownBytes.{Appends, append_known}
 use Rattle.std.proofs.lemmas.Grind.{flat_map-append}
 use Rattle.hq_machine.specs.declared.event.Event.{Event}
 use Rattle.hq_timeline.specs.Grammar.{event_words, head_words, end_words}
-use Rattle.hq_timeline.specs.Printed.{line_text, lines_text, text_of}
+use Rattle.hq_text.specs.Printed.{line_text, lines_text}
+use Rattle.hq_timeline.specs.Printed.{text_of}
 
 -- ---- with a writer
 

@@ -11,7 +11,9 @@ use Rattle.hq_timeline.specs.Grammar.{event_words, EventFits, head_words, end_wo
 use Rattle.hq_timeline.specs.LineTests.{is_head, is_last, event_said}
 use Rattle.hq_timeline.specs.TextFaults.{Begins}
 use Rattle.hq_timeline.specs.TextStates.{State, start, with_head, with_event, with_end, is_end, is_ended, add_head, add_event, add_content, add_at, added}
-use Rattle.hq_timeline.proofs.Parts.{steps, ok_is, head_ok, head_is, last_ok, last_is, event_ok, said, not_last}
+use Rattle.hq_text.proofs.LineByLine.{AddsAll}
+use Rattle.hq_text.proofs.InTurn.{steps, ok_is}
+use Rattle.hq_timeline.proofs.Parts.{head_ok, head_is, last_ok, last_is, event_ok, said, not_last}
 
 abbrev Words : Type 0
 Words = List (List ℕ)
@@ -102,11 +104,6 @@ kept_all words s k e = by s.stage k.spelled e where
 
 -- ---- what is spelled is admitted
 
--- lines are admitted one behind another, by their words
-abbrev pub AddsAll : State → List Words → State → Type 0
-AddsAll s [] t = t ≡ s
-AddsAll s (w ∷ ws) t = (mid : State) × (added s w ≡ Ok mid) × AddsAll mid ws t
-
 abbrev state_at : Stage → List Event → State
 state_at st events = record { stage = st; events = events }
 
@@ -118,12 +115,12 @@ adds_end : (events : List Event) → added (state_at stage.Events events) end_wo
 unfolding added add_content
 adds_end events = rw last_is refl
 
-adds_events : (front events : List Event) → AllByRecursion EventFits events → AddsAll (state_at stage.Events front) (map event_words events ++ end_words ∷ []) (state_at stage.Ended (front ++ events))
+adds_events : (front events : List Event) → AllByRecursion EventFits events → AddsAll added (state_at stage.Events front) (map event_words events ++ end_words ∷ []) (state_at stage.Ended (front ++ events))
 adds_events front [] h = (state_at stage.Ended front, adds_end front, ap (λ es. state_at stage.Ended es) (append-nil front))
 adds_events front (e ∷ events) h = (
   state_at stage.Events (front ++ e ∷ []),
   adds_event front e h.0,
-  subst (λ (all : List Event). AddsAll (state_at stage.Events (front ++ e ∷ [])) (map event_words events ++ end_words ∷ []) (state_at stage.Ended all)) (append_assoc front (e ∷ []) events)
+  subst (λ (all : List Event). AddsAll added (state_at stage.Events (front ++ e ∷ [])) (map event_words events ++ end_words ∷ []) (state_at stage.Ended all)) (append_assoc front (e ∷ []) events)
       (adds_events (front ++ e ∷ []) events h.1),
 )
 
@@ -135,7 +132,7 @@ adds_head = rw head_is refl
 abbrev pub ended_of : List Event → State
 ended_of events = state_at stage.Ended events
 
-pub adds_journal : (events : List Event) → AllByRecursion EventFits events → AddsAll start (journal_words events) (ended_of events)
+pub adds_journal : (events : List Event) → AllByRecursion EventFits events → AddsAll added start (journal_words events) (ended_of events)
 adds_journal events h = (state_at stage.Events [], adds_head, adds_events [] events h)
 
 -- ---- what begins a text is admitted
@@ -149,17 +146,17 @@ journal_of stage.Ended words h = h.0
 pub begun_state : (place : Stage) (words : List Words) → Begins place words → (s : State) × (s.stage ≡ place)
 begun_state place words h = (state_at place (journal_of place words h), refl)
 
-adds_only : (front events : List Event) → AllByRecursion EventFits events → AddsAll (state_at stage.Events front) (map event_words events) (state_at stage.Events (front ++ events))
+adds_only : (front events : List Event) → AllByRecursion EventFits events → AddsAll added (state_at stage.Events front) (map event_words events) (state_at stage.Events (front ++ events))
 adds_only front [] h = ap (λ es. state_at stage.Events es) (append-nil front)
 adds_only front (e ∷ events) h = (
   state_at stage.Events (front ++ e ∷ []),
   adds_event front e h.0,
-  subst (λ (all : List Event). AddsAll (state_at stage.Events (front ++ e ∷ [])) (map event_words events) (state_at stage.Events all)) (append_assoc front (e ∷ []) events)
+  subst (λ (all : List Event). AddsAll added (state_at stage.Events (front ++ e ∷ [])) (map event_words events) (state_at stage.Events all)) (append_assoc front (e ∷ []) events)
       (adds_only (front ++ e ∷ []) events h.1),
 )
 
-pub adds_begun : (place : Stage) (words : List Words) (h : Begins place words) → AddsAll start words (begun_state place words h).0
+pub adds_begun : (place : Stage) (words : List Words) (h : Begins place words) → AddsAll added start words (begun_state place words h).0
 unfolding begun_state
-adds_begun stage.Head words h = subst (λ (ws : List Words). AddsAll start ws start) (sym h) refl
-adds_begun stage.Events words h = subst (λ (ws : List Words). AddsAll start ws (state_at stage.Events h.0)) (sym h.1) (state_at stage.Events [], adds_head, adds_only [] h.0 h.2)
-adds_begun stage.Ended words h = subst (λ (ws : List Words). AddsAll start ws (state_at stage.Ended h.0)) (sym h.1) (adds_journal h.0 h.2)
+adds_begun stage.Head words h = subst (λ (ws : List Words). AddsAll added start ws start) (sym h) refl
+adds_begun stage.Events words h = subst (λ (ws : List Words). AddsAll added start ws (state_at stage.Events h.0)) (sym h.1) (state_at stage.Events [], adds_head, adds_only [] h.0 h.2)
+adds_begun stage.Ended words h = subst (λ (ws : List Words). AddsAll added start ws (state_at stage.Ended h.0)) (sym h.1) (adds_journal h.0 h.2)

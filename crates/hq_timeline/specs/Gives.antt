@@ -1,12 +1,13 @@
 -- What a function returned, against what the tests give, unless memory ran out.
-use Rattle.std.specs.Prelude.{◌≡◌, ℕ, ◌+◌, ◌⊎◌, List, ◌∷◌, ◌++◌, length, Result, Ok, Err}
+use Rattle.std.specs.Prelude.{◌≡◌, ℕ, ◌+◌, ◌⊎◌, List, length, Result, Ok, Err}
+use Rattle.hq_text.specs.LineByLine.{AdmitsAll, FirstRefused}
 use Rattle.hq_machine.specs.declared.event.Event.{Event}
 use Rattle.hq_timeline.specs.declared.fault.TimeReason.{TimeReason}
 use Rattle.hq_timeline.specs.declared.fault.TimeReason.TheVariants as reason
 use Rattle.hq_timeline.specs.declared.fault.TimeFault.{TimeFault}
 use Rattle.hq_timeline.specs.Grammar.{TimeText}
 use Rattle.hq_timeline.specs.TextFaults.{at_line, FirstFault}
-use Rattle.hq_timeline.specs.TextStates.{State, AdmitsAll, Refuses}
+use Rattle.hq_timeline.specs.TextStates.{State, added}
 
 -- the fault is what the tests give, where it isn't that memory ran out
 abbrev pub Fails : {Y : Type 0} → TimeReason → Result Y TimeReason → Type 0
@@ -29,22 +30,10 @@ abbrev pub GivesJournal : Result (List Event) TimeFault → List Event → Type 
 GivesJournal (Ok journal) events = journal ≡ events
 GivesJournal (Err f) events = f ≡ no_memory
 
--- The fault is that of the first of these lines that is refused, behind so many lines that left the old state.
-pub record LineFault (before : ℕ) (old : State) (lines : List (List ℕ)) (f : TimeFault) : Type 0 where
-  pub front : List (List ℕ)
-  pub line : List ℕ
-  pub rest : List (List ℕ)
-  pub mid : State
-  pub why : TimeReason
-  pub whole : lines ≡ front ++ line ∷ rest
-  pub admitted : AdmitsAll old front mid
-  pub refused : Refuses mid line why
-  pub is : f ≡ at_line (before + length front + 1) why
-
 -- What taking in all of these lines answers, behind so many lines that left the old state: how many there are then, or the first fault.
 abbrev pub TakesAll : Result ℕ TimeFault → ℕ → List (List ℕ) → State → State → Type 0
-TakesAll (Ok n) before lines old new = (n ≡ before + length lines) × AdmitsAll old lines new
-TakesAll (Err f) before lines old new = (f ≡ no_memory) ⊎ LineFault before old lines f
+TakesAll (Ok n) before lines old new = (n ≡ before + length lines) × AdmitsAll added old lines new
+TakesAll (Err f) before lines old new = (f ≡ no_memory) ⊎ FirstRefused added old lines before f.line f.reason
 
 -- a text of these lines has this first fault, unless memory ran out
 abbrev pub HasFault : List (List ℕ) → TimeFault → Type 0

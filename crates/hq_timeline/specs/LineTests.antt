@@ -2,6 +2,7 @@
 use Rattle.std.specs.Prelude.{ℕ, ◌^◌, Bool, false, ◌&&◌, List, [], ◌∷◌, Option, Some, None, Result, Ok, Err, nat_lt, if◌then◌else◌}
 use Rattle.std.specs.Str.{bytes_eq}
 use Rattle.hq_text.specs.Numbers.{number_of}
+use Rattle.hq_text.specs.InTurn.{◌>>=◌}
 use Rattle.hq_machine.specs.declared.event.Event.{Event}
 use Rattle.hq_machine.specs.declared.event.Event.TheVariants as event
 use Rattle.hq_timeline.specs.declared.fault.TimeReason.{TimeReason}
@@ -11,12 +12,6 @@ use Rattle.hq_timeline.specs.declared.kinds.OneNumber.TheVariants as one
 use Rattle.hq_timeline.specs.declared.kinds.TwoNumbers.{TwoNumbers}
 use Rattle.hq_timeline.specs.declared.kinds.TwoNumbers.TheVariants as two
 use Rattle.hq_timeline.specs.Names as word
-
--- the next test with what the one before gave, or its fault
-infixl 10 ◌>>=◌
-abbrev pub ◌>>=◌ : {A B : Type 0} → Result A TimeReason → (A → Result B TimeReason) → Result B TimeReason
-(Ok x) >>= f = f x
-(Err e) >>= f = Err e
 
 -- the number, if it is at most 4294967295
 abbrev pub small : Option ℕ → Result ℕ TimeReason

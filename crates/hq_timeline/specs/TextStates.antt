@@ -1,14 +1,12 @@
--- The lines of a text taken in one behind another: what they leave, and the first that is refused.
-use Rattle.std.specs.Prelude.{◌≡◌, ℕ, ◌+◌, Bool, true, false, List, [], ◌∷◌, ◌++◌, length, Result, Ok, Err, if◌then◌else◌}
-use Rattle.hq_text.specs.Lines.{words_of}
+-- What the lines of a text leave, taken in one behind another.
+use Rattle.std.specs.Prelude.{ℕ, Bool, true, false, List, [], ◌∷◌, ◌++◌, Option, Some, None, Result, Ok, Err, if◌then◌else◌}
+use Rattle.hq_text.specs.InTurn.{◌>>=◌}
 use Rattle.hq_machine.specs.declared.event.Event.{Event}
 use Rattle.hq_timeline.specs.declared.fault.TimeReason.{TimeReason}
 use Rattle.hq_timeline.specs.declared.fault.TimeReason.TheVariants as reason
-use Rattle.hq_timeline.specs.declared.fault.TimeFault.{TimeFault}
 use Rattle.hq_timeline.specs.declared.draft.Stage.{Stage}
 use Rattle.hq_timeline.specs.declared.draft.Stage.TheVariants as stage
-use Rattle.hq_timeline.specs.LineTests.{◌>>=◌, event_said, is_head, is_last}
-use Rattle.hq_timeline.specs.TextFaults.{at_line}
+use Rattle.hq_timeline.specs.LineTests.{event_said, is_head, is_last}
 
 -- What the lines so far leave: what may come next, and the events that were read.
 pub record State : Type 0 where
@@ -41,6 +39,10 @@ is_end stage.Ended = true
 abbrev pub is_ended : State → Bool
 is_ended s = is_end s.stage
 
+-- what is wrong with a text that ends so
+abbrev pub unended : State → Option TimeReason
+unended s = if is_ended s then None else Some reason.NoEnd
+
 -- ---- what a line leaves, or the first test that it fails
 
 -- the first line
@@ -64,26 +66,3 @@ add_at stage.Ended s words = Err reason.Word
 -- The words are those of a line that has its place behind what is there, and with what it adds, this is.
 unfoldable pub added : State → List (List ℕ) → Result State TimeReason
 added s words = add_at s.stage s words
-
--- The line is admitted behind the state, and leaves the new one.
-abbrev pub Admits : State → List ℕ → State → Type 0
-Admits s line new = added s (words_of line) ≡ Ok new
-
--- The line is refused behind the state, by the first test that it fails.
-abbrev pub Refuses : State → List ℕ → TimeReason → Type 0
-Refuses s line why = added s (words_of line) ≡ Err why
-
--- Lines are admitted one behind another.
-abbrev pub AdmitsAll : State → List (List ℕ) → State → Type 0
-AdmitsAll s [] new = new ≡ s
-AdmitsAll s (line ∷ lines) new = (mid : State) × Admits s line mid × AdmitsAll mid lines new
-
--- ---- the first that is refused
-
--- The fault of the first line that is refused, or that there is no end, told of the line behind the last.
-pub data FirstRefused (lines : List (List ℕ)) : TimeFault → Type 0 where
-  -- a line behind admitted ones is refused
-  refused : (front : List (List ℕ)) (line : List ℕ) (rest : List (List ℕ)) (mid : State) (why : TimeReason)
-      → lines ≡ front ++ line ∷ rest → AdmitsAll start front mid → Refuses mid line why → FirstRefused lines (at_line (length front + 1) why)
-  -- every line is admitted, and none is the end
-  unended : (mid : State) → AdmitsAll start lines mid → is_ended mid ≡ false → FirstRefused lines (at_line (length lines + 1) reason.NoEnd)

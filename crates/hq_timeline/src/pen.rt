@@ -3,7 +3,7 @@
 ghost use Rattle.std.specs.Prelude.{◌≡◌, ◌∷◌, [], ◌++◌, OnOk, IfOk};
 ghost use Rattle.std.specs.Fmt.{decimal};
 ghost use Rattle.hq_timeline.specs.Grammar.{EventFits, event_words, head_words, end_words};
-ghost use Rattle.hq_timeline.specs.Printed.{line_text};
+ghost use Rattle.hq_text.specs.Printed.{line_text};
 
 use hq_machine::Event;
 use std::alloc::{AllocError, Global};

@@ -5,7 +5,8 @@ ghost use Rattle.std.specs.List.{AllByRecursion};
 ghost use Rattle.hq_text.specs.Lines.{lines_of};
 ghost use Rattle.std.specs.Io.KnownBytes.{Appends, append_known};
 ghost use Rattle.hq_timeline.specs.Grammar.{EventFits, TimeText, head_words, event_words};
-ghost use Rattle.hq_timeline.specs.Printed.{line_text, lines_text, text_of};
+ghost use Rattle.hq_text.specs.Printed.{line_text, lines_text};
+ghost use Rattle.hq_timeline.specs.Printed.{text_of};
 
 use crate::pen::Pen;
 use hq_machine::{Event, Journal};

@@ -1,13 +1,14 @@
 //! Texts to journals.
 
 ghost use Rattle.std.specs.Prelude.{◌≡◌, ◌+◌, ◌⊎◌, List, ℕ, length, IfOk, IfErr};
+ghost use Rattle.hq_text.specs.LineByLine.{AdmitsAll};
 ghost use Rattle.hq_text.specs.Lines.{lines_of, words_of};
 ghost use Rattle.hq_machine.specs.declared.event.Event.{Event};
 ghost use Rattle.hq_timeline.specs.DraftView.{state_of};
 ghost use Rattle.hq_timeline.specs.Gives.{Gives, GivesJournal, HasFault, ReadOf, TakesAll, no_memory};
 ghost use Rattle.hq_timeline.specs.Grammar.{TimeText};
 ghost use Rattle.hq_timeline.specs.TextFaults.{at_line};
-ghost use Rattle.hq_timeline.specs.TextStates.{AdmitsAll, added, start};
+ghost use Rattle.hq_timeline.specs.TextStates.{added, start};
 
 use crate::draft::Draft;
 use crate::fault::{TimeFault, TimeReason};
@@ -75,7 +76,7 @@ pub fn take_lines(draft: &mut Draft, before: usize, text: &[u8]) -> Result<usize
 
 /// The journal of a text of so many lines, all of them taken in; or that it has no end.
 pub fn finished(draft: Draft, count: usize) -> Result<Journal, TimeFault>
-    ensures { (lines : List (List ℕ)) → count ≡ length lines → AdmitsAll start lines (state_of draft) → ReadOf result lines }
+    ensures { (lines : List (List ℕ)) → count ≡ length lines → AdmitsAll added start lines (state_of draft) → ReadOf result lines }
 {
     if draft.is_ended() {
         return Ok(draft.journal());

@@ -2,7 +2,7 @@ use Rattle.std.proofs.Common.{◌≤◌, length, take}
 use Rattle.std.specs.Prelude.{map}
 use Rattle.hq_cert.specs.Gains.{Gains}
 use Rattle.hq_cert.specs.Grammar.{citation_word}
-use Rattle.hq_cert.specs.Printed.{spaced}
+use Rattle.hq_text.specs.Printed.{spaced}
 use Rattle.hq_cert.specs.View.{cited}
 use Rattle.hq_cert.proofs.printing.write_citations.Given as goal
 

@@ -2,7 +2,7 @@ use Rattle.std.proofs.Common.{◌≤◌, length, take}
 use Rattle.std.specs.Prelude.{map}
 use Rattle.hq_cert.specs.Gains.{Gains}
 use Rattle.hq_cert.specs.Grammar.{lines_words}
-use Rattle.hq_cert.specs.Printed.{lines_text}
+use Rattle.hq_text.specs.Printed.{lines_text}
 use Rattle.hq_cert.specs.View.{line_of}
 use Rattle.hq_cert.proofs.printing.write_lines.Given as goal
 

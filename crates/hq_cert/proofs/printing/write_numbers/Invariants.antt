@@ -2,7 +2,7 @@ use Rattle.std.proofs.Common.{◌≤◌, length, take}
 use Rattle.std.specs.Prelude.{map}
 use Rattle.std.specs.Fmt.{decimal}
 use Rattle.hq_cert.specs.Gains.{Gains}
-use Rattle.hq_cert.specs.Printed.{spaced}
+use Rattle.hq_text.specs.Printed.{spaced}
 use Rattle.hq_cert.proofs.printing.write_numbers.Given as goal
 
 abbrev pub invariant-loop-number : goal.invariant-loop-number

@@ -1,7 +1,7 @@
 use Rattle.std.proofs.Common.{arith, ap, ◌∙◌, ◌++◌, take}
 use Rattle.std.specs.Prelude.{map}
 use Rattle.hq_cert.specs.Grammar.{pair_words}
-use Rattle.hq_cert.specs.Printed.{line_text, lines_text}
+use Rattle.hq_text.specs.Printed.{line_text, lines_text}
 use Rattle.hq_cert.specs.View.{pair_of}
 use Rattle.hq_cert.proofs.Puts.{then_gains, roomed, as_text, put_gains, pair_next}
 use Rattle.hq_cert.proofs.printing.write_pairs.Goals as goal

@@ -2,7 +2,7 @@ use Rattle.std.proofs.Common.{◌≤◌, length, take}
 use Rattle.std.specs.Prelude.{map}
 use Rattle.hq_cert.specs.Gains.{Gains}
 use Rattle.hq_cert.specs.Grammar.{pair_words}
-use Rattle.hq_cert.specs.Printed.{lines_text}
+use Rattle.hq_text.specs.Printed.{lines_text}
 use Rattle.hq_cert.specs.View.{pair_of}
 use Rattle.hq_cert.proofs.printing.write_pairs.Given as goal
 

@@ -1,7 +1,9 @@
 use Rattle.hq_text.specs.Lines.{lines_of}
 use Rattle.hq_cert.specs.DraftView.{state_of}
 use Rattle.hq_cert.proofs.Taking.{more_taken, all_taken}
-use Rattle.hq_cert.proofs.Turns.{one_taken, none_more}
+use Rattle.hq_text.proofs.LineByLine.{one_taken}
+use Rattle.hq_cert.specs.TextFaults.{added}
+use Rattle.hq_cert.proofs.Turns.{none_more}
 use Rattle.hq_cert.proofs.reading.take_lines.Goals as goal
 
 pub returns-then-is_empty : goal.returns-then-is_empty
@@ -24,4 +26,4 @@ loop-rest-preserved c =
     let text = c.args.text.now in
     let old = state_of c.args.draft.now in
     let taken = more_taken text c.loop-rest.rest.now c.in-Ok.found.1.now c.args.before c.loop-rest.count c.in-Ok.found.0 c.in_ok-count.count old (state_of c.loop-rest.draft) (state_of c.take.new.self) c.loop-rest.invariant c.in-Ok.ensures.taken c.in_ok-count.ensures.found in
-    one_taken (lines_of text) (lines_of c.in-Ok.found.1.now) (lines_of c.first_line.result.1.now) c.first_line.result.0.now c.args.before c.in_ok-count.count c.in_ok-count-2.count old (state_of c.take.new.self) (state_of c.take_words.new.draft) taken c.first_line.ensures.cut c.in_ok-count-2.ensures.found c.in_default.ensures
+    one_taken added (lines_of text) (lines_of c.in-Ok.found.1.now) (lines_of c.first_line.result.1.now) c.first_line.result.0.now c.args.before c.in_ok-count.count c.in_ok-count-2.count old (state_of c.take.new.self) (state_of c.take_words.new.draft) taken c.first_line.ensures.cut c.in_ok-count-2.ensures.found c.in_default.ensures

@@ -2,7 +2,8 @@ use Rattle.std.proofs.Common.{List, ℕ, subst}
 use Rattle.std.specs.Prelude.{map}
 use Rattle.std.specs.Io.KnownBytes.{Appends}
 use Rattle.hq_timeline.specs.Grammar.{head_words, event_words, end_words}
-use Rattle.hq_timeline.specs.Printed.{line_text, lines_text, text_of}
+use Rattle.hq_text.specs.Printed.{line_text, lines_text}
+use Rattle.hq_timeline.specs.Printed.{text_of}
 use Rattle.hq_timeline.proofs.Puts.{on_ok, all_written, text_is}
 use Rattle.hq_timeline.proofs.printing.finish.Goals as goal
 

@@ -1,7 +1,7 @@
 use Rattle.std.proofs.Common.{take}
 use Rattle.std.specs.Prelude.{map}
 use Rattle.hq_timeline.specs.Grammar.{EventFits, event_words}
-use Rattle.hq_timeline.specs.Printed.{lines_text}
+use Rattle.hq_text.specs.Printed.{lines_text}
 use Rattle.hq_timeline.proofs.Puts.{put_and_spilled, event_next, one_fits}
 use Rattle.hq_timeline.proofs.printing.write_events.Goals as goal
 

@@ -3,7 +3,7 @@ use Rattle.std.specs.Prelude.{map}
 use Rattle.std.specs.List.{AllByRecursion}
 use Rattle.std.specs.Io.KnownBytes.{Appends, append_known}
 use Rattle.hq_timeline.specs.Grammar.{EventFits, event_words}
-use Rattle.hq_timeline.specs.Printed.{lines_text}
+use Rattle.hq_text.specs.Printed.{lines_text}
 use Rattle.hq_timeline.proofs.printing.write_events.Given as goal
 
 abbrev pub invariant-loop-event : goal.invariant-loop-event

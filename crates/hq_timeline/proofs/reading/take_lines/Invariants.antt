@@ -1,11 +1,12 @@
 use Rattle.std.proofs.Common.{length}
 use Rattle.hq_text.specs.Lines.{lines_of}
 use Rattle.hq_timeline.specs.DraftView.{state_of}
-use Rattle.hq_timeline.proofs.Turns.{Taken}
+use Rattle.hq_text.proofs.LineByLine.{Taken}
+use Rattle.hq_timeline.specs.TextStates.{added}
 use Rattle.hq_timeline.proofs.reading.take_lines.Given as goal
 
 abbrev pub invariant-loop-rest : goal.invariant-loop-rest
-invariant-loop-rest l = Taken (lines_of l.text) (lines_of l.rest) l.before l.count (state_of l.fn.draft) (state_of l.draft)
+invariant-loop-rest l = Taken added (lines_of l.text) (lines_of l.rest) l.before l.count (state_of l.fn.draft) (state_of l.draft)
 
 abbrev pub decreases-loop-rest : goal.decreases-loop-rest
 decreases-loop-rest l = length l.rest

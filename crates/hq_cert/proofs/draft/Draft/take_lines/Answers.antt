@@ -2,7 +2,7 @@ use Rattle.std.proofs.Common.{refl}
 use Rattle.std.proofs.lemmas.List.{map-append}
 use Rattle.hq_cert.specs.DraftView.{state_of}
 use Rattle.hq_cert.specs.View.{line_of}
-use Rattle.hq_cert.proofs.Parts.{ok_is}
+use Rattle.hq_text.proofs.InTurn.{ok_is}
 use Rattle.hq_cert.proofs.Taking.{line_taken}
 use Rattle.hq_cert.proofs.draft.Draft.take_lines.Goals as goal
 

@@ -3,7 +3,7 @@ use Rattle.std.specs.Prelude.{map}
 use Rattle.std.proofs.lemmas.List.{map-append}
 use Rattle.hq_cert.specs.DraftView.{state_of}
 use Rattle.hq_cert.specs.View.{line_of, pair_of}
-use Rattle.hq_cert.proofs.Parts.{ok_is}
+use Rattle.hq_text.proofs.InTurn.{ok_is}
 use Rattle.hq_cert.proofs.Taking.{pair_taken}
 use Rattle.hq_cert.proofs.draft.Draft.take_pairs.Goals as goal
 
