@@ -1,45 +1,206 @@
 //! Plain words on standard error, beside the answer on standard output.
 
 use hq_engines::Status;
-use std::io;
+use std::{fmt, io};
 
 const WORDS: &str = "these words are no packet; `hsaq pack --help` lists the fields";
 
-const JOB_REFUSED: &str =
-    "a text or packet that isn't one; docs/FORMATS.md lists what each code means";
-
-const CONFLICT: &str = "two packets touch the same bytes and are not ordered by fences
-  wr: the first writes what the second reads; ww: both write; rw: the first reads what the second writes
-  Unordered: the second doesn't wait for the first
-  NotReleased: what the first wrote isn't released before the second
-  NotAcquired: it is released, but the second doesn't acquire it";
-
 const STUCK: &str = "these packets can never complete, in any run";
 
-const CERTIFICATE_REFUSED: &str = "a certificate that isn't one, or doesn't hold for this job
-  K1 to K5: a faulty text; V1: the order; V2 N: line N; V3 P R: no pair lines of P and R; V4 P R: a wrong pair line";
+/// What the codes of refusals mean. A number that stands behind a code goes behind its meaning.
+const MEANINGS: [(&str, &str); 44] = [
+    (
+        "J1",
+        "a byte that is neither printable ASCII nor a line feed",
+    ),
+    (
+        "J2",
+        "an unknown or misplaced first word, a wrong count of words, a bad name or code, or a line behind `end`",
+    ),
+    ("J3", "a word that is no number, or is out of its range"),
+    ("J4", "one more than the limits allow"),
+    (
+        "J5",
+        "a name, handle, object or address that its own kind has already",
+    ),
+    (
+        "J6",
+        "an agent or a queue that wasn't declared, or a packet before any queue",
+    ),
+    ("J7", "a buffer that shares a byte with an earlier one"),
+    ("J8", "a packet that is refused"),
+    ("J9", "a wrong digit, or a wrong count of digits"),
+    ("J10", "a queue's size that is no power of two"),
+    (
+        "J11",
+        "more packets than the queue has slots, which takes `hsaq 2`",
+    ),
+    (
+        "J12",
+        "a kernel object, kernarg address or signal that wasn't declared",
+    ),
+    ("J13", "a footprint that is refused"),
+    ("J14", "a barrier-OR whose dependencies are all null"),
+    (
+        "J15",
+        "more packets complete on a signal than it starts with, handle",
+    ),
+    (
+        "J16",
+        "fewer packets complete on a signal that a barrier packet waits on than it starts with, handle",
+    ),
+    ("J17", "an unknown type of service"),
+    ("J18", "the text ends without `end`"),
+    ("J19", "more than 65,536 work-items"),
+    ("P1", "a reserved format"),
+    ("P2", "a vendor-specific packet"),
+    ("P3", "an invalid packet"),
+    ("P4", "reserved bits of the header that aren't zero"),
+    ("P5", "a reserved fence scope"),
+    ("P6", "a reserved field that isn't zero, at byte"),
+    ("P7", "a count of dimensions other than 1, 2 or 3"),
+    ("P8", "a used dimension of size zero"),
+    ("P9", "an unused dimension of a size other than one"),
+    ("F1", "a range that passes 2^64"),
+    ("F2", "a range that isn't within one buffer"),
+    ("F3", "a kernarg block shorter than the arguments"),
+    ("F4", "an unknown type of service"),
+    (
+        "K1",
+        "an unknown or misplaced first word, an unknown rule or kind, a wrong count of words, or a line behind `end`",
+    ),
+    (
+        "K2",
+        "no number up to 4294967295, a line's number out of turn, or `=` where it may not stand",
+    ),
+    (
+        "K3",
+        "a citation of a line that isn't lower, or isn't there",
+    ),
+    ("K4", "the text ends without `end`"),
+    ("V1", "the packets can't come in this order"),
+    ("V2", "a line that doesn't follow from what it cites: line"),
+    ("V3", "a conflict without its pair line: packets"),
+    ("V4", "a pair line that doesn't hold: packets"),
+    (
+        "E1",
+        "an unknown or misplaced first word, a wrong count of words, or a line behind `end`",
+    ),
+    ("E2", "no number up to 4294967295"),
+    ("E3", "the text ends without `end`"),
+    (
+        "event",
+        "an event isn't enabled after those before it: counted from 0, number",
+    ),
+];
 
-const RUN_REFUSED: &str =
-    "a timeline that isn't one (E1 to E3), or an event that isn't enabled where it stands";
+/// What a code means; none where the word is no code but a number.
+fn meaning_of(word: &str) -> Option<&'static str> {
+    for (code, meaning) in &MEANINGS {
+        if *code == word {
+            return Some(meaning);
+        }
+    }
+    None
+}
 
-/// What an answer means, where it doesn't say so itself.
-fn meaning(status: Status) -> Option<&'static str> {
-    match status {
-        Status::Done | Status::Memory | Status::File => None,
-        Status::Words => Some(WORDS),
-        Status::JobRefused => Some(JOB_REFUSED),
-        Status::Conflict => Some(CONFLICT),
-        Status::Stuck => Some(STUCK),
-        Status::CertificateRefused => Some(CERTIFICATE_REFUSED),
-        Status::RunRefused => Some(RUN_REFUSED),
+/// A refusal of a text in plain words, by the answer's first line.
+#[derive(Clone, Copy, Debug)]
+struct Refusal<'a> {
+    text: &'a str,
+    answer: &'a str,
+}
+
+impl<'a> fmt::Display for Refusal<'a> {
+    fn fmt<W: fmt::Write>(&self, f: &mut fmt::Formatter<W>) -> fmt::Result {
+        let words = self.answer.split_ascii_whitespace().skip(1);
+        for (place, word) in words.enumerate() {
+            match meaning_of(word) {
+                Some(meaning) if place == 0 => write!(f, "{meaning}")?,
+                Some(meaning) => write!(f, ": {meaning}")?,
+                None if word == "line" => write!(f, "in the {}, line", self.text)?,
+                None => write!(f, " {word}")?,
+            }
+        }
+        Ok(())
     }
 }
 
-/// Says what an answer means. Where standard error fails, nothing is said.
-pub fn explain(rt: &HostRuntime, status: Status) {
-    if let Some(text) = meaning(status) {
-        let _ = eprintln!(rt; "hsaq: {text}");
+/// A conflict of packets `p` and `r` in plain words, by the answer's words.
+#[derive(Clone, Copy, Debug)]
+struct Conflict<'a> {
+    p: &'a str,
+    r: &'a str,
+    kind: &'a str,
+    why: &'a str,
+}
+
+impl<'a> Conflict<'a> {
+    /// The conflict that an answer's first line tells of.
+    fn of_answer(answer: &'a str) -> Option<Conflict<'a>> {
+        let mut words = answer.split_ascii_whitespace().skip(1);
+        Some(Conflict {
+            p: words.next()?,
+            r: words.next()?,
+            kind: words.next()?,
+            why: words.next()?,
+        })
     }
+}
+
+impl<'a> fmt::Display for Conflict<'a> {
+    fn fmt<W: fmt::Write>(&self, f: &mut fmt::Formatter<W>) -> fmt::Result {
+        let Conflict { p, r, kind, why } = *self;
+        if kind == "wr" {
+            write!(f, "packet {r} reads what packet {p} writes, but ")?;
+        } else if kind == "ww" {
+            write!(f, "packets {p} and {r} write the same bytes, but ")?;
+        } else {
+            write!(f, "packet {r} writes what packet {p} reads, but ")?;
+        }
+        if why == "Unordered" {
+            write!(
+                f,
+                "nothing makes packet {r} wait until packet {p} is complete"
+            )
+        } else if why == "NotReleased" {
+            write!(
+                f,
+                "no release fence makes what packet {p} wrote visible before packet {r}"
+            )
+        } else {
+            write!(
+                f,
+                "no acquire fence lets packet {r} see what packet {p} released"
+            )
+        }
+    }
+}
+
+/// Says what a conflict is.
+fn explain_conflict(rt: &HostRuntime, answer: &str) -> io::Result<()> {
+    match Conflict::of_answer(answer) {
+        Some(conflict) => eprintln!(rt; "hsaq: {conflict}"),
+        None => Ok(()),
+    }
+}
+
+/// Says what is wrong with a text.
+fn explain_refusal(rt: &HostRuntime, text: &str, answer: &str) -> io::Result<()> {
+    eprintln!(rt; "hsaq: {}", Refusal { text, answer })
+}
+
+/// Says what an answer means, by its first line. Where standard error fails, nothing is said.
+pub fn explain(rt: &HostRuntime, status: Status, answer: &str) {
+    let _ = match status {
+        Status::Done | Status::Memory | Status::File => Ok(()),
+        Status::Words => eprintln!(rt; "hsaq: {WORDS}"),
+        Status::JobRefused => explain_refusal(rt, "job", answer),
+        Status::Conflict => explain_conflict(rt, answer),
+        Status::Stuck => eprintln!(rt; "hsaq: {STUCK}"),
+        Status::CertificateRefused => explain_refusal(rt, "certificate", answer),
+        Status::RunRefused => explain_refusal(rt, "timeline", answer),
+    };
 }
 
 /// Says why a file can't be opened. Where standard error fails, nothing is said.

@@ -2,9 +2,11 @@
 #![tactic(auto)]
 
 mod explaining;
+mod heard;
 mod input;
 
 use explaining::{explain, explain_unopened};
+use heard::Heard;
 use hq_engines::{
     Status, audit_engine, check_engine, pack_engine, replay_engine, say_file, say_memory,
     show_engine,
@@ -99,10 +101,11 @@ fn answer<W: Write>(
 fn run(rt: &HostRuntime, threads: &(impl Threads + Sync), asked: &Asked<'_>) -> Status {
     let mut stdout = rt.stdout();
     match BufWriter::new(rt.alloc(), &mut stdout) {
-        Ok(mut writer) => {
+        Ok(writer) => {
+            let mut writer = Heard::new(writer);
             let status = answer(rt, threads, asked, &mut writer);
             let status = flushed(&mut writer, status);
-            explain(rt, status);
+            explain(rt, status, writer.first_line());
             status
         }
         Err(_) => say_memory(&mut rt.stdout()),
