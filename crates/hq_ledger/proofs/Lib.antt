@@ -1,0 +1,3 @@
+mod Notes
+mod Homes
+mod Clear

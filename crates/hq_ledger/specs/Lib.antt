@@ -1,0 +1,5 @@
+pub mod Grants
+pub mod Pieces
+pub mod Trays
+pub mod Cells
+pub mod Lending
