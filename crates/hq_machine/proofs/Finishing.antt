@@ -32,7 +32,7 @@ signalled_keeps job v done k = record {
 }
 
 pub moved_finish : (job : Job) (v : StateValue) (p : ℕ) → IsStateOf job v → IfSome (packet job p).done (λ s. s < length v.signals) → MayFinish job (state_of job v) p
-    → Moved job v (Event.Complete p) (phased (signalled v (packet job p).done) p machine.Phase.Complete)
+    → Moved job v (Event.Finish p) (phased (signalled v (packet job p).done) p machine.Phase.Complete)
 moved_finish job v p k below may =
     let there = may.is_packet in
     let mid = signalled v (packet job p).done in
@@ -43,5 +43,5 @@ moved_finish job v p k below may =
     phased_is job mid p machine.Phase.Complete high ∙ (λ i. record (completed job (state_of job v) p) { signal = signal i }) in
     record { is = phased_keeps job mid p machine.Phase.Complete (signalled_keeps job v (packet job p).done k); step = (there, may.active, may.read, may.stored, may.released, e) }
 
-pub not_finishing : (job : Job) (v : StateValue) (p : ℕ) → (MayFinish job (state_of job v) p → ⊥) → Enabled job v (Event.Complete p) → ⊥
+pub not_finishing : (job : Job) (v : StateValue) (p : ℕ) → (MayFinish job (state_of job v) p → ⊥) → Enabled job v (Event.Finish p) → ⊥
 not_finishing job v p n (new, step) = n (record { is_packet = step.0; active = step.1; read = step.2; stored = step.3; released = step.4 })

@@ -11,7 +11,7 @@ use Rattle.hq_model.specs.Machine as machine
 use Rattle.hq_model.specs.Machine.{State, Event, Steps, Released, is_dirty}
 use Rattle.hq_model.specs.Machine.Event.{PushLane, PushAgent}
 use Rattle.hq_model.specs.Journal.{Pushes, numbers, packets_of, only_if, dirty_bytes, lane_pushes, agent_pushes}
-use Rattle.hq_model.specs.Journal.Coarse.{Finish, Rest}
+use Rattle.hq_model.specs.Journal.Coarse.{Complete, Rest}
 use Rattle.hq_model.specs.Theorems.{Valid}
 use Rattle.hq_model.specs.View.{copies_of}
 use Rattle.hq_model.proofs.Places.{in_first, in_filter, in_numbers}
@@ -205,9 +205,9 @@ released job p old mid last inside a b = record {
       (stands_map (PushAgent (agent_of job p)) (dirty_bytes job (mid.agent (agent_of job p))) c (dirty_stands job (mid.agent (agent_of job p)) c (inside.agents (agent_of job p) c d) was))));
 }
 
-pub applied_finish : (job : Job) (v : StateValue) (p lane lanes agent agents : ℕ) (c : CopiesValue) → Valid job → IsStateOf job v → IsWorked job (state_of job v) p → IfSome (packet job p).done (λ s. s < length v.signals) → LanesOf job p lane lanes → AgentsOf job p agent agents → WrittenBack v.copies lane lanes agent agents c
-    → Applied job v (Finish p) (phased (signalled (recopied v c) (packet job p).done) p machine.Phase.Complete)
-applied_finish job v p lane lanes agent agents c valid k worked below of on w =
+pub applied_complete : (job : Job) (v : StateValue) (p lane lanes agent agents : ℕ) (c : CopiesValue) → Valid job → IsStateOf job v → IsWorked job (state_of job v) p → IfSome (packet job p).done (λ s. s < length v.signals) → LanesOf job p lane lanes → AgentsOf job p agent agents → WrittenBack v.copies lane lanes agent agents c
+    → Applied job v (Complete p) (phased (signalled (recopied v c) (packet job p).done) p machine.Phase.Complete)
+applied_complete job v p lane lanes agent agents c valid k worked below of on w =
     let all = written job v lane lanes agent agents c valid k w in
     let next = recopied v c in
     let pushes : Pushes job (state_of job v) (lanes_of job p) (agents_of job p) (state_of job next) =
@@ -223,13 +223,13 @@ applied_finish job v p lane lanes agent agents c valid k worked below of on w =
     let moved = moved_finish job next p all.is below may in
     record { is = moved.is; happens = (state_of job next, pushes, (_, moved.step, refl)) }
 
-pub possible_finish : (job : Job) (v : StateValue) (p lane lanes agent agents : ℕ) → Valid job → IsStateOf job v → IsWorked job (state_of job v) p → IfSome (packet job p).done (λ s. s < length v.signals) → LanesOf job p lane lanes → AgentsOf job p agent agents
-    → Possible job v (Finish p)
-possible_finish job v p lane lanes agent agents valid k worked below of on =
+pub possible_complete : (job : Job) (v : StateValue) (p lane lanes agent agents : ℕ) → Valid job → IsStateOf job v → IsWorked job (state_of job v) p → IfSome (packet job p).done (λ s. s < length v.signals) → LanesOf job p lane lanes → AgentsOf job p agent agents
+    → Possible job v (Complete p)
+possible_complete job v p lane lanes agent agents valid k worked below of on =
     let (c, w) = can_write_back v.copies lane lanes agent agents (within_of job v valid k) of.rising (omega (arith, of.within, k.lengths.lanes)) on.rising (omega (arith, on.within, k.lengths.agents)) in
-    (_, (applied_finish job v p lane lanes agent agents c valid k worked below of on w).happens)
+    (_, (applied_complete job v p lane lanes agent agents c valid k worked below of on w).happens)
 
-pub not_worked : (job : Job) (v : StateValue) (p : ℕ) → (IsWorked job (state_of job v) p → ⊥) → Possible job v (Finish p) → ⊥
+pub not_worked : (job : Job) (v : StateValue) (p : ℕ) → (IsWorked job (state_of job v) p → ⊥) → Possible job v (Complete p) → ⊥
 not_worked job v p none (new, (mid, (between, a, b), (last, step, is))) =
     let old = state_of job v in
     let first = lane_same job old (lane_pushes job old (lanes_of job p)) between (each_lane_push job old (lanes_of job p)) a in

@@ -2,7 +2,7 @@
 use Rattle.std.proofs.Common.{IfSome, IsSome, refl}
 use Rattle.hq_model.specs.Job.{Job}
 use Rattle.hq_model.specs.Journal.{Coarse}
-use Rattle.hq_model.specs.Journal.Coarse.{One, Fetch, Deliver, Finish, Rest}
+use Rattle.hq_model.specs.Journal.Coarse.{One, Fetch, Deliver, Complete, Rest}
 use Rattle.hq_machine.specs.State.{StateValue}
 use Rattle.hq_machine.specs.View.{Moved, Refused, Applied, NotApplied}
 use Rattle.hq_machine.specs.Events.{one_of}
@@ -13,7 +13,7 @@ pub applied_one : (job : Job) (old : StateValue) (event : Coarse) (new : StateVa
 applied_one job old (One e) new some moved = record { is = moved.is; happens = (_, moved.step, refl) }
 applied_one job old (Fetch p) new some moved = absurd cc
 applied_one job old (Deliver p) new some moved = absurd cc
-applied_one job old (Finish p) new some moved = absurd cc
+applied_one job old (Complete p) new some moved = absurd cc
 applied_one job old Rest new some moved = absurd cc
 
 pub not_applied_one : (job : Job) (v : StateValue) (event : Coarse) (why : StepFault) → IsSome (one_of event) → IfSome (one_of event) (λ e. Refused job v e why) → NotApplied job v event why
@@ -21,5 +21,5 @@ not_applied_one job v (One e) fault.NotEnabled some refused = λ possible. refus
 not_applied_one job v (One e) fault.Memory some refused = (refused.0, (refused.0, refused.1, refl))
 not_applied_one job v (Fetch p) why some refused = absurd cc
 not_applied_one job v (Deliver p) why some refused = absurd cc
-not_applied_one job v (Finish p) why some refused = absurd cc
+not_applied_one job v (Complete p) why some refused = absurd cc
 not_applied_one job v Rest why some refused = absurd cc

@@ -37,7 +37,7 @@ within_step job old (Store p i) new valid k (there, active, read, within, fresh,
   lanes = put_inside (IsByte job) old.lane p (slice_index (packet job p).writes i) _ k.lanes (λ d. valid.writes p i 0 within);
   agents = k.agents;
 })
-within_step job old (Event.Complete p) new valid k step = subst (DirtyWithin job) (sym step.5) (record { lanes = k.lanes; agents = k.agents })
+within_step job old (Event.Finish p) new valid k step = subst (DirtyWithin job) (sym step.5) (record { lanes = k.lanes; agents = k.agents })
 within_step job old (PushLane p b) new valid k (v, there, within, held, is) = subst (DirtyWithin job) (sym is) (record {
   lanes = put_inside (IsByte job) old.lane p b (clean v) k.lanes (λ d. within);
   agents = put_inside (IsByte job) old.agent (agent_of job p) b (dirty v) k.agents (λ d. within);

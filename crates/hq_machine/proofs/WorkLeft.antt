@@ -44,7 +44,7 @@ pub store_left : (job : Job) (v : StateValue) (p i : ℕ) → MayStore job (stat
 store_left job v p i m = (Store p i, refl, refl, (_, (m.is_packet, m.active, m.read, m.few, m.fresh, refl)))
 
 pub finish_left : (job : Job) (v : StateValue) (p : ℕ) → MayFinish job (state_of job v) p → IsLeft job v (event.Finish p)
-finish_left job v p m = (Event.Complete p, refl, refl, (_, (m.is_packet, m.active, m.read, m.stored, m.released, refl)))
+finish_left job v p m = (Event.Finish p, refl, refl, (_, (m.is_packet, m.active, m.read, m.stored, m.released, refl)))
 
 dirty_value : (copy : Option Copy) → is_dirty copy ≡ true → (value : ℕ) × (copy ≡ dirty value)
 dirty_value None e = absurd (true≢false (sym e))
@@ -128,7 +128,7 @@ no_work_left job v submit launch packets agents Submit new work step = submit (n
 no_work_left job v submit launch packets agents (Launch q) new work step = launch q (new, step)
 no_work_left job v submit launch packets agents (Observe p slot) new work step = (packets p).wait.observe slot (new, step)
 no_work_left job v submit launch packets agents (Enter p) new work step = (packets p).wait.enter (new, step)
-no_work_left job v submit launch packets agents (Event.Complete p) new work step = (packets p).active.complete (new, step)
+no_work_left job v submit launch packets agents (Event.Finish p) new work step = (packets p).active.complete (new, step)
 no_work_left job v submit launch packets agents (Read p i) new work step = (packets p).active.read i (new, step)
 no_work_left job v submit launch packets agents (Store p i) new work step = (packets p).active.store i (new, step)
 no_work_left job v submit launch packets agents (PushLane p b) new work step = (packets p).push b (new, step)

@@ -4,7 +4,7 @@ use Rattle.hq_machine.specs.declared.event.Event.{Event}
 use Rattle.hq_machine.specs.declared.event.Event.TheVariants as event
 use Rattle.hq_model.specs.Machine as machine
 use Rattle.hq_model.specs.Journal.{Coarse}
-use Rattle.hq_model.specs.Journal.Coarse.{One, Fetch, Deliver, Finish, Rest}
+use Rattle.hq_model.specs.Journal.Coarse.{One, Fetch, Deliver, Complete, Rest}
 
 abbrev pub coarse_of : Event → Coarse
 coarse_of event.Submit = One machine.Event.Submit
@@ -13,11 +13,11 @@ coarse_of (event.Observe packet slot) = One (machine.Event.Observe packet slot)
 coarse_of (event.Enter packet) = One (machine.Event.Enter packet)
 coarse_of (event.Fetch packet) = Fetch packet
 coarse_of (event.Deliver packet) = Deliver packet
-coarse_of (event.Complete packet) = Finish packet
+coarse_of (event.Complete packet) = Complete packet
 coarse_of event.Rest = Rest
 coarse_of (event.Read packet entry) = One (machine.Event.Read packet entry)
 coarse_of (event.Store packet entry) = One (machine.Event.Store packet entry)
-coarse_of (event.Finish packet) = One (machine.Event.Complete packet)
+coarse_of (event.Finish packet) = One (machine.Event.Finish packet)
 coarse_of (event.PushLane packet byte) = One (machine.Event.PushLane packet byte)
 coarse_of (event.PushAgent agent byte) = One (machine.Event.PushAgent agent byte)
 coarse_of (event.FillLane packet byte) = One (machine.Event.FillLane packet byte)
@@ -30,7 +30,7 @@ abbrev pub one_of : Coarse → Option machine.Event
 one_of (One event) = Some event
 one_of (Fetch packet) = None
 one_of (Deliver packet) = None
-one_of (Finish packet) = None
+one_of (Complete packet) = None
 one_of Rest = None
 
 abbrev pub single_of : Event → Option machine.Event

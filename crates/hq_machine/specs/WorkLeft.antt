@@ -26,7 +26,7 @@ pub record WaitIdle (job : Job) (v : StateValue) (p : ℕ) : Type 0 where
 pub record ActiveIdle (job : Job) (v : StateValue) (p : ℕ) : Type 0 where
   pub read : NoneOf job v (machine.Event.Read p)
   pub store : NoneOf job v (machine.Event.Store p)
-  pub complete : Enabled job v (machine.Event.Complete p) → ⊥
+  pub complete : Enabled job v (machine.Event.Finish p) → ⊥
 
 -- No step of the packet's own is enabled, nor a push from its lane.
 pub record PacketIdle (job : Job) (v : StateValue) (p : ℕ) : Type 0 where

@@ -6,7 +6,7 @@ ghost use Rattle.hq_job.specs.Plan.{plan};
 ghost use Rattle.hq_machine.specs.Pushes.{maps_of, push_of, PushedBy, Within, Cleaned, Swept, WrittenBack, WroteBack, IsWorked};
 ghost use Rattle.hq_machine.specs.View.{IsStateOf, Applied, NotApplied, recopied, state_of};
 ghost use Rattle.hq_model.specs.Job.{IsPacket};
-ghost use Rattle.hq_model.specs.Journal.Coarse.{Finish, Rest};
+ghost use Rattle.hq_model.specs.Journal.Coarse.{Complete, Rest};
 
 use crate::fault::StepFault;
 use crate::packets::{agent_of, done_of, queue_of, release_of};
@@ -162,9 +162,9 @@ impl State {
     #[tactic(auto, using(crate::proofs::Releases::within_of))]
     pub(crate) fn complete(&mut self, job: &Job, packet: u32) -> Result<(), StepFault>
         requires { IsStateOf (plan job.now) self.old }
-        ensures ok { OnOk result (Applied (plan job.now) self.old (Finish packet) self.new) }
+        ensures ok { OnOk result (Applied (plan job.now) self.old (Complete packet) self.new) }
         ensures err { OnErr result (self.new ≡ self.old) }
-        ensures fault { IfErr result (λ f. NotApplied (plan job.now) self.old (Finish packet) f) }
+        ensures fault { IfErr result (λ f. NotApplied (plan job.now) self.old (Complete packet) f) }
     {
         job.valid();
         let number = packet as usize;

@@ -193,7 +193,7 @@ impl State {
     #[tactic(auto, using(crate::proofs::WorkLeft::finish_left, crate::proofs::Finishing::not_finishing))]
     fn finish_left(&self, job: &Job, packet: u32) -> Option<Event>
         requires { IsStateOf (plan job.now) self.now }
-        ensures { MatchOption result (Enabled (plan job.now) self.now (Step.Complete packet) → ⊥) (λ event. IsLeft (plan job.now) self.now event) }
+        ensures { MatchOption result (Enabled (plan job.now) self.now (Step.Finish packet) → ⊥) (λ event. IsLeft (plan job.now) self.now event) }
     {
         if !self.may_finish(job, packet as usize) {
             return None;

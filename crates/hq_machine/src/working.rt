@@ -88,9 +88,9 @@ impl State {
     /// Completes the packet.
     pub(crate) fn finish(&mut self, job: &Job, packet: u32) -> Result<(), StepFault>
         requires { IsStateOf (plan job.now) self.old }
-        ensures ok { OnOk result (Moved (plan job.now) self.old (Event.Complete packet) self.new) }
+        ensures ok { OnOk result (Moved (plan job.now) self.old (Event.Finish packet) self.new) }
         ensures err { OnErr result (self.new ≡ self.old) }
-        ensures fault { IfErr result (λ f. Refused (plan job.now) self.old (Event.Complete packet) f) }
+        ensures fault { IfErr result (λ f. Refused (plan job.now) self.old (Event.Finish packet) f) }
     {
         let number = packet as usize;
         if !self.may_finish(job, number) {

@@ -8,7 +8,7 @@ use Rattle.hq_model.specs.Order.{In, place}
 use Rattle.hq_model.specs.Machine.{State, Copy, Event, Step, Steps, IsByte, Released, is_dirty, without_clean, clean, dirty, put2, start, completed}
 use Rattle.hq_model.specs.Machine.Event.{Submit, Launch, Observe, Enter, Read, Store, PushLane, PushAgent, FillLane, FillAgent, DropLane, DropAgent}
 use Rattle.hq_model.specs.Journal.{numbers, packets_of, dirty_bytes, lane_pushes, agent_pushes, only_if}
-use Rattle.hq_model.specs.Theorems.{Valid, FinishPossible}
+use Rattle.hq_model.specs.Theorems.{Valid, CompletePossible}
 use Rattle.hq_model.proofs.Places.{at_place, place_of_packets, numbers_below, numbers_once, in_first, in_rest, in_cons, in_filter, in_numbers}
 use Rattle.hq_model.proofs.Sums.{put2_same, put2_other}
 use Rattle.hq_model.proofs.Journals.{steps_append}
@@ -52,7 +52,7 @@ inside_step job old (Store p i) new valid k (there, active, read, within, fresh,
   lanes = put_inside (IsByte job) old.lane p (slice_index (packet job p).writes i) _ k.lanes (λ d. valid.writes p i 0 within);
   agents = k.agents;
 })
-inside_step job old (Event.Complete p) new valid k step = subst (Inside job) (sym step.5) (record { lanes = k.lanes; agents = k.agents })
+inside_step job old (Event.Finish p) new valid k step = subst (Inside job) (sym step.5) (record { lanes = k.lanes; agents = k.agents })
 inside_step job old (PushLane p b) new valid k (v, there, within, held, is) = subst (Inside job) (sym is) (record {
   lanes = put_inside (IsByte job) old.lane p b (clean v) k.lanes (λ d. within);
   agents = put_inside (IsByte job) old.agent (agent_of job p) b (dirty v) k.agents (λ d. within);
@@ -195,8 +195,8 @@ module _ (job : Job) (p : ℕ) (old mid last : State) where
         (stands_map (PushAgent (agent_of job p)) (dirty_bytes job (mid.agent (agent_of job p))) c (dirty_stands job (mid.agent (agent_of job p)) c (inside.agents (agent_of job p) c d) was))));
   }
 
-pub finish_possible : FinishPossible
-finish_possible job events old p valid run there active read stored =
+pub complete_possible : CompletePossible
+complete_possible job events old p valid run there active read stored =
     let lanes = only_if (reaches (packet job p).release scope.Agent) (packets_of job (λ l. (packet job l).queue == (packet job p).queue)) in
     let agents = only_if (reaches (packet job p).release scope.System) (agent_of job p ∷ []) in
     let (mid, a) =

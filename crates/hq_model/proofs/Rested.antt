@@ -216,7 +216,7 @@ coarse_law job old new = record {
   deliver = λ p h i l.
       stores_done job old (map (Store p) (numbers (length (packet job p).writes))) new (each_map is_store (Store p) (numbers (length (packet job p).writes)) (λ i. refl)) h.1 p i
       (inr (stands_map (Store p) (numbers (length (packet job p).writes)) i (in_numbers (length (packet job p).writes) i l)));
-  finish = λ p (mid, pushes, (last, step, is)). ap (λ s. s.phase p) is ∙ ap (λ s. s.phase p) step.5 ∙ put_same mid.phase p Complete p refl;
+  complete = λ p (mid, pushes, (last, step, is)). ap (λ s. s.phase p) is ∙ ap (λ s. s.phase p) step.5 ∙ put_same mid.phase p Complete p refl;
   rest_phases = rest_phases job old new;
   rest_lanes = rest_lanes job old new;
   rest_agents = rest_agents job old new;
@@ -238,7 +238,7 @@ no_work job state done lanes agents (Observe p slot) new w step = (other_phase (
 no_work job state done lanes agents (Enter p) new w step = (other_phase (state.phase p) (done p step.0)).2 step.1
 no_work job state done lanes agents (Read p i) new w step = (other_phase (state.phase p) (done p step.0)).3 step.1
 no_work job state done lanes agents (Store p i) new w step = (other_phase (state.phase p) (done p step.0)).3 step.1
-no_work job state done lanes agents (Event.Complete p) new w step = (other_phase (state.phase p) (done p step.0)).3 step.1
+no_work job state done lanes agents (Event.Finish p) new w step = (other_phase (state.phase p) (done p step.0)).3 step.1
 no_work job state done lanes agents (PushLane p b) new w (v, there, within, held, is) = dirty_is (state.lane p b) v held (lanes p b there within)
 no_work job state done lanes agents (PushAgent a b) new w (v, there, within, held, is) = dirty_is (state.agent a b) v held (agents a b there within)
 no_work job state done lanes agents event new w step = absurd (true≢false (sym w))

@@ -1,6 +1,6 @@
 //! The machine's steps, one by one and in runs of any job.
 
-ghost use Rattle.hq_model.specs.Theorems.{StepsDetermined, WithoutRings, OrderLaw, SignalLaw, BoundLaw, StuckLaw, FinishPossible, JournalsRun};
+ghost use Rattle.hq_model.specs.Theorems.{StepsDetermined, WithoutRings, OrderLaw, SignalLaw, BoundLaw, StuckLaw, CompletePossible, JournalsRun};
 ghost use Rattle.hq_model.specs.Moves.{CopiesMoveAlways, FillsUnseenAlways, PushesWriteAlways, FenceLaw};
 ghost use Rattle.hq_model.specs.Journal.{CoarseLaw};
 
@@ -55,8 +55,8 @@ pub fn stuck_law()
 {}
 
 /// In every run a packet that has read and stored all can complete, once pushes have done what its release asks.
-pub fn finish_possible()
-    ensures { FinishPossible }
+pub fn complete_possible()
+    ensures { CompletePossible }
 {}
 
 /// What a coarse event leaves: all read, all stored, complete, or nothing dirty.

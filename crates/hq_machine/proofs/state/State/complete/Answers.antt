@@ -2,13 +2,13 @@ use Rattle.std.proofs.Common.{◌<◌, IfSome, length, refl, sym, ◌∙◌, ap,
 use Rattle.std.proofs.lemmas.Bool.{true≢false}
 use Rattle.hq_job.specs.Plan.{plan}
 use Rattle.hq_model.specs.Job.{packet}
-use Rattle.hq_model.specs.Journal.Coarse.{Finish}
+use Rattle.hq_model.specs.Journal.{Coarse}
 use Rattle.hq_model.specs.Machine.Phase.{Complete}
 use Rattle.hq_machine.specs.State.{StateValue}
 use Rattle.hq_machine.specs.View.{Applied, phased, signalled, recopied}
 use Rattle.hq_machine.proofs.EachEntry.{no_memory_within}
 use Rattle.hq_machine.proofs.FenceBacks.{reached, written}
-use Rattle.hq_machine.proofs.Releases.{applied_finish, possible_finish, not_worked}
+use Rattle.hq_machine.proofs.Releases.{applied_complete, possible_complete, not_worked}
 use Rattle.hq_machine.proofs.state.State.complete.Goals as goal
 
 pub returns-then-not-is_worked-clause-fault : goal.returns-then-not-is_worked-clause-fault
@@ -25,7 +25,7 @@ returns-in_err-write_back-clause-fault c =
     let worked = c.is_worked.ensures.0 c.if-not-is_worked.false in
     let of = c.queue_of-numbers.ensures in
     let r = reached job p c.queue_of-numbers.result.start c.queue_of-numbers.result.end (packet job p).release c.valid.ensures.valid worked.is_packet of.are of.rising of.within refl in
-    no_memory_within job v (Finish p) c.from_residual.result c.in_err-write_back.field-0.0 (possible_finish job v p r.lane r.lanes r.agent r.agents c.valid.ensures.valid c.requires worked there r.of r.on) c.in_err-write_back.ensures.memory c.from_residual.ensures.1
+    no_memory_within job v (Coarse.Complete p) c.from_residual.result c.in_err-write_back.field-0.0 (possible_complete job v p r.lane r.lanes r.agent r.agents c.valid.ensures.valid c.requires worked there r.of r.on) c.in_err-write_back.ensures.memory c.from_residual.ensures.1
 
 pub returns-clause-ok : goal.returns-clause-ok
 returns-clause-ok c =
@@ -39,7 +39,7 @@ returns-clause-ok c =
     let of = c.queue_of-numbers.ensures in
     let back = c.in_ok-write_back.ensures.ok in
     let r = reached job p c.queue_of-numbers.result.start c.queue_of-numbers.result.end (packet job p).release c.valid.ensures.valid worked.is_packet of.are of.rising of.within refl in
-    subst (Applied job v (Finish p))
+    subst (Applied job v (Coarse.Complete p))
     (sym (c.set_phase.ensures ∙ ap (λ (x : StateValue). phased x p Complete) (c.decrement.ensures ∙ ap (λ (x : StateValue). signalled x c.done_of-done.result) back.state ∙ ap (signalled (recopied v back.copies)) signal.is)))
-    (applied_finish job v p r.lane r.lanes r.agent r.agents back.copies c.valid.ensures.valid c.requires worked there r.of r.on
+    (applied_complete job v p r.lane r.lanes r.agent r.agents back.copies c.valid.ensures.valid c.requires worked there r.of r.on
     (written job v p c.queue_of-numbers.result.start c.queue_of-numbers.result.end back.copies (packet job p).release c.valid.ensures.valid c.requires worked.is_packet of.are of.rising of.within refl back.released))
