@@ -3,3 +3,4 @@ pub mod Tasks
 pub mod Table
 pub mod Conflicts
 pub mod Laws
+pub mod Counts

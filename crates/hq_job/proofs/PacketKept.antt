@@ -12,17 +12,20 @@ use Rattle.hq_packet.specs.Parts.{completion_of}
 use Rattle.hq_footprint.specs.declared.footprint.Work.{Work}
 use Rattle.hq_footprint.specs.Bytes.{read_entries, written_bytes}
 use Rattle.hq_footprint.specs.Table.{no_work, service_call}
-use Rattle.hq_footprint.specs.Tasks.{Suits}
+use Rattle.hq_footprint.specs.Tasks.{Suits, SuitsTwo}
+use Rattle.hq_footprint.specs.declared.footprint.Range.{Range}
+use Rattle.hq_footprint.specs.declared.task.Task.TheVariants as task
 use Rattle.hq_footprint.proofs.TaskLaws.{kernels_suit, services_suit}
 use Rattle.hq_signals.specs.Table.{OpenSignal, handles}
 use Rattle.hq_model.specs.Job.Kind.{BarrierOr}
 use Rattle.hq_job.specs.declared.rows.Placed.{Placed}
 use Rattle.hq_job.specs.Plan.{kind_of}
-use Rattle.hq_job.specs.Tables.{Tables, IsUndeclared, IsNullOr, NoneApplies, signal_number, total_of, in_bytes, code_at, items_of, placed_of, work_of, noted_by, deps_of, packet_tests, with_packet}
+use Rattle.hq_job.specs.Ranges.{RangesSuit}
+use Rattle.hq_job.specs.Tables.{Tables, IsUndeclared, IsNullOr, NoneApplies, signal_number, total_of, in_bytes, range_in_bytes, code_at, items_of, placed_of, work_of, noted_by, deps_of, packet_tests, with_packet}
 use Rattle.hq_job.specs.Fits.{TablesFit, PacketFits, SignalFits}
 use Rattle.hq_job.proofs.Grouped.{some_is}
 use Rattle.hq_job.proofs.Submitted.{at, all_at, within}
-use Rattle.hq_job.proofs.ByteNumbers.{reads_low, writes_low, reads_counted, writes_counted}
+use Rattle.hq_job.proofs.ByteNumbers.{reads_low, writes_low, reads_counted, writes_counted, length_kept, lengths_kept, none_begins}
 use Rattle.hq_job.proofs.SignalNumbers.{number_low, number_handle, is_number, declared_number}
 use Rattle.hq_job.proofs.GroupedSums.{count_push}
 use Rattle.hq_job.proofs.ReadPlan.{on}
@@ -41,6 +44,7 @@ grown ts us queues buffers signals p h =
       reads = All-weaker (λ b. b < total_of ts.buffers) (λ b. b < total_of us.buffers) (λ b l. omega arith) (read_entries p.bytes) h.reads;
       writes = All-weaker (λ b. b < total_of ts.buffers) (λ b. b < total_of us.buffers) (λ b l. omega arith) (written_bytes p.bytes) h.writes;
       suits = h.suits;
+      ranges = h.ranges;
       slots = All-weaker (λ o. IfSome o (λ k. k < length ts.signals)) (λ o. IfSome o (λ k. k < length us.signals)) (some_grown (length ts.signals) (length us.signals) signals) p.slots h.slots;
       done = some_grown (length ts.signals) (length us.signals) signals p.done h.done;
       not_null = h.not_null;
@@ -96,6 +100,9 @@ current_last (Some q) n some is = is
 slots_low : (signals : List OpenSignal) (hs : List ℕ) → All (λ o. IfSome o (λ k. k < length signals)) (map (signal_number signals) hs)
 slots_low signals hs = All-map (λ o. IfSome o (λ k. k < length signals)) (signal_number signals) hs (λ k d l. number_low signals (slice_index_or hs k d))
 
+abbrev EachSuits : Work → Type 0
+EachSuits w = (first second : Range) → w.foot.reads ≡ first ∷ second ∷ [] → SuitsTwo w.task first.len second.len w.foot.write.len
+
 -- the work of a packet reads and writes as many bytes as its task asks for
 abbrev IsSuited : Work → Type 0
 IsSuited w = Suits w.task (length (read_entries w.foot)) (length (written_bytes w.foot))
@@ -117,6 +124,31 @@ numbers_suit ts p =
     subst (λ m. Suits w.task m (length (written_bytes (in_bytes ts.buffers w.foot)))) (sym (reads_counted ts.buffers w.foot))
     (subst (λ n. Suits w.task (length (read_entries w.foot)) n) (sym (writes_counted ts.buffers w.foot)) (work_suits ts p))
 
+-- ---- range by range
+
+none_suits : (first second : Range) → no_work.foot.reads ≡ first ∷ second ∷ [] → SuitsTwo task.Nop first.len second.len 0
+none_suits = (services_suit 0x8002 [] 0 no_work refl).each
+
+service_each : (kind : ℕ) (args : List ℕ) (ret : ℕ) (o : Option Work) → service_call kind args ret ≡ o → EachSuits (unwrap_or o no_work)
+service_each kind args ret None e = none_suits
+service_each kind args ret (Some w) e = (services_suit kind args ret w e).each
+
+work_each : (ts : Tables) (p : packet.Packet) → EachSuits (work_of ts p)
+work_each ts (format.Kernel k) = (kernels_suit (code_at ts k.object) (items_of k) _ _ _).each
+work_each ts (format.Agent a) = service_each a.kind a.args a.ret (service_call a.kind a.args a.ret) refl
+work_each ts (format.And b) = none_suits
+work_each ts (format.Or b) = none_suits
+
+ranges_suit : (ts : Tables) (q : ℕ) (p : packet.Packet) → RangesSuit (placed_of ts q p)
+ranges_suit ts q p =
+    let foot = (work_of ts p).foot in
+    record {
+      reads = lengths_kept ts.buffers foot.reads;
+      write = length_kept ts.buffers foot.write;
+      each = work_each ts p;
+      none = All-map (λ r. r.len ≡ 0 → r.at ≡ 0) (range_in_bytes ts.buffers) foot.reads (λ k d l. none_begins ts.buffers (slice_index_or foot.reads k d));
+    }
+
 packet_fits : (ts : Tables) (p : packet.Packet) → TablesFit ts → NoneApplies (packet_tests ts p) → PacketFits ts (placed_of ts (unwrap_or ts.current 0) p)
 packet_fits ts p fits none =
     let foot = (work_of ts p).foot in
@@ -125,6 +157,7 @@ packet_fits ts p fits none =
       reads = reads_low ts.buffers foot none.1.1.1.1.1.1.1.1.1.0;
       writes = writes_low ts.buffers foot none.1.1.1.1.1.1.1.1.1.0;
       suits = numbers_suit ts p;
+      ranges = ranges_suit ts (unwrap_or ts.current 0) p;
       slots = subst (All (λ o. IfSome o (λ k. k < length ts.signals))) (sym (slots_are ts (unwrap_or ts.current 0) p)) (slots_low ts.signals (slots_of p));
       done = number_low ts.signals (completion_of p);
       not_null = not_null ts (unwrap_or ts.current 0) p none.1.1.1.1.1.0 (λ any. none.1.1.1.1.0 (inr any));

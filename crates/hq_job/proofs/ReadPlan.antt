@@ -144,5 +144,5 @@ fits_read ts fits sound zeros =
     record {
       valid = valid ts fits sound zeros;
       limits = limits ts fits;
-      packets = All-weaker (PacketFits ts) (PacketIsRead (value_of ts)) (λ p h. record { reads = h.reads; suits = h.suits; slots = h.slots; done = h.done }) (rows ts) (rows_fit ts fits);
+      packets = All-weaker (PacketFits ts) (PacketIsRead (value_of ts)) (λ p h. record { reads = h.reads; suits = h.suits; ranges = h.ranges; slots = h.slots; done = h.done }) (rows ts) (rows_fit ts fits);
     }

@@ -7,6 +7,7 @@ use Rattle.hq_model.specs.Job.{is_signal}
 use Rattle.hq_model.specs.Job.Kind.{BarrierOr}
 use Rattle.hq_job.specs.declared.rows.Placed.{Placed}
 use Rattle.hq_job.specs.Plan.{kind_of}
+use Rattle.hq_job.specs.Ranges.{RangesSuit}
 use Rattle.hq_job.specs.Tables.{Tables, total_of}
 
 -- the limits
@@ -27,6 +28,7 @@ pub record PacketFits (ts : Tables) (p : Placed) : Type 0 where
   pub writes : All (λ b. b < total_of ts.buffers) (written_bytes p.bytes)
   -- as many bytes are read and written as the task asks for
   pub suits : Suits p.work.task (length (read_entries p.bytes)) (length (written_bytes p.bytes))
+  pub ranges : RangesSuit p
   pub slots : All (λ slot. IfSome slot (λ k. k < length ts.signals)) p.slots
   pub done : IfSome p.done (λ k. k < length ts.signals)
   pub not_null : kind_of p.packet ≡ BarrierOr → (slot : ℕ) × (k : ℕ) × (slice_get p.slots slot ≡ Some (Some k))

@@ -1,5 +1,6 @@
 pub mod Value
 pub mod Plan
+pub mod Ranges
 pub mod View
 pub mod Numbering
 pub mod LineFaults

@@ -8,6 +8,7 @@ use Rattle.hq_footprint.specs.Tasks.{Suits}
 use Rattle.hq_job.specs.declared.rows.Placed.{Placed}
 use Rattle.hq_job.specs.Tables.{total_of}
 use Rattle.hq_job.specs.Plan.{plan}
+use Rattle.hq_job.specs.Ranges.{RangesSuit}
 use Rattle.hq_model.specs.Theorems.{Valid}
 
 abbrev pub value_of : Inside → JobValue
@@ -38,10 +39,11 @@ pub record WithinLimits (job : JobValue) : Type 0 where
   pub arguments : length job.arguments ≤ 256
 
 -- what is known of each packet of a job that was read, beside what the plan's laws ask: what it reads lies in memory, it reads
--- and writes as many bytes as its task asks for, and its signals are there
+-- and writes as many bytes as its task asks for, in all and range by range, and its signals are there
 pub record PacketIsRead (job : JobValue) (p : Placed) : Type 0 where
   pub reads : All (λ b. b < total_of job.buffers) (read_entries p.bytes)
   pub suits : Suits p.work.task (length (read_entries p.bytes)) (length (written_bytes p.bytes))
+  pub ranges : RangesSuit p
   pub slots : All (λ slot. IfSome slot (λ k. k < length job.signals)) p.slots
   pub done : IfSome p.done (λ k. k < length job.signals)
 
