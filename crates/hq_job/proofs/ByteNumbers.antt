@@ -95,7 +95,7 @@ numbers_low buffers r inside = elim (cases_eq r.len 0) [
       | inr fits ↦ fits
     ]
 
--- it is as long as the range, and begins at byte 0 where that is empty
+-- it is as long as the range
 length_of : (buffers : List Bytes) (r : Range) (b : Bool) → (b ≡ true → r.len ≡ 0) → (cond b nowhere (range (unwrap_or (byte_number buffers r.at) 0) r.len)).len ≡ r.len
 length_of buffers r true none = sym (none refl)
 length_of buffers r false none = refl
@@ -106,14 +106,6 @@ length_kept buffers r = length_of buffers r (r.len == 0) (eqb-true r.len 0)
 pub lengths_kept : (buffers : List Bytes) (rs : List Range) → map (λ r. r.len) (map (range_in_bytes buffers) rs) ≡ map (λ r. r.len) rs
 lengths_kept buffers [] = refl
 lengths_kept buffers (r ∷ rs) = let e = length_kept buffers r in let f = lengths_kept buffers rs in cc
-
-begins_of : (buffers : List Bytes) (r : Range) (b : Bool) → (r.len ≡ 0 → b ≡ true) → (cond b nowhere (range (unwrap_or (byte_number buffers r.at) 0) r.len)).len ≡ 0
-    → (cond b nowhere (range (unwrap_or (byte_number buffers r.at) 0) r.len)).at ≡ 0
-begins_of buffers r true is none = refl
-begins_of buffers r false is none = absurd (true≢false (sym (is none)))
-
-pub none_begins : (buffers : List Bytes) (r : Range) → (range_in_bytes buffers r).len ≡ 0 → (range_in_bytes buffers r).at ≡ 0
-none_begins buffers r = begins_of buffers r (r.len == 0) (λ e. eq-eqb r.len 0 e)
 
 numbers_counted : (buffers : List Bytes) (r : Range) → length (bytes_of (range_in_bytes buffers r)) ≡ length (bytes_of r)
 numbers_counted buffers r =

@@ -21,11 +21,11 @@ use Rattle.hq_model.specs.Job.Kind.{BarrierOr}
 use Rattle.hq_job.specs.declared.rows.Placed.{Placed}
 use Rattle.hq_job.specs.Plan.{kind_of}
 use Rattle.hq_job.specs.Ranges.{RangesSuit}
-use Rattle.hq_job.specs.Tables.{Tables, IsUndeclared, IsNullOr, NoneApplies, signal_number, total_of, in_bytes, range_in_bytes, code_at, items_of, placed_of, work_of, noted_by, deps_of, packet_tests, with_packet}
+use Rattle.hq_job.specs.Tables.{Tables, IsUndeclared, IsNullOr, NoneApplies, signal_number, total_of, in_bytes, code_at, items_of, placed_of, work_of, noted_by, deps_of, packet_tests, with_packet}
 use Rattle.hq_job.specs.Fits.{TablesFit, PacketFits, SignalFits}
 use Rattle.hq_job.proofs.Grouped.{some_is}
 use Rattle.hq_job.proofs.Submitted.{at, all_at, within}
-use Rattle.hq_job.proofs.ByteNumbers.{reads_low, writes_low, reads_counted, writes_counted, length_kept, lengths_kept, none_begins}
+use Rattle.hq_job.proofs.ByteNumbers.{reads_low, writes_low, reads_counted, writes_counted, length_kept, lengths_kept}
 use Rattle.hq_job.proofs.SignalNumbers.{number_low, number_handle, is_number, declared_number}
 use Rattle.hq_job.proofs.GroupedSums.{count_push}
 use Rattle.hq_job.proofs.ReadPlan.{on}
@@ -146,7 +146,6 @@ ranges_suit ts q p =
       reads = lengths_kept ts.buffers foot.reads;
       write = length_kept ts.buffers foot.write;
       each = work_each ts p;
-      none = All-map (λ r. r.len ≡ 0 → r.at ≡ 0) (range_in_bytes ts.buffers) foot.reads (λ k d l. none_begins ts.buffers (slice_index_or foot.reads k d));
     }
 
 packet_fits : (ts : Tables) (p : packet.Packet) → TablesFit ts → NoneApplies (packet_tests ts p) → PacketFits ts (placed_of ts (unwrap_or ts.current 0) p)

@@ -25,11 +25,11 @@ IsOut out packet = Any (λ grant. grant.packet ≡ packet) out
 abbrev pub IsInTheWay : List Grant → Grant → ℕ → Type 0
 IsInTheWay out grant packet = Any (λ other. (other.packet ≡ packet) × Clash other grant) out
 
--- Why a grant is refused: a packet is in its way, or there is no memory.
+-- Why a grant is refused: a packet is in its way, or none is and there is no memory.
 abbrev pub Refuses : List Grant → Grant → GrantFault → Type 0
 Refuses out grant (Overlap packet) = IsInTheWay out grant packet
 Refuses out grant NotOut = ⊥
-Refuses out grant Memory = Unit {0}
+Refuses out grant Memory = IsClear out grant
 
 -- those of other packets
 abbrev pub without : ℕ → List Grant → List Grant

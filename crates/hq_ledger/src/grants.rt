@@ -2,7 +2,7 @@
 
 ghost use Rattle.std.specs.Prelude.{◌≡◌, ◌↔◌, [], ◌∷◌, ◌++◌, IsTrue, OnOk, OnErr, IfErr};
 ghost use Rattle.std.specs.Option.{MatchOption};
-ghost use Rattle.hq_ledger.specs.Grants.{Clash, IsClear, IsOut, IsInTheWay, Refuses, without};
+ghost use Rattle.hq_ledger.specs.Grants.{AreApart, Clash, IsClear, IsOut, IsInTheWay, Refuses, without};
 
 use crate::fault::GrantFault;
 use hq_footprint::{Footprint, conflict};
@@ -63,6 +63,13 @@ impl Grants {
         Grants {
             out: Vec::new(alloc),
         }
+    }
+
+    /// No two packets that are out are one or conflict.
+    pub fn apart(&self)
+        ensures { AreApart self.now }
+    {
+        let _out = &self.out;
     }
 
     /// Whether the packet is out.

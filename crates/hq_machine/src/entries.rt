@@ -41,7 +41,7 @@ impl State {
     }
 
     /// The bytes of a range that are seen through a packet's lane.
-    fn bytes_at(&self, packet: usize, range: ByteRange) -> Result<Vec<u8>, AllocError>
+    pub fn seen_range(&self, packet: usize, range: ByteRange) -> Result<Vec<u8>, AllocError>
         requires packet { packet < length self.now.copies.lanes }
         requires range { 0 < range.len → range.at + range.len ≤ length self.now.copies.memory }
         ensures { (job : JobOfNumbers) → IsStateOf job self.now → IfOk result (λ bytes. bytes.items ≡ listed range.len (λ i. lane_sees job (state_of job self.now) packet (range.at + i))) }
@@ -62,7 +62,7 @@ impl State {
     {
         let mut bytes = Vec::new(self.allocator());
         for range in ranges {
-            let part = self.bytes_at(packet, *range)?;
+            let part = self.seen_range(packet, *range)?;
             bytes.extend_from_slice(&part)?;
         }
         Ok(bytes)

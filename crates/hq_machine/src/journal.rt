@@ -1,6 +1,7 @@
 //! The record of a run.
 
 ghost use Rattle.std.specs.Prelude.{◌≡◌, [], ◌∷◌, ◌++◌, OnOk, OnErr};
+ghost use Rattle.std.specs.Option.{MatchOption};
 
 use crate::event::Event;
 use std::alloc::{AllocError, Global};
@@ -52,5 +53,12 @@ impl Journal {
     {
         self.events.push(event)?;
         Ok(())
+    }
+
+    /// Takes the last event out.
+    pub fn pop(&mut self) -> Option<Event>
+        ensures { MatchOption result ((self.old ≡ []) × (self.new ≡ [])) (λ event. self.old ≡ self.new ++ event ∷ []) }
+    {
+        self.events.pop()
     }
 }

@@ -1,6 +1,6 @@
 //! The state of a run.
 
-ghost use Rattle.std.specs.Prelude.{◌≡◌, ◌+◌, ◌<◌, ◌≤◌, ◌↔◌, ℕ, [], false, length, IfOk, IfErr, IsTrue, map, replicate};
+ghost use Rattle.std.specs.Prelude.{◌≡◌, ◌+◌, ◌^◌, ◌<◌, ◌≤◌, ◌↔◌, ℕ, Some, slice_index, [], false, length, IfOk, IfErr, IsTrue, map, replicate};
 ghost use Rattle.hq_copies.specs.Copies.{IsLaneByte};
 ghost use Rattle.hq_job.specs.Plan.{plan};
 ghost use Rattle.hq_model.specs.Job.{Job as JobOfNumbers, IsPacket, agent_of};
@@ -221,6 +221,15 @@ impl State {
         self.reads[packet].get(entry)
     }
 
+    /// Whether a packet has read these bytes as its entries from `first` on.
+    pub fn has_read(&self, packet: usize, first: usize, bytes: &[u8]) -> bool
+        requires packet { packet < length self.now.reads }
+        requires entries { first + length bytes.now < 2 ^ 64 }
+        ensures { (job : JobOfNumbers) → IsTrue result ↔ ((i : ℕ) → i < length bytes.now → (state_of job self.now).read packet (first + i) ≡ Some (slice_index bytes.now i)) }
+    {
+        self.reads[packet].has(first, bytes)
+    }
+
     /// Puts a packet in a phase.
     #[tactic(auto, using(crate::proofs::Moves::map_named))]
     pub(crate) fn set_phase(&mut self, packet: usize, phase: Phase)
@@ -248,7 +257,7 @@ impl State {
     }
 
     /// Whether all packets of these numbers are complete.
-    pub(crate) fn all_complete(&self, numbers: Range<usize>) -> bool
+    pub fn all_complete(&self, numbers: Range<usize>) -> bool
         requires { numbers.end ≤ length self.now.phases }
         ensures { (first : machine.Phase) → IsTrue result ↔ ((e : ℕ) → numbers.start ≤ e → e < numbers.end → phases_of first self.now.phases e ≡ machine.Phase.Complete) }
     {

@@ -8,9 +8,9 @@ use Rattle.hq_machine.proofs.state.State.bytes_of_ranges.Goals as goal
 none : Range
 none = record { at = 0; len = 0 }
 
-pub bytes_at-requires-clause-range : goal.bytes_at-requires-clause-range
+pub seen_range-requires-clause-range : goal.seen_range-requires-clause-range
 unfolding none
-bytes_at-requires-clause-range c = λ some.
+seen_range-requires-clause-range c = λ some.
     let range = get_or c.args.ranges.now c.loop-range.range-index none in
     let last = range_below c.args.ranges.now c.loop-range.range-index (range.len - 1) (length c.args.self.now.copies.memory) none c.requires.ranges c.loop-range-test.true (omega (arith, some)) in
     omega (arith, some, last)

@@ -1,0 +1,12 @@
+pub mod Stays
+pub mod Fetching
+pub mod Apart
+pub mod Journals
+pub mod Programs
+pub mod Events
+pub mod Handed
+pub mod Out
+pub mod Standing
+pub mod Keeping
+pub mod Brought
+pub mod Packets

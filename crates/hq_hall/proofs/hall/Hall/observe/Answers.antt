@@ -1,0 +1,9 @@
+use Rattle.std.proofs.Common.{refl}
+use Rattle.hq_machine.specs.declared.event.Event.TheVariants as event
+use Rattle.hq_hall.proofs.Keeping.{quiet_stood}
+use Rattle.hq_hall.proofs.hall.Hall.observe.Goals as goal
+
+pub invariant_of-self : goal.invariant_of-self
+invariant_of-self c =
+    quiet_stood c.take.result c.self.inside.history c.take.new.self (event.Observe c.args.packet c.args.slot) c.self.inside.grants c.self.inside.stages.items c.self.inside.tray.packets c.take.ensures.ok c.take.ensures.err
+    (λ p. refl) (λ p. refl) (λ p. refl) c.self.invariant

@@ -1,0 +1,5 @@
+pub mod Faults
+pub mod Histories
+pub mod Stages
+pub mod Handing
+pub mod View

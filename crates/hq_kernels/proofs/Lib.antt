@@ -1,0 +1,4 @@
+mod Tasks
+mod Moves
+mod StockKits
+mod KitLists
