@@ -1,10 +1,9 @@
 -- Pieces that are brought back hold what was read.
-use Rattle.std.proofs.Common.{◌≡◌, ℕ, zero, suc, ◌+◌, ◌-◌, ◌<◌, ◌≤◌, inl, inr, List, [], ◌∷◌, ◌++◌, length, take, slice_index, get_or, refl, sym, ap, ap₂, ◌∙◌, subst, arith, Some, Option, unwrap_or, length-append}
+use Rattle.std.proofs.Common.{◌≡◌, ℕ, zero, suc, ◌+◌, ◌-◌, ◌<◌, inl, inr, List, [], ◌∷◌, ◌++◌, length, take, slice_index, refl, sym, ap, ◌∙◌, arith, Some, Option, unwrap_or, length-append}
 use Rattle.std.specs.List.{flat_map}
 use Rattle.std.proofs.lemmas.Bool.{cases_lt}
-use Rattle.std.proofs.lemmas.List.{append-nil, get_or_append_left, get_or-append_right, get_or_default}
+use Rattle.std.proofs.lemmas.List.{append-nil, get_or_append_left, get_or-append_right}
 use Rattle.std.proofs.Math.Seq.{take-length}
-use Rattle.hq_footprint.specs.declared.footprint.Range.{Range}
 use Rattle.hq_footprint.specs.declared.footprint.Work.{Work}
 use Rattle.hq_footprint.specs.declared.task.Task.{Task}
 use Rattle.hq_footprint.specs.declared.task.Task.TheVariants as task
@@ -15,7 +14,7 @@ use Rattle.hq_model.specs.Job.{Job, packet}
 use Rattle.hq_model.specs.Machine.{State, bytes_read, listed}
 use Rattle.hq_model.proofs.Given.{listed_is}
 use Rattle.hq_hall.specs.Handing.{first_read, second_read}
-use Rattle.hq_hall.specs.View.{ArePieces, IsPieceOf, IsReadPiece, bytes_among, no_piece, piece_at}
+use Rattle.hq_hall.specs.View.{ArePieces, bytes_among, piece_at}
 use Rattle.hq_hall.proofs.Handed.{reads_few}
 
 -- where a task reads no range, or one alone, the others are empty

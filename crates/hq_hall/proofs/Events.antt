@@ -7,8 +7,8 @@ use Rattle.hq_machine.specs.Events.{coarse_of}
 use Rattle.hq_machine.specs.State.{StateValue}
 use Rattle.hq_machine.specs.View.{Applied, NotApplied, IsStateOf, state_of}
 use Rattle.hq_model.specs.Job.{Job}
-use Rattle.hq_model.specs.Machine.{State, start}
-use Rattle.hq_model.specs.Journal.{Coarse, Happens, Journal}
+use Rattle.hq_model.specs.Machine.{start}
+use Rattle.hq_model.specs.Journal.{Coarse, Journal}
 use Rattle.hq_hall.proofs.Journals.{journal_snoc}
 use Rattle.hq_hall.specs.declared.fault.HallFault.{HallFault}
 use Rattle.hq_hall.specs.Faults.{hall_fault}

@@ -1,5 +1,5 @@
 -- What is known of a packet of an accepted job.
-use Rattle.std.proofs.Common.{◌≡◌, ℕ, ◌+◌, ◌*◌, ◌-◌, ◌^◌, ◌<◌, ◌≤◌, ◌↔◌, inl, inr, IsTrue, Bool, List, [], ◌∷◌, ◌++◌, length, map, take, drop, slice_get, slice_index, slice_index_or, refl, sym, ap, ap₂, ◌∙◌, subst, arith, All, Option, Some, unwrap_or, replicate, ◌≢◌, length-append}
+use Rattle.std.proofs.Common.{◌≡◌, ℕ, ◌+◌, ◌-◌, ◌^◌, ◌<◌, ◌≤◌, inl, inr, List, [], ◌∷◌, ◌++◌, length, map, slice_get, slice_index_or, refl, sym, ap, ap₂, ◌∙◌, subst, arith, All, Option, Some, unwrap_or, replicate, ◌≢◌, length-append}
 use Rattle.std.specs.List.{flat_map}
 use Rattle.std.specs.Option.{option_map}
 use Rattle.std.proofs.lemmas.Bool.{cases_lt}
@@ -16,7 +16,6 @@ use Rattle.hq_footprint.specs.Tasks.{SuitsTwo, result_of}
 use Rattle.hq_footprint.specs.Table.{nowhere, no_work}
 use Rattle.hq_job.specs.declared.rows.Placed.{Placed}
 use Rattle.hq_job.specs.Plan.{plan, planned}
-use Rattle.hq_job.specs.Ranges.{RangesSuit}
 use Rattle.hq_job.specs.Tables.{total_of}
 use Rattle.hq_job.specs.Value.{JobValue, Bytes}
 use Rattle.hq_job.specs.View.{PacketIsRead, WithinLimits}

@@ -1,7 +1,6 @@
 -- What the hall keeps, event by event.
-use Rattle.std.proofs.Common.{◌≡◌, ℕ, ◌<◌, ◌↔◌, ◌≢◌, ◌==◌, ◌||◌, inl, inr, IsTrue, Bool, true, false, not, List, [], ◌∷◌, ◌++◌, length, set, get_or, refl, sym, ap, ◌∙◌, subst, arith, All, replicate, slice_get, unwrap_or, Option, Some, true≢false, cond, length-set, get_or-set_same, get_or-set_other}
+use Rattle.std.proofs.Common.{◌≡◌, ℕ, ◌<◌, ◌≢◌, ◌==◌, ◌||◌, inl, inr, Bool, true, false, not, List, [], ◌∷◌, ◌++◌, length, set, get_or, refl, sym, ap, ◌∙◌, subst, arith, replicate, cond, length-set, get_or-set_same, get_or-set_other}
 use Rattle.std.specs.List.{list_any}
-use Rattle.std.specs.Option.{option_map}
 use Rattle.std.proofs.lemmas.Bool.{cases_eq, eq-eqb, ne_eqb}
 use Rattle.std.proofs.lemmas.List.{get_or-replicate, length-replicate}
 use Rattle.std.proofs.lemmas.List.Elements.{All-push, All-nil, All-filter}
@@ -15,9 +14,9 @@ use Rattle.hq_machine.specs.Events.{coarse_of}
 use Rattle.hq_model.specs.Job.{Job, packet, agent_of, reaches}
 use Rattle.hq_model.specs.Job.Kind.{Work}
 use Rattle.hq_footprint.specs.declared.footprint.Footprint.{Footprint}
-use Rattle.hq_model.specs.Machine.{State, Phase, Steps, AllRead, start}
+use Rattle.hq_model.specs.Machine.{State, Phase, start}
 use Rattle.hq_model.specs.Machine.Phase.{Active}
-use Rattle.hq_model.specs.Journal.{Coarse, Happens, packets_of, only_if}
+use Rattle.hq_model.specs.Journal.{Happens, packets_of, only_if}
 use Rattle.hq_model.specs.Journal.Coarse.{Fetch, Deliver, Complete}
 use Rattle.hq_model.proofs.Rested.{coarse_law}
 use Rattle.hq_packet.specs.declared.packet.Scope.TheVariants as scope
@@ -27,7 +26,7 @@ use Rattle.hq_hall.specs.Handing.{foot_of}
 use Rattle.hq_hall.specs.Stages.{delivers, fetches, stage_of}
 use Rattle.hq_hall.specs.View.{IsAway, Stands}
 use Rattle.hq_hall.proofs.Fetching.{fetched_stays}
-use Rattle.hq_hall.proofs.Out.{either_true, pushed_out, out_pushed, last_out, others_out, out_others}
+use Rattle.hq_hall.proofs.Out.{pushed_out, out_pushed, last_out, others_out, out_others}
 use Rattle.hq_hall.proofs.Stays.{Stays, ends_or_stores, happens_stays, pushes_stay, stays_read}
 
 -- ---- stages

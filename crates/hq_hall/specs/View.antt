@@ -16,7 +16,7 @@ use Rattle.hq_ledger.specs.declared.grants.Grant.{Grant}
 use Rattle.hq_machine.specs.declared.event.Event.{Event}
 use Rattle.hq_machine.specs.State.{StateValue}
 use Rattle.hq_machine.specs.View.{Possible, state_of}
-use Rattle.hq_model.specs.Job.{Job, packet, IsPacket}
+use Rattle.hq_model.specs.Job.{Job, packet}
 use Rattle.hq_model.specs.Job.Kind.{Work}
 use Rattle.hq_model.specs.Journal.Coarse.{Fetch, Deliver, Complete}
 use Rattle.hq_model.specs.Machine.{State, AllRead}

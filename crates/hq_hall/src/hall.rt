@@ -447,7 +447,7 @@ impl<'a> Hall<'a> {
         ensures fault { IfErr result (λ f. Refused (Possible (job_of self.old) self.old.state (Deliver packet)) f) }
     {
         self.history.deliver(packet, written)?;
-        let _home = self.grants.home(packet);
+        let _back = self.grants.home(packet);
         self.stages[packet as usize] = Stage::Delivered;
         Ok(())
     }

@@ -1,4 +1,4 @@
-use Rattle.std.proofs.Common.{◌≡◌, inl, inr, subst, sym}
+use Rattle.std.proofs.Common.{inl, inr, subst, sym}
 use Rattle.hq_ledger.specs.declared.grants.Grant.{Grant}
 use Rattle.hq_ledger.specs.declared.fault.GrantFault.{GrantFault}
 use Rattle.hq_ledger.specs.Grants.{Clash, Refuses}

@@ -1,4 +1,4 @@
-use Rattle.std.proofs.Common.{◌≡◌, ◌<◌, ◌∙◌, ◌+◌, ◌∷◌, [], ℕ, ap, sym, subst, arith, length, List, get_or, slice_get, Some}
+use Rattle.std.proofs.Common.{◌≡◌, ◌<◌, ◌∙◌, ap, sym, subst, arith, List, get_or, slice_get, Some}
 use Rattle.std.proofs.lemmas.List.{get_or_default}
 use Rattle.hq_footprint.specs.declared.footprint.Work.{Work}
 use Rattle.hq_footprint.specs.Counts.{reads_of, writes_of}

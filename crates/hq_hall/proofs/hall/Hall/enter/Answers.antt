@@ -2,7 +2,7 @@ use Rattle.std.proofs.Common.{refl, subst, IfErr}
 use Rattle.hq_machine.specs.declared.event.Event.TheVariants as event
 use Rattle.hq_machine.specs.View.{Possible}
 use Rattle.hq_model.specs.Machine as machine
-use Rattle.hq_model.specs.Journal.Coarse.{One, Rest}
+use Rattle.hq_model.specs.Journal.Coarse.{One}
 use Rattle.hq_hall.specs.Histories.{Refused}
 use Rattle.hq_hall.specs.View.{HallValue, job_of}
 use Rattle.hq_hall.proofs.Keeping.{quiet_stood}

@@ -1,5 +1,4 @@
 use Rattle.std.proofs.Common.{◌≡◌, ◌∙◌, ◌<◌, ℕ, ap, sym, subst, All, length, List, map, replicate}
-use Rattle.hq_certcheck.specs.View.{AcceptedJob}
 use Rattle.hq_footprint.specs.Bytes.{read_entries}
 use Rattle.hq_footprint.specs.declared.footprint.Work.{Work}
 use Rattle.hq_job.specs.Plan.{plan}

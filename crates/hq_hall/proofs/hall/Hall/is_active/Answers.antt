@@ -1,4 +1,4 @@
-use Rattle.std.proofs.Common.{◌≡◌, ◌<◌, length, ap, subst, sym, arith}
+use Rattle.std.proofs.Common.{◌<◌, length, ap, subst, sym, arith}
 use Rattle.std.proofs.lemmas.List.{length-map}
 use Rattle.hq_job.specs.Plan.{planned}
 use Rattle.hq_machine.specs.State.{StateValue}
