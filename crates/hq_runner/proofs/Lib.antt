@@ -1,0 +1,5 @@
+pub mod Working
+pub mod Packets
+pub mod Spreads
+pub mod Asked
+pub mod Endings

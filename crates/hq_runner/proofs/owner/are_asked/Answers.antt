@@ -1,0 +1,13 @@
+use Rattle.std.proofs.Common.{IsTrue, sym, ◌∙◌}
+use Rattle.hq_machine.specs.declared.event.Event.TheVariants as event
+use Rattle.hq_runner.specs.Journals.{is_asked}
+use Rattle.hq_runner.proofs.Asked.{taken_more, taken_all}
+use Rattle.hq_runner.proofs.owner.are_asked.Goals as goal
+
+pub loop-event-preserved : goal.loop-event-preserved
+loop-event-preserved c =
+    taken_more (λ e. IsTrue (is_asked e)) c.args.journal.now c.loop-event.event-index event.Submit c.loop-event-test.true
+    (sym c.is_asked.ensures ∙ c.if-not-is_asked.false) c.loop-event.invariant
+
+pub returns : goal.returns
+returns c = λ t. taken_all (λ e. IsTrue (is_asked e)) c.args.journal.now c.loop-event.event-index c.loop-event-test.false c.loop-event.invariant

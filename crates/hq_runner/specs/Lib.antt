@@ -1,0 +1,9 @@
+pub mod Pieces
+pub mod Steps
+pub mod Kits
+pub mod Lists
+pub mod Spread
+pub mod Ended
+pub mod Hosted
+pub mod Outcomes
+pub mod Journals

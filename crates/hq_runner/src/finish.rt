@@ -1,0 +1,179 @@
+//! The end of a run: what the processors did is compared with the journal.
+
+ghost use Rattle.std.specs.Prelude.{◌≡◌, ℕ, ◌<◌, None, IfOk, IfErr, IfNone, OnOk, length};
+ghost use Rattle.hq_job.specs.Plan.{plan};
+ghost use Rattle.hq_machine.specs.View.{state_of};
+ghost use Rattle.hq_model.specs.Job.{IsPacket};
+ghost use Rattle.hq_model.specs.Machine.{Phase as phase};
+ghost use Rattle.hq_runner.specs.Hosted.{HostDone};
+ghost use Rattle.hq_runner.specs.Journals.{ArePrograms, IsOneByOne, IsWhole, host_events};
+ghost use Rattle.hq_runner.specs.Outcomes.{AreReceipts, IsCounted, ListsDone, NoFault, kits_in};
+
+use crate::fault::Fault;
+use crate::host::Hosted;
+use crate::outcome::{Outcome, RunFault, kernel_fault};
+use crate::owner::{Owner, are_asked, is_receipt};
+use crate::queue::Ended;
+use hq_certcheck::Accepted;
+use hq_hall::{Hall, HallFault};
+use hq_job::Job;
+use hq_kernels::Kit;
+use hq_machine::Event;
+use std::alloc::{AllocError, Global};
+
+/// The one that is told of two faults: want of memory, then the least packet's.
+fn worse(first: Fault, second: Fault) -> Fault {
+    match (first, second) {
+        (Fault::Memory, _) => Fault::Memory,
+        (_, Fault::Memory) => Fault::Memory,
+        (Fault::Kernel(p), Fault::Kernel(q)) => Fault::Kernel(if p < q { p } else { q }),
+        (Fault::Stopped, other) => other,
+        (other, Fault::Stopped) => other,
+    }
+}
+
+/// The fault that is told, if any was met.
+fn first_fault(all: &[Ended], host: Option<Fault>) -> Option<Fault>
+    ensures all { IfNone result (NoFault all.now) }
+    ensures host { IfNone result (host ≡ None) }
+{
+    let mut told = host;
+    for ended in all {
+        match (told, ended.fault) {
+            (None, None) => {}
+            (Some(_), None) => {}
+            (None, Some(fault)) => told = Some(fault),
+            (Some(other), Some(fault)) => told = Some(worse(other, fault)),
+        }
+    }
+    told
+}
+
+/// The first queue whose list isn't the journal's; the number of queues stands for the host.
+fn wrong_receipt(job: &Job, journal: &[Event], host: &[Event], all: &[Ended]) -> Option<u16>
+    requires { length all.now < 65536 }
+    ensures all { IfNone result (AreReceipts (plan job.now) journal.now all.now) }
+    ensures host { IfNone result (host_events journal.now ≡ host.now) }
+{
+    let mut q = 0;
+    while q < all.len() {
+        if !is_receipt(job, Owner::Queue(q), journal, &all[q].events) {
+            return Some(q as u16);
+        }
+        q += 1;
+    }
+    if !is_receipt(job, Owner::Host, journal, host) {
+        return Some(all.len() as u16);
+    }
+    None
+}
+
+/// The kits that the processors give back.
+fn kits_of(alloc: Global, mut all: Vec<Ended>) -> Result<Vec<Kit>, AllocError>
+    ensures { IfOk result (λ kits. kits.items ≡ kits_in all.items) }
+{
+    let mut kits = Vec::new(alloc);
+    while !all.is_empty() {
+        let Ended {
+            kit,
+            events: _,
+            fault: _,
+        } = all.remove(0);
+        kits.push(kit)?;
+    }
+    Ok(kits)
+}
+
+/// Compares what was done with the journal, once no fault was met.
+fn check(job: &Job, hall: &Hall, host: &Hosted, all: &[Ended]) -> Result<(), RunFault>
+    requires lists { ListsDone (plan job.now) all.now }
+    requires host { HostDone (plan job.now) host.now }
+    requires none { NoFault all.now }
+    requires none_of_host { host.now.fault ≡ None }
+    requires few { length all.now < 65536 }
+    ensures same { OnOk result (hall.now.job.job ≡ job.now) }
+    ensures complete { OnOk result ((p : ℕ) → IsPacket (plan hall.now.job.job) p → (state_of (plan hall.now.job.job) hall.now.state).phase p ≡ phase.Complete) }
+    ensures programs { OnOk result (ArePrograms (plan job.now) hall.now.events) }
+    ensures counted { IfErr result (λ e. IsCounted job.now.packets e) }
+{
+    if !hall.job().same(job) || !hall.all_complete() {
+        return Err(RunFault::Unfinished);
+    }
+    let journal = hall.journal().events();
+    if !are_asked(journal) {
+        return Err(RunFault::Unfinished);
+    }
+    match wrong_receipt(job, journal, &host.events, all) {
+        Some(queue) => Err(RunFault::Receipts(queue)),
+        None => Ok(()),
+    }
+}
+
+/// Rests, and takes out what the run leaves.
+fn close(
+    alloc: Global,
+    accepted: &Accepted,
+    mut hall: Hall,
+    kits: Vec<Kit>,
+) -> Result<Outcome, RunFault>
+    requires same { hall.job.job ≡ accepted.now.job }
+    requires complete { (p : ℕ) → IsPacket (plan hall.job.job) p → (state_of (plan hall.job.job) hall.state).phase p ≡ phase.Complete }
+    requires programs { ArePrograms (plan accepted.now.job) hall.events }
+    ensures whole { IfOk result (λ o. IsWhole (plan accepted.now.job) o.journal o.memory.items) }
+    ensures one_by_one { IfOk result (λ o. IsOneByOne (plan accepted.now.job) o.memory.items) }
+    ensures kits { IfOk result (λ o. o.kits.items ≡ kits.items) }
+    ensures counted { IfErr result (λ e. IsCounted accepted.now.job.packets e) }
+{
+    accepted.ordered();
+    hall.run_so_far();
+    match hall.rest() {
+        Ok(()) => {}
+        Err(HallFault::Memory) => return Err(RunFault::Memory),
+        Err(_) => return Err(RunFault::Unfinished),
+    }
+    hall.run_so_far();
+    let Ok(memory) = hall.memory().to_vec(alloc) else {
+        return Err(RunFault::Memory);
+    };
+    let journal = hall.into_journal();
+    Ok(Outcome {
+        memory,
+        journal,
+        kits,
+    })
+}
+
+/// What the run leaves, or why it leaves nothing.
+pub fn finish(
+    alloc: Global,
+    accepted: &Accepted,
+    hall: Hall,
+    host: Hosted,
+    all: Vec<Ended>,
+) -> Result<Outcome, RunFault>
+    requires lists { ListsDone (plan accepted.now.job) all.items }
+    requires host { HostDone (plan accepted.now.job) host }
+    ensures whole { IfOk result (λ o. IsWhole (plan accepted.now.job) o.journal o.memory.items) }
+    ensures one_by_one { IfOk result (λ o. IsOneByOne (plan accepted.now.job) o.memory.items) }
+    ensures kits { IfOk result (λ o. o.kits.items ≡ kits_in all.items) }
+    ensures none { OnOk result (NoFault all.items) }
+    ensures counted { IfErr result (λ e. IsCounted accepted.now.job.packets e) }
+{
+    let job = accepted.job();
+    if all.len() >= 65536 {
+        return Err(RunFault::Unfinished);
+    }
+    if let Some(fault) = first_fault(&all, host.fault) {
+        drop(all);
+        return Err(match fault {
+            Fault::Memory => RunFault::Memory,
+            Fault::Kernel(packet) => kernel_fault(job, hall, packet),
+            Fault::Stopped => RunFault::Unfinished,
+        });
+    }
+    check(job, &hall, &host, &all)?;
+    let Ok(kits) = kits_of(alloc, all) else {
+        return Err(RunFault::Memory);
+    };
+    close(alloc, accepted, hall, kits)
+}

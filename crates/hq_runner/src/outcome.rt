@@ -1,0 +1,84 @@
+//! How a run ends.
+
+ghost use Rattle.std.specs.Prelude.{◌≡◌, ◌==◌, ◌<◌, count_by};
+ghost use Rattle.hq_kernels.specs.Bodies.{pieces_of};
+ghost use Rattle.hq_runner.specs.Outcomes.{IsCounted};
+
+use hq_footprint::Task;
+use hq_hall::Hall;
+use hq_job::Job;
+use hq_kernels::Kit;
+use hq_ledger::Home;
+use hq_machine::Journal;
+
+/// What a run leaves.
+#[derive(Drop)]
+pub struct Outcome {
+    /// The bytes of memory, by number.
+    pub memory: Vec<u8>,
+    /// The events of the run, in order.
+    pub journal: Journal,
+    /// The kits, by queue.
+    pub kits: Vec<Kit>,
+}
+
+/// Why a run has no outcome. Of several reasons the first of these is given.
+#[derive(Drop)]
+pub enum RunFault {
+    /// There is no memory.
+    Memory,
+    /// The body of this packet refused a piece, faulted, or gave other pieces back; of several packets it is the least. `found` is all that
+    /// came home by being dropped, `home` how many of these pieces are the packet's, and `lost` how many more it had.
+    Kernel {
+        packet: u16,
+        home: u8,
+        lost: u8,
+        found: Vec<Home>,
+    },
+    /// The list of this queue's processor isn't what the journal has of the queue. The number of queues stands for the host.
+    Receipts(u16),
+    /// The run stopped before all was done.
+    Unfinished,
+}
+
+/// How many pieces the task has.
+fn pieces_of(task: &Task) -> u8
+    ensures { result ≡ pieces_of task.now }
+{
+    match task {
+        Task::Nop => 0,
+        Task::Fill(_) | Task::Store64(_) => 1,
+        Task::Copy | Task::Rev | Task::Sum | Task::Count(_) => 2,
+        Task::Xor | Task::Add => 3,
+    }
+}
+
+/// How many of these are the packet's.
+fn count_of(found: &[Home], packet: u16) -> usize
+    ensures { result ≡ count_by (λ one. one.packet == packet) found.now }
+{
+    found.iter().filter(|one| one.packet == packet).count()
+}
+
+/// The fault of a packet's body, with all that came home.
+pub fn kernel_fault(job: &Job, mut hall: Hall, packet: u16) -> RunFault
+    ensures { IsCounted job.now.packets result }
+{
+    let Ok(found) = hall.gather() else {
+        return RunFault::Memory;
+    };
+    let Some(placed) = job.packets().get(packet as usize) else {
+        return RunFault::Unfinished;
+    };
+    let pieces = pieces_of(&placed.work.task);
+    let home = count_of(&found, packet);
+    if home > pieces as usize {
+        return RunFault::Unfinished;
+    }
+    RunFault::Kernel {
+        packet,
+        home: home as u8,
+        lost: pieces - home as u8,
+        found,
+    }
+}

@@ -1,0 +1,115 @@
+//! What a queue's processor does for a packet.
+
+ghost use Rattle.std.specs.Prelude.{◌≡◌, ℕ, ◌<◌, ◌≤◌, ◌++◌, ◌∷◌, [], true, take, IfOk, OnOk, length, map};
+ghost use Rattle.hq_footprint.specs.declared.task.Task.{Task};
+ghost use Rattle.hq_job.specs.Plan.{plan};
+ghost use Rattle.hq_kernels.specs.Kits.{value_of};
+ghost use Rattle.hq_machine.specs.Events.{coarse_of};
+ghost use Rattle.hq_model.specs.Journal.Coarse.{One, Complete};
+ghost use Rattle.hq_model.specs.Journal.{observations};
+ghost use Rattle.hq_model.specs.Machine as machine;
+ghost use Rattle.hq_runner.specs.Kits.{AllRan, tasks_of};
+ghost use Rattle.hq_runner.specs.Lists.{ByOne, Did, work_events};
+ghost use Rattle.hq_runner.specs.Pieces.{AreFor, IsWorked};
+
+use crate::asking::{ask, ask_all, ask_deliver, ask_fetch, ask_one};
+use crate::fault::Fault;
+use crate::floor::{Floor, Step};
+use crate::gate::Gate;
+use crate::same::same_task;
+use hq_footprint::Work;
+use hq_job::{Job, Placed};
+use hq_kernels::Body;
+use hq_ledger::Piece;
+use hq_machine::Event;
+use hq_packet::Packet;
+use std::sync::{Condvar, Mutex, Wait};
+
+/// Runs the packet's body with its pieces.
+#[tactic(auto, using(crate::proofs::Working::worked))]
+fn run_body(
+    packet: u16,
+    work: Work,
+    body: &mut Body,
+    pieces: Vec<Piece>,
+) -> Result<Vec<Piece>, Fault>
+    requires { AreFor work pieces.items }
+    ensures worked { IfOk result (λ back. IsWorked work back.items) }
+    ensures task { (value_of (λ b. kernel (b.vtable, b.value)) (λ b. service (b.vtable, b.value)) body.new).task ≡ (value_of (λ b. kernel (b.vtable, b.value)) (λ b. service (b.vtable, b.value)) body.old).task }
+    ensures ran { OnOk result ((value_of (λ b. kernel (b.vtable, b.value)) (λ b. service (b.vtable, b.value)) body.new).ran ≡ true) }
+{
+    if !same_task(body.task(), work.task) {
+        return Err(Fault::Stopped);
+    }
+    match body.perform(pieces) {
+        Ok(back) => Ok(back),
+        Err(_) => Err(Fault::Kernel(packet)),
+    }
+}
+
+/// Takes a kernel or agent packet through its events.
+pub fn do_work<R: Wait, G: Gate>(
+    rt: &R,
+    floor: &Mutex<Floor>,
+    bell: &Condvar,
+    gate: &G,
+    packet: u16,
+    placed: &Placed,
+    body: &mut Body,
+    list: &mut Vec<Event>,
+) -> Result<(), Fault>
+    ensures list { OnOk result (list.new.items ≡ list.old.items ++ work_events placed.now.queue packet) }
+    ensures task { (value_of (λ b. kernel (b.vtable, b.value)) (λ b. service (b.vtable, b.value)) body.new).task ≡ (value_of (λ b. kernel (b.vtable, b.value)) (λ b. service (b.vtable, b.value)) body.old).task }
+    ensures ran { OnOk result ((value_of (λ b. kernel (b.vtable, b.value)) (λ b. service (b.vtable, b.value)) body.new).ran ≡ true) }
+{
+    let work = placed.work;
+    ask(rt, floor, bell, Step::Launch(placed.queue), list)?;
+    ask(rt, floor, bell, Step::Enter(packet), list)?;
+    gate.hold(packet);
+    let pieces = ask_fetch(rt, floor, bell, packet, work, list)?;
+    let pieces = run_body(packet, work, body, pieces)?;
+    ask_deliver(rt, floor, bell, packet, work, pieces, list)?;
+    ask(rt, floor, bell, Step::Complete(packet), list)?;
+    gate.passed(packet);
+    Ok(())
+}
+
+/// Takes a barrier-AND packet through its events.
+pub fn do_and<R: Wait, G: Gate>(
+    rt: &R,
+    floor: &Mutex<Floor>,
+    bell: &Condvar,
+    gate: &G,
+    packet: u16,
+    placed: &Placed,
+    list: &mut Vec<Event>,
+) -> Result<(), Fault>
+    ensures { OnOk result (map coarse_of list.new.items ≡ map coarse_of list.old.items ++ (One (machine.Event.Launch placed.now.queue) ∷ observations packet 0 placed.now.slots ++ One (machine.Event.Enter packet) ∷ Complete packet ∷ [])) }
+{
+    ask(rt, floor, bell, Step::Launch(placed.queue), list)?;
+    ask_all(rt, floor, bell, packet, &placed.slots, list)?;
+    ask(rt, floor, bell, Step::Enter(packet), list)?;
+    ask(rt, floor, bell, Step::Complete(packet), list)?;
+    gate.passed(packet);
+    Ok(())
+}
+
+/// Takes a barrier-OR packet through its events.
+pub fn do_or<R: Wait, G: Gate>(
+    rt: &R,
+    floor: &Mutex<Floor>,
+    bell: &Condvar,
+    gate: &G,
+    packet: u16,
+    placed: &Placed,
+    list: &mut Vec<Event>,
+) -> Result<(), Fault>
+    ensures { OnOk result (ByOne placed.now packet list.old.items list.new.items) }
+{
+    ask(rt, floor, bell, Step::Launch(placed.queue), list)?;
+    let _slot = ask_one(rt, floor, bell, packet, &placed.slots, list)?;
+    ask(rt, floor, bell, Step::Enter(packet), list)?;
+    ask(rt, floor, bell, Step::Complete(packet), list)?;
+    gate.passed(packet);
+    Ok(())
+}
