@@ -17,7 +17,7 @@ pub use body::{KernelBody, ServiceBody};
 pub use fault::KernelFault;
 pub use kit::{Body, Kit};
 pub use kits::{kits_fit, stock_kits};
-pub use stock::Stock;
+pub use stock::{Stock, piece_count};
 
 #[cfg(test)]
 mod tests;

@@ -1,6 +1,6 @@
 //! The bodies of the nine tasks.
 
-ghost use Rattle.std.specs.Prelude.{◌≡◌, ◌<◌, ◌↔◌, false, IsTrue, IsOk, IfErr, length, [], ◌++◌};
+ghost use Rattle.std.specs.Prelude.{◌≡◌, ◌<◌, ◌≤◌, ◌↔◌, false, IsTrue, IsOk, IfErr, length, [], ◌++◌};
 ghost use Rattle.hq_footprint.specs.Tasks.{SuitsTwo, result_of};
 ghost use Rattle.hq_ledger.specs.Pieces.{with_bytes};
 ghost use Rattle.hq_kernels.specs.Bodies.{Loaded, HasRun, GaveBack, Performs, pieces_of};
@@ -40,9 +40,10 @@ impl Model for Stock {
     ghost view = { λ s. record { task = s.task; held = pieces_in s.room; ran = s.has_run } };
 }
 
-/// How many pieces a task has.
-fn piece_count(task: &Task) -> usize
-    ensures { result ≡ pieces_of task.now }
+/// How many pieces a task has: one for each range that it reads, and one for what it writes.
+pub fn piece_count(task: &Task) -> usize
+    ensures exact { result ≡ pieces_of task.now }
+    ensures few { result ≤ 3 }
 {
     task.reads() + task.writes()
 }

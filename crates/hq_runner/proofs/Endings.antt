@@ -72,7 +72,7 @@ whole job old new memory same adds first last complete programs is =
       ends = adds.adds.moves.events;
       completes = record { state = state_of (plan job) old.state; run = before.run; complete = completed job old same complete };
       programs = programs;
-      leaves = record { state = state_of (plan job) new.state; run = after.run; bytes = λ b. ap (λ m. slice_index m b) (sym is) };
+      leaves = record { state = state_of (plan job) new.state; run = after.run; count = ap length is ∙ after.is.lengths.memory; bytes = λ b. ap (λ m. slice_index m b) (sym is) };
     }
 
 -- Its memory.

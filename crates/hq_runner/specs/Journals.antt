@@ -66,6 +66,7 @@ pub record Completes (job : Job) (events : List Event) : Type 0 where
 pub record Leaves (job : Job) (events : List Event) (memory : List ℕ) : Type 0 where
   pub state : State
   pub run : JournalRun job (map coarse_of events) state
+  pub count : length memory ≡ length job.memory
   pub bytes : (b : ℕ) → state.memory b ≡ slice_index memory b
 
 -- The memory is what every order of one packet at a time that keeps the job's order leaves.

@@ -32,17 +32,17 @@ use std::thread::Threads;
 pub fn run<R: Threads + Wait + Sync, G: Gate>(
     rt: &R,
     alloc: Global,
-    accepted: Accepted,
+    accepted: &Accepted,
     kits: Vec<Kit>,
     gate: &G,
 ) -> Result<Outcome, RunFault>
-    requires { KitsFit accepted.job (bodies_of (λ b. kernel (b.vtable, b.value)) (λ b. service (b.vtable, b.value)) kits.items) }
-    ensures whole { IfOk result (λ o. IsWhole (plan accepted.job) o.journal o.memory.items) }
-    ensures one_by_one { IfOk result (λ o. IsOneByOne (plan accepted.job) o.memory.items) }
+    requires { KitsFit accepted.now.job (bodies_of (λ b. kernel (b.vtable, b.value)) (λ b. service (b.vtable, b.value)) kits.items) }
+    ensures whole { IfOk result (λ o. IsWhole (plan accepted.now.job) o.journal o.memory.items) }
+    ensures one_by_one { IfOk result (λ o. IsOneByOne (plan accepted.now.job) o.memory.items) }
     ensures kits { IfOk result (λ o. KitsRan (λ b. kernel (b.vtable, b.value)) (λ b. service (b.vtable, b.value)) kits.items o.kits.items) }
-    ensures counted { IfErr result (λ e. IsCounted accepted.job.packets e) }
+    ensures counted { IfErr result (λ e. IsCounted accepted.now.job.packets e) }
 {
-    let Ok(hall) = Hall::open(alloc, &accepted) else {
+    let Ok(hall) = Hall::open(alloc, accepted) else {
         return Err(RunFault::Memory);
     };
     let bell = Condvar::new();
@@ -54,5 +54,5 @@ pub fn run<R: Threads + Wait + Sync, G: Gate>(
         return Err(RunFault::Memory);
     };
     let Floor { hall, failed: _ } = floor.into_inner();
-    finish(alloc, &accepted, hall, host, all)
+    finish(alloc, accepted, hall, host, all)
 }

@@ -1,13 +1,11 @@
 //! How a run ends.
 
-ghost use Rattle.std.specs.Prelude.{◌≡◌, ◌==◌, ◌<◌, count_by};
-ghost use Rattle.hq_kernels.specs.Bodies.{pieces_of};
+ghost use Rattle.std.specs.Prelude.{◌≡◌, ◌==◌, count_by};
 ghost use Rattle.hq_runner.specs.Outcomes.{IsCounted};
 
-use hq_footprint::Task;
 use hq_hall::Hall;
 use hq_job::Job;
-use hq_kernels::Kit;
+use hq_kernels::{Kit, piece_count};
 use hq_ledger::Home;
 use hq_machine::Journal;
 
@@ -41,18 +39,6 @@ pub enum RunFault {
     Unfinished,
 }
 
-/// How many pieces the task has.
-fn pieces_of(task: &Task) -> u8
-    ensures { result ≡ pieces_of task.now }
-{
-    match task {
-        Task::Nop => 0,
-        Task::Fill(_) | Task::Store64(_) => 1,
-        Task::Copy | Task::Rev | Task::Sum | Task::Count(_) => 2,
-        Task::Xor | Task::Add => 3,
-    }
-}
-
 /// How many of these are the packet's.
 fn count_of(found: &[Home], packet: u16) -> usize
     ensures { result ≡ count_by (λ one. one.packet == packet) found.now }
@@ -70,15 +56,15 @@ pub fn kernel_fault(job: &Job, mut hall: Hall, packet: u16) -> RunFault
     let Some(placed) = job.packets().get(packet as usize) else {
         return RunFault::Unfinished;
     };
-    let pieces = pieces_of(&placed.work.task);
+    let pieces = piece_count(&placed.work.task);
     let home = count_of(&found, packet);
-    if home > pieces as usize {
+    if home > pieces {
         return RunFault::Unfinished;
     }
     RunFault::Kernel {
         packet,
         home: home as u8,
-        lost: pieces - home as u8,
+        lost: (pieces - home) as u8,
         found,
     }
 }
