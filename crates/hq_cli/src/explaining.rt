@@ -190,6 +190,22 @@ fn explain_refusal(rt: &HostRuntime, text: &str, answer: &str) -> io::Result<()>
     eprintln!(rt; "hsaq: {}", Refusal { text, answer })
 }
 
+/// What a run's fault means; an answer that tells of none is a refusal of a timeline.
+fn explain_run(rt: &HostRuntime, answer: &str) -> io::Result<()> {
+    let Some(fault) = answer.strip_prefix("run fault ") else {
+        return explain_refusal(rt, "timeline", answer);
+    };
+    match fault.strip_prefix("Kernel ") {
+        Some(packet) => {
+            eprintln!(rt; "hsaq: the body of packet {packet} failed, and the run was stopped")
+        }
+        None if fault == "Receipts" => {
+            eprintln!(rt; "hsaq: what a thread says that it did isn't what was done")
+        }
+        None => eprintln!(rt; "hsaq: the run stopped before all packets were complete"),
+    }
+}
+
 /// Says what an answer means, by its first line. Where standard error fails, nothing is said.
 pub fn explain(rt: &HostRuntime, status: Status, answer: &str) {
     let _ = match status {
@@ -199,7 +215,7 @@ pub fn explain(rt: &HostRuntime, status: Status, answer: &str) {
         Status::Conflict => explain_conflict(rt, answer),
         Status::Stuck => eprintln!(rt; "hsaq: {STUCK}"),
         Status::CertificateRefused => explain_refusal(rt, "certificate", answer),
-        Status::RunRefused => explain_refusal(rt, "timeline", answer),
+        Status::RunRefused => explain_run(rt, answer),
     };
 }
 

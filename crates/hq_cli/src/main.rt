@@ -4,18 +4,25 @@
 mod explaining;
 mod heard;
 mod input;
+mod output;
+mod progress;
 
 use explaining::{explain, explain_unopened};
 use heard::Heard;
 use hq_engines::{
-    Status, audit_engine, check_engine, pack_engine, replay_engine, say_file, say_memory,
-    show_engine,
+    Status, audit_engine, check_engine, job_engine, pack_engine, replay_engine, run_engine,
+    say_file, say_memory, show_engine,
 };
+use hq_job::Job;
+use hq_kernels::stock_kits;
 use hq_words::{Asked, WordsFault, command_of};
 use input::{open, open_file};
+use output::{Output, create};
+use progress::Progress;
 use std::alloc::{AllocError, Global};
 use std::io::{BufWriter, Write};
 use std::process::ExitCode;
+use std::sync::Wait;
 use std::thread::Threads;
 use std::{env, io};
 
@@ -81,10 +88,57 @@ fn replay<W: Write>(rt: &HostRuntime, job: &str, timeline: &str, writer: &mut W)
     }
 }
 
+/// The file that a timeline is asked for in, if it is.
+fn create_timeline(rt: &HostRuntime, timeline: Option<&str>) -> io::Result<Option<Output>> {
+    match timeline {
+        Some(path) => Ok(Some(create(rt, path)?)),
+        None => Ok(None),
+    }
+}
+
+/// Runs a job with stock bodies. The timeline's file is made before the job is audited.
+fn run_found<W: Write>(
+    rt: &HostRuntime,
+    threads: &(impl Threads + Wait + Sync),
+    job: Job,
+    timeline: Option<&str>,
+    writer: &mut W,
+) -> Status {
+    let Ok(kits) = stock_kits(rt.alloc(), &job) else {
+        return say_memory(writer);
+    };
+    let mut out = match create_timeline(rt, timeline) {
+        Ok(out) => out,
+        Err(error) => return say_unopened(rt, timeline.unwrap_or(""), &error, writer),
+    };
+    let progress = Progress::new(rt, job.packets().len());
+    let status = run_engine(threads, rt.alloc(), job, kits, &progress, &mut out, writer);
+    progress.clear();
+    status
+}
+
+/// Reads the job before it makes the timeline's file.
+fn run<W: Write>(
+    rt: &HostRuntime,
+    threads: &(impl Threads + Wait + Sync),
+    job: &str,
+    timeline: Option<&str>,
+    writer: &mut W,
+) -> Status {
+    let mut input = match open(rt, job) {
+        Ok(input) => input,
+        Err(error) => return say_unopened(rt, job, &error, writer),
+    };
+    match job_engine(rt.alloc(), &mut input, writer) {
+        Ok(job) => run_found(rt, threads, job, timeline, writer),
+        Err(status) => status,
+    }
+}
+
 /// Does what is asked for, and writes the answer.
 fn answer<W: Write>(
     rt: &HostRuntime,
-    threads: &(impl Threads + Sync),
+    threads: &(impl Threads + Wait + Sync),
     asked: &Asked<'_>,
     writer: &mut W,
 ) -> Status {
@@ -93,12 +147,17 @@ fn answer<W: Write>(
         Asked::Pack { words } => pack_engine(rt.alloc(), words, writer),
         Asked::Audit { job } => audit(rt, job, writer),
         Asked::Check { job, certificate } => check(rt, threads, job, certificate, writer),
+        Asked::Run { job, timeline } => run(rt, threads, job, *timeline, writer),
         Asked::Replay { job, timeline } => replay(rt, job, timeline, writer),
     }
 }
 
 /// Does what is asked for, on standard output.
-fn run(rt: &HostRuntime, threads: &(impl Threads + Sync), asked: &Asked<'_>) -> Status {
+fn answer_on_stdout(
+    rt: &HostRuntime,
+    threads: &(impl Threads + Wait + Sync),
+    asked: &Asked<'_>,
+) -> Status {
     let mut stdout = rt.stdout();
     match BufWriter::new(rt.alloc(), &mut stdout) {
         Ok(writer) => {
@@ -122,9 +181,13 @@ fn say_words(rt: &HostRuntime, error: &clap::Error) -> Status {
 }
 
 /// Reads the words behind the program's name, and does what they ask for.
-fn run_on_words(rt: &HostRuntime, threads: &(impl Threads + Sync), words: &[&str]) -> Status {
+fn run_on_words(
+    rt: &HostRuntime,
+    threads: &(impl Threads + Wait + Sync),
+    words: &[&str],
+) -> Status {
     match command_of(rt.alloc(), words) {
-        Ok(asked) => run(rt, threads, &asked),
+        Ok(asked) => answer_on_stdout(rt, threads, &asked),
         Err(WordsFault::Words(error)) => say_words(rt, &error),
         Err(WordsFault::Memory) => say_memory(&mut rt.stdout()),
     }
@@ -140,7 +203,10 @@ fn texts_of(alloc: Global, words: &[String]) -> Result<Vec<&str>, AllocError> {
 }
 
 /// Runs the program on the words of the command line.
-fn run_on_arguments(rt: &HostRuntime, threads: &(impl Threads + Sync)) -> io::Result<Status> {
+fn run_on_arguments(
+    rt: &HostRuntime,
+    threads: &(impl Threads + Wait + Sync),
+) -> io::Result<Status> {
     let words = env::args(rt)?.skip(1).collect::<Vec<String>>(rt.alloc())?;
     let texts = texts_of(rt.alloc(), &words)?;
     Ok(run_on_words(rt, threads, &texts))

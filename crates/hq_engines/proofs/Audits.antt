@@ -8,8 +8,9 @@ use Rattle.hq_cert.specs.Printed.{text_of}
 use Rattle.hq_audit.specs.Refused.{IsRefused}
 use Rattle.hq_audit.specs.declared.fault.AuditNo.{AuditNo}
 use Rattle.hq_audit.specs.declared.fault.AuditNo.TheVariants as no
-use Rattle.hq_engines.specs.Audit.{JobReport, NeverComplete, NoSaid, stuck_text, conflict_text}
-use Rattle.hq_engines.specs.Audit.JobReport.{ordered, stuck, conflict, no_memory}
+use Rattle.hq_engines.specs.Audit.{JobReport, NeverComplete, NoSaid, NotOrdered, stuck_text, conflict_text}
+use Rattle.hq_engines.specs.Audit.JobReport.{ordered, not_ordered}
+use Rattle.hq_engines.specs.Audit.NotOrdered.{stuck, conflict, no_memory}
 use Rattle.hq_engines.specs.Reports.{Reported, Said, with_feed}
 use Rattle.hq_engines.specs.declared.status.Status.{Status}
 use Rattle.hq_engines.specs.declared.status.Status.TheVariants as status
@@ -20,11 +21,14 @@ never_complete law job valid packets are = record {
   never = λ p inside events state run. let set = (are.stuck p).0 inside in law job set.0 events state valid set.1 run p set.2;
 }
 
-pub no_reported : StuckLaw → (job : Job) → Valid job → (refusal : AuditNo) (old new : Option (List ℕ)) (answered : Status) → IsRefused job refusal → NoSaid refusal old new answered → Reported (JobReport job) old new answered
+pub no_reported : StuckLaw → (job : Job) → Valid job → (refusal : AuditNo) (old new : Option (List ℕ)) (answered : Status) → IsRefused job refusal → NoSaid refusal old new answered → Reported (NotOrdered job) old new answered
 no_reported law job valid (no.Stuck packets) old new answered refused said = (stuck_text packets.items, status.Stuck, stuck packets.items (never_complete law job valid packets.items refused), said)
 no_reported law job valid (no.Conflict p r kind why) old new answered refused said = (with_feed (conflict_text p r kind why), status.Conflict, conflict p r kind why refused, said)
 no_reported law job valid no.Memory old new answered refused said = (with_feed (codes "out of memory"), status.Memory, no_memory, said)
 
+pub no_certificate : (job : Job) (old new : Option (List ℕ)) (answered : Status) → Reported (NotOrdered job) old new answered → Reported (JobReport job) old new answered
+no_certificate job old new answered said = (said.0, said.1, not_ordered said.2, said.3)
+
 pub certificate_reported : (job : Job) (c : Certificate) (old new : Option (List ℕ)) (answered : Status) → CertHolds job c → Said old new (text_of c) status.Done answered ⊎ Said old new (with_feed (codes "out of memory")) status.Memory answered → Reported (JobReport job) old new answered
 certificate_reported job c old new answered holds (inl said) = (text_of c, status.Done, ordered c holds, said)
-certificate_reported job c old new answered holds (inr said) = (with_feed (codes "out of memory"), status.Memory, no_memory, said)
+certificate_reported job c old new answered holds (inr said) = (with_feed (codes "out of memory"), status.Memory, not_ordered no_memory, said)

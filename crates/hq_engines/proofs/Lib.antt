@@ -5,4 +5,5 @@ pub mod Packs
 pub mod Audits
 pub mod Checks
 pub mod Replays
+pub mod Runs
 pub mod ReadTexts

@@ -39,13 +39,17 @@ pub record NeverComplete (job : Job) (packets : List ℕ) : Type 0 where
   pub stuck : AreStuck job packets
   pub never : (p : ℕ) → In packets p → (events : List Event) (state : State) → Run job events state → state.phase p ≢ Complete
 
--- What is written of a job: a certificate that holds; or the packets that can never complete, where there is no order list; or
--- the first conflict that isn't ordered.
+-- What is written of a job that isn't shown to be ordered: the packets that can never complete, where there is no order list; or the
+-- first conflict that isn't ordered; or that memory ran out.
+pub data NotOrdered (job : Job) : List ℕ → Status → Type 0 where
+  stuck : (packets : List ℕ) → NeverComplete job packets → NotOrdered job (stuck_text packets) Stuck
+  conflict : (p r : ℕ) (kind : Kind) (why : Why) → IsRefused job (no.Conflict p r kind why) → NotOrdered job (with_feed (conflict_text p r kind why)) Conflict
+  no_memory : NotOrdered job (with_feed (codes "out of memory")) Memory
+
+-- What is written of a job: a certificate that holds; or why it isn't ordered.
 pub data JobReport (job : Job) : List ℕ → Status → Type 0 where
   ordered : (c : Certificate) → CertHolds job c → JobReport job (text_of c) Done
-  stuck : (packets : List ℕ) → NeverComplete job packets → JobReport job (stuck_text packets) Stuck
-  conflict : (p r : ℕ) (kind : Kind) (why : Why) → IsRefused job (no.Conflict p r kind why) → JobReport job (with_feed (conflict_text p r kind why)) Conflict
-  no_memory : JobReport job (with_feed (codes "out of memory")) Memory
+  not_ordered : {out : List ℕ} {status : Status} → NotOrdered job out status → JobReport job out status
 
 -- What `audit` writes of a text.
 pub data AuditReport (text : List ℕ) : List ℕ → Status → Type 0 where

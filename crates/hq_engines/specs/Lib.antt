@@ -7,3 +7,4 @@ pub mod Packing
 pub mod Check
 pub mod Buffers
 pub mod Replay
+pub mod Run

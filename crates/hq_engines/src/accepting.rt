@@ -8,9 +8,10 @@ ghost use Rattle.hq_job.specs.Plan.{plan};
 ghost use Rattle.hq_model.specs.Fence.{Ordered};
 
 use hq_audit::{AuditNo, audit};
-use hq_certcheck::{Accepted, CheckNo, check};
+use hq_certcheck::{Accepted, CheckNo, check_wide};
 use hq_job::Job;
 use std::alloc::Global;
+use std::thread::Threads;
 
 /// What a refusal is for an audit, where the checker refused a certificate that holds: it had no memory.
 fn no_memory(no: CheckNo) -> AuditNo
@@ -23,19 +24,20 @@ fn no_memory(no: CheckNo) -> AuditNo
     }
 }
 
-/// The job, accepted by the certificate that its audit gives: the checker accepts each one that an audit gives, want of memory aside.
+/// The job, accepted by the certificate that its audit gives, as `check_wide` checks it: the checker accepts each one that an audit
+/// gives, want of memory aside.
 ///
 /// # Errors
 ///
 /// Why the audit gives no certificate, or that there is no memory.
-pub fn accept(alloc: Global, job: Job) -> Result<Accepted, AuditNo>
+pub fn accept(rt: &(impl Threads + Sync), alloc: Global, job: Job) -> Result<Accepted, AuditNo>
     ensures accepted { IfOk result (λ a. a.job ≡ job) }
     ensures refused { IfErr result (λ no. IsRefused (plan job) no) }
     ensures ordered { Ordered (plan job) → IfErr result (λ no. no ≡ Memory) }
     ensures exact { IsOk result → Ordered (plan job) }
 {
     let certificate = audit(alloc, &job)?;
-    match check(alloc, job, &certificate) {
+    match check_wide(rt, alloc, job, &certificate) {
         Ok(accepted) => Ok(accepted),
         Err((no, _job)) => Err(no_memory(no)),
     }

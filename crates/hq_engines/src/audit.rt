@@ -55,7 +55,7 @@ fn say_certificate<W: Write>(alloc: Global, writer: &mut W, certificate: &Certif
 }
 
 /// Writes why a job has no certificate.
-fn say_no_certificate<W: Write>(writer: &mut W, no: AuditNo) -> Status
+pub fn say_no_certificate<W: Write>(writer: &mut W, no: AuditNo) -> Status
     ensures { NoSaid no (W.contents writer.old) (W.contents writer.new) result }
 {
     match no {

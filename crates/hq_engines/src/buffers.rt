@@ -51,8 +51,8 @@ fn push_buffers(
     }
 }
 
-/// The buffers' lines.
-fn buffers_text_of(alloc: Global, job: &Job, memory: &[u8]) -> Result<Vec<u8>, AllocError>
+/// The buffers' lines, in file order, with these bytes.
+pub fn buffers_text_of(alloc: Global, job: &Job, memory: &[u8]) -> Result<Vec<u8>, AllocError>
     requires { length memory.now ≡ length (plan job.now).memory }
     ensures { IfOk result (λ text. text.items ≡ buffers_text job.now.buffers memory.now) }
 {

@@ -125,7 +125,7 @@ fn a_writer_that_fails_at_each_write(rt: HostRuntime) {
 #[test]
 fn accepts_what_it_audits(rt: HostRuntime) -> Result<(), Fail> {
     let job = hq_job::read_text(rt.alloc(), EMPTY)?;
-    let Ok(accepted) = accept(rt.alloc(), job) else {
+    let Ok(accepted) = accept(&rt, rt.alloc(), job) else {
         return Err("a job without packets is ordered".into());
     };
     assert_eq!(rt; accepted.order().len(), 0);

@@ -24,6 +24,13 @@ check_app = with_rule (with_rule (new_app (codes "check")) job_rule) file_rule
 abbrev pub replay_app : App
 replay_app = with_rule (with_rule (new_app (codes "replay")) job_rule) timeline_rule
 
+-- not a word by its place, but the one behind `--timeline`
+abbrev pub out_rule : Rule
+out_rule = record (new_rule (codes "OUT")) { long = Some (codes "timeline"); action = Some Set }
+
+abbrev pub run_app : App
+run_app = with_rule (with_rule (new_app (codes "run")) job_rule) out_rule
+
 abbrev pub words_rule : Rule
 words_rule = record (new_rule (codes "WORDS")) { required = true; action = Some Append }
 
@@ -38,4 +45,4 @@ program_app =
 
 abbrev pub hsaq_app : App
 hsaq_app =
-    with_subcommand (with_subcommand (with_subcommand (with_subcommand (with_subcommand program_app show_app.top) pack_app.top) audit_app.top) check_app.top) replay_app.top
+    with_subcommand (with_subcommand (with_subcommand (with_subcommand (with_subcommand (with_subcommand program_app show_app.top) pack_app.top) audit_app.top) check_app.top) run_app.top) replay_app.top

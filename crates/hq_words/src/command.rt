@@ -3,7 +3,7 @@
 ghost use Rattle.std.specs.Prelude.{◌≡◌, IfOk, false};
 ghost use Rattle.clap.specs.Words.{app_of, rule_of};
 ghost use Rattle.clap.specs.declared.builder.command.Command.TheViews.{out-Command as fields_of};
-ghost use Rattle.hq_words.specs.Commands.{job_rule, file_rule, timeline_rule, show_app, audit_app, check_app, pack_app, replay_app, program_app, hsaq_app};
+ghost use Rattle.hq_words.specs.Commands.{job_rule, file_rule, timeline_rule, show_app, audit_app, check_app, out_rule, pack_app, replay_app, run_app, program_app, hsaq_app};
 
 use clap::{Arg, ArgAction, Command};
 use std::alloc::{AllocError, Global};
@@ -18,6 +18,9 @@ const AUDIT_STATUS: &str =
 
 const CHECK_STATUS: &str =
     "Exit status: 0 where the certificate holds, 6 where it doesn't; 3 where the text is no job.";
+
+const RUN_STATUS: &str =
+    "Exit status: 0; 4 with a conflict that nothing orders, 5 with packets that can never complete, 7 where the run met a fault; 3 where the text is no job.";
 
 const REPLAY_STATUS: &str =
     "Exit status: 0; 7 where the timeline is none, or an event isn't enabled; 3 where the text is no job.";
@@ -65,6 +68,17 @@ fn timeline<'a>(alloc: Global) -> Arg<'a>
         .help("A timeline: the events of a run, one line each")
 }
 
+/// The option `--timeline OUT`.
+fn out<'a>(alloc: Global) -> Arg<'a>
+    ensures rule { rule_of result ≡ out_rule }
+    ensures local { result.global ≡ false }
+{
+    Arg::new(alloc, "OUT")
+        .long("timeline")
+        .action(ArgAction::Set)
+        .help("Writes the timeline to the file OUT, as `replay` reads it")
+}
+
 /// `show JOB`
 fn show<'a>(alloc: Global) -> Result<Command<'a>, AllocError>
     ensures app { IfOk result (λ c. app_of c ≡ show_app) }
@@ -102,6 +116,21 @@ fn check<'a>(alloc: Global) -> Result<Command<'a>, AllocError>
         .after_help(CHECK_STATUS)
         .arg(job(alloc))?
         .arg(certificate(alloc))
+}
+
+/// `run JOB [--timeline OUT]`
+fn run<'a>(alloc: Global) -> Result<Command<'a>, AllocError>
+    ensures app { IfOk result (λ c. app_of c ≡ run_app) }
+    ensures local { IfOk result (λ c. (fields_of c).has_globals ≡ false) }
+{
+    Command::new(alloc, "run")
+        .about(
+            "Audits and checks a job, runs it with a thread for each queue, and prints the buffers as the run leaves them",
+        )
+        .override_usage("hsaq run <JOB> [--timeline <OUT>]")
+        .after_help(RUN_STATUS)
+        .arg(job(alloc))?
+        .arg(out(alloc))
 }
 
 /// `replay JOB TIMELINE`
@@ -153,11 +182,13 @@ pub fn hsaq<'a>(alloc: Global) -> Result<Command<'a>, AllocError>
     let pack = pack(alloc)?;
     let audit = audit(alloc)?;
     let check = check(alloc)?;
+    let run = run(alloc)?;
     let replay = replay(alloc)?;
     program(alloc)
         .subcommand(show)?
         .subcommand(pack)?
         .subcommand(audit)?
         .subcommand(check)?
+        .subcommand(run)?
         .subcommand(replay)
 }

@@ -14,15 +14,32 @@ use std::alloc::{AllocError, AllocFailed, Global};
 #[derive(Debug, Drop)]
 pub enum Asked<'a> {
     /// A job's packets.
-    Show { job: &'a str },
+    Show {
+        job: &'a str,
+    },
     /// The bytes of the packet that these words are.
-    Pack { words: Vec<&'a str> },
+    Pack {
+        words: Vec<&'a str>,
+    },
     /// A job's certificate.
-    Audit { job: &'a str },
+    Audit {
+        job: &'a str,
+    },
     /// Whether a certificate holds for a job.
-    Check { job: &'a str, certificate: &'a str },
+    Check {
+        job: &'a str,
+        certificate: &'a str,
+    },
+    /// A job's buffers after a run, and that run's timeline in a file.
+    Run {
+        job: &'a str,
+        timeline: Option<&'a str>,
+    },
     /// A job's buffers after the events of a timeline.
-    Replay { job: &'a str, timeline: &'a str },
+    Replay {
+        job: &'a str,
+        timeline: &'a str,
+    },
 }
 
 /// Why nothing is asked for. `Words` has what `clap` says of the words: a fault, or the help or version that they ask for.
@@ -83,6 +100,7 @@ fn asked_for<'a>(alloc: Global, name: &str, own: &ArgMatches<'a>) -> Result<Aske
         own.get_str("JOB"),
         own.get_str("CERT"),
         own.get_str("TIMELINE"),
+        own.get_str("OUT"),
     ) {
         Some(asked) => Ok(asked),
         None => Err(AllocError),
@@ -95,8 +113,9 @@ fn asked_of_files<'a>(
     job: Option<&'a str>,
     certificate: Option<&'a str>,
     timeline: Option<&'a str>,
+    out: Option<&'a str>,
 ) -> Option<Asked<'a>>
-    ensures { IfSome result (AsksWith name.now (option_map (λ j. j.now) job.entry) (option_map (λ c. c.now) certificate.entry) (option_map (λ t. t.now) timeline.entry)) }
+    ensures { IfSome result (AsksWith name.now (option_map (λ j. j.now) job.entry) (option_map (λ c. c.now) certificate.entry) (option_map (λ t. t.now) timeline.entry) (option_map (λ o. o.now) out.entry)) }
 {
     let job = job?;
     if name == "show" {
@@ -104,6 +123,9 @@ fn asked_of_files<'a>(
     }
     if name == "audit" {
         return Some(Asked::Audit { job });
+    }
+    if name == "run" {
+        return Some(Asked::Run { job, timeline: out });
     }
     if name == "check" {
         let certificate = certificate?;

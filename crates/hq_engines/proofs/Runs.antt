@@ -1,0 +1,73 @@
+-- What `run` writes.
+use Rattle.std.proofs.Common.{◌≡◌, ◌⊎◌, ℕ, inl, inr, List, [], ◌∷◌, ◌++◌, Option, Some, None, codes, ap₂, sym, subst}
+use Rattle.std.proofs.lemmas.List.{append-nil}
+use Rattle.std.specs.Io.KnownBytes.{Appends}
+use Rattle.hq_job.specs.Plan.{plan}
+use Rattle.hq_job.specs.Value.{JobValue}
+use Rattle.hq_machine.specs.declared.event.Event.{Event}
+use Rattle.hq_runner.specs.Journals.{IsOneByOne, IsWhole}
+use Rattle.hq_runner.specs.declared.outcome.RunFault.{RunFault}
+use Rattle.hq_timeline.specs.Printed.{text_of}
+use Rattle.hq_engines.specs.Audit.{NotOrdered}
+use Rattle.hq_engines.specs.Audit.NotOrdered.{no_memory}
+use Rattle.hq_engines.specs.Buffers.{buffers_text}
+use Rattle.hq_engines.specs.Reports.{Reported, Said, with_feed}
+use Rattle.hq_engines.specs.Run.{BothSaid, Recorded, RunReport, fault_text}
+use Rattle.hq_engines.specs.Run.RunReport.{ran, not_ordered, faulted}
+use Rattle.hq_engines.specs.declared.status.Status.{Status}
+use Rattle.hq_engines.specs.declared.status.Status.TheVariants.{Done, RunRefused, Memory, File}
+
+-- nothing is written behind what is known
+stays : (known : Option (List ℕ)) → Appends known known []
+stays None = tt
+stays (Some bytes) = sym (append-nil bytes)
+
+unwritten : (begun recorded : Option (List ℕ)) → recorded ≡ begun → Appends begun recorded []
+unwritten begun recorded same = subst (λ known. Appends begun known []) (sym same) (stays begun)
+
+-- a timeline and an answer
+pub both : (begun recorded old new : Option (List ℕ)) (events text : List ℕ) (status answered : Status) → Appends begun recorded events → Said old new text status answered
+    → BothSaid begun recorded events old new text status answered
+both begun recorded old new events text status answered written (inl said) = inl (said.0, written, said.1)
+both begun recorded old new events text status answered written (inr failed) = inr failed
+
+-- an answer alone
+pub alone : (begun recorded old new : Option (List ℕ)) (text : List ℕ) (status answered : Status) → recorded ≡ begun → Said old new text status answered
+    → BothSaid begun recorded [] old new text status answered
+alone begun recorded old new text status answered same said = both begun recorded old new [] text status answered (unwritten begun recorded same) said
+
+-- where a writer failed, that is the answer
+pub failed_both : (begun recorded old new : Option (List ℕ)) (events text wanted : List ℕ) (status answered : Status) → Said old new text File answered
+    → BothSaid begun recorded events old new wanted status answered
+failed_both begun recorded old new events text wanted status answered (inl said) = inr said.0
+failed_both begun recorded old new events text wanted status answered (inr failed) = inr failed
+
+-- ---- the report
+
+pub ran_reported : (job : JobValue) (events : List Event) (memory : List ℕ) (begun recorded old new : Option (List ℕ)) (answered : Status) → IsWhole (plan job) events memory → IsOneByOne (plan job) memory
+    → BothSaid begun recorded (text_of events) old new (buffers_text job.buffers memory) Done answered ⊎ BothSaid begun recorded [] old new (with_feed (codes "out of memory")) Memory answered
+    → Recorded (RunReport job) begun recorded old new answered
+ran_reported job events memory begun recorded old new answered whole one (inl said) = (text_of events, buffers_text job.buffers memory, Done, ran events memory whole one, said)
+ran_reported job events memory begun recorded old new answered whole one (inr said) = ([], with_feed (codes "out of memory"), Memory, not_ordered no_memory, said)
+
+-- the same of the job and the memory as they were seen
+pub ran_of : (job seen : JobValue) (events : List Event) (memory bytes : List ℕ) (begun recorded old new : Option (List ℕ)) (answered : Status) → seen ≡ job → bytes ≡ memory
+    → IsWhole (plan job) events memory → IsOneByOne (plan job) memory
+    → BothSaid begun recorded (text_of events) old new (buffers_text seen.buffers bytes) Done answered ⊎ BothSaid begun recorded [] old new (with_feed (codes "out of memory")) Memory answered
+    → Recorded (RunReport job) begun recorded old new answered
+ran_of job seen events memory bytes begun recorded old new answered same_job same_memory whole one said =
+    ran_reported job events memory begun recorded old new answered whole one
+    (subst (λ text. BothSaid begun recorded (text_of events) old new text Done answered ⊎ BothSaid begun recorded [] old new (with_feed (codes "out of memory")) Memory answered)
+    (ap₂ (λ (j : JobValue) m. buffers_text j.buffers m) same_job same_memory) said)
+
+pub fault_reported : (job : JobValue) (found : RunFault) (begun recorded old new : Option (List ℕ)) (answered : Status) → recorded ≡ begun
+    → Said old new (with_feed (fault_text found)) RunRefused answered ⊎ Said old new (with_feed (codes "out of memory")) Memory answered
+    → Recorded (RunReport job) begun recorded old new answered
+fault_reported job found begun recorded old new answered same (inl said) =
+    ([], with_feed (fault_text found), RunRefused, faulted found, alone begun recorded old new (with_feed (fault_text found)) RunRefused answered same said)
+fault_reported job found begun recorded old new answered same (inr said) =
+    ([], with_feed (codes "out of memory"), Memory, not_ordered no_memory, alone begun recorded old new (with_feed (codes "out of memory")) Memory answered same said)
+
+pub not_ordered_reported : (job : JobValue) (begun recorded old new : Option (List ℕ)) (answered : Status) → recorded ≡ begun → Reported (NotOrdered (plan job)) old new answered
+    → Recorded (RunReport job) begun recorded old new answered
+not_ordered_reported job begun recorded old new answered same said = ([], said.0, said.1, not_ordered said.2, alone begun recorded old new said.0 said.1 answered same said.3)

@@ -1,0 +1,52 @@
+-- What `run` writes.
+use Rattle.std.specs.Prelude.{◌≡◌, ℕ, ◌⊎◌, List, [], ◌++◌, Option, Some, None, codes}
+use Rattle.std.specs.Fmt.{decimal}
+use Rattle.std.specs.Io.KnownBytes.{Appends}
+use Rattle.hq_job.specs.Plan.{plan}
+use Rattle.hq_job.specs.Value.{JobValue}
+use Rattle.hq_machine.specs.declared.event.Event.{Event}
+use Rattle.hq_runner.specs.Journals.{IsOneByOne, IsWhole}
+use Rattle.hq_runner.specs.declared.outcome.RunFault.{RunFault}
+use Rattle.hq_runner.specs.declared.outcome.RunFault.TheVariants as fault
+use Rattle.hq_timeline.specs.Printed.{text_of}
+use Rattle.hq_engines.specs.Audit.{NotOrdered}
+use Rattle.hq_engines.specs.Buffers.{buffers_text}
+use Rattle.hq_engines.specs.Reports.{with_feed}
+use Rattle.hq_engines.specs.declared.status.Status.{Status}
+use Rattle.hq_engines.specs.declared.status.Status.TheVariants.{Done, RunRefused, Memory, File}
+
+-- ---- the lines
+
+abbrev pub fault_name : RunFault → List ℕ
+fault_name fault.Memory = codes "Memory"
+fault_name (fault.Kernel packet home lost found) = codes "Kernel " ++ decimal packet
+fault_name (fault.Receipts queue) = codes "Receipts"
+fault_name fault.Unfinished = codes "Unfinished"
+
+abbrev pub fault_text : RunFault → List ℕ
+fault_text found = codes "run fault " ++ fault_name found
+
+-- ---- the report
+
+-- What is written of a job to the timeline's writer and as the answer. A run that completes all: its timeline, and the buffers as
+-- every order of one packet at a time leaves them which keeps the job's order. Else no timeline, and why the job isn't ordered, or what
+-- fault the run met.
+pub data RunReport (job : JobValue) : List ℕ → List ℕ → Status → Type 0 where
+  ran : (events : List Event) (memory : List ℕ) → IsWhole (plan job) events memory → IsOneByOne (plan job) memory
+      → RunReport job (text_of events) (buffers_text job.buffers memory) Done
+  not_ordered : {out : List ℕ} {status : Status} → NotOrdered (plan job) out status → RunReport job [] out status
+  faulted : (found : RunFault) → RunReport job [] (with_feed (fault_text found)) RunRefused
+
+-- what a writer holds, where there is one
+abbrev pub contents_in : {T : Type 0} → (T → Option (List ℕ)) → Option T → Option (List ℕ)
+contents_in contents None = None
+contents_in contents (Some writer) = contents writer
+
+-- Both texts were written behind what the writers held, and the status answered; or a writer failed.
+abbrev pub BothSaid : Option (List ℕ) → Option (List ℕ) → List ℕ → Option (List ℕ) → Option (List ℕ) → List ℕ → Status → Status → Type 0
+BothSaid begun recorded events old new text status answered = ((answered ≡ status) × Appends begun recorded events × Appends old new text) ⊎ (answered ≡ File)
+
+-- What the report asks for was written, and its status answered; or a writer failed.
+abbrev pub Recorded : (List ℕ → List ℕ → Status → Type 0) → Option (List ℕ) → Option (List ℕ) → Option (List ℕ) → Option (List ℕ) → Status → Type 0
+Recorded Report begun recorded old new answered =
+    (events : List ℕ) × (text : List ℕ) × (status : Status) × Report events text status × BothSaid begun recorded events old new text status answered
