@@ -138,7 +138,6 @@ pub fn ask_fetch<R: Wait>(
 pub fn ask_deliver<R: Wait>(
     rt: &R,
     floor: &Mutex<Floor>,
-    bell: &Condvar,
     packet: u16,
     work: Work,
     pieces: Vec<Piece>,
@@ -148,7 +147,7 @@ pub fn ask_deliver<R: Wait>(
     ensures { OnOk result (list.new.items ≡ list.old.items ++ event.Deliver packet ∷ []) }
 {
     make_room(list)?;
-    hand_back(rt, floor, bell, packet, work, pieces)?;
+    hand_back(rt, floor, packet, work, pieces)?;
     note(
         list,
         Event::Deliver {

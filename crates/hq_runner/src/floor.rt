@@ -8,6 +8,7 @@ use crate::fault::Fault;
 use crate::same::same_work;
 use hq_footprint::Work;
 use hq_hall::{Hall, HallFault};
+use hq_job::Job;
 use hq_ledger::Piece;
 use std::sync::{Condvar, Mutex, Wait};
 
@@ -46,6 +47,19 @@ fn take(hall: &mut Hall, step: Step) -> Result<(), HallFault> {
     }
 }
 
+/// Whether another processor, or the host, may wait for this step: a submission, or a completion that is counted down on a signal, or
+/// that may free a ring's slot. All else a processor waits for itself alone.
+fn may_be_awaited(job: &Job, step: Step) -> bool {
+    match step {
+        Step::Submit => true,
+        Step::Launch(_) | Step::Observe(_, _) | Step::Enter(_) => false,
+        Step::Complete(packet) => match job.packets().get(packet as usize) {
+            Some(placed) => job.rings() || placed.packet.completion() != 0,
+            None => true,
+        },
+    }
+}
+
 /// Makes the step happen once it is enabled.
 pub fn wait_for<R: Wait>(
     rt: &R,
@@ -60,7 +74,9 @@ pub fn wait_for<R: Wait>(
         }
         match take(&mut guard.hall, step) {
             Ok(()) => {
-                bell.notify_all();
+                if may_be_awaited(guard.hall.job(), step) {
+                    bell.notify_all();
+                }
                 return Ok(());
             }
             Err(HallFault::NotEnabled) => {}
@@ -111,10 +127,7 @@ pub fn wait_for_one<R: Wait>(
             return Err(Fault::Stopped);
         }
         match observe_one(&mut guard.hall, packet, slots) {
-            Ok(Some(slot)) => {
-                bell.notify_all();
-                return Ok(slot);
-            }
+            Ok(Some(slot)) => return Ok(slot),
             Ok(None) => {}
             Err(fault) => return Err(fault_of(fault)),
         }
@@ -159,10 +172,7 @@ pub fn wait_to_fetch<R: Wait>(
             return Err(Fault::Stopped);
         }
         match fetch(&mut guard.hall, packet, work) {
-            Ok(pieces) => {
-                bell.notify_all();
-                return Ok(pieces);
-            }
+            Ok(pieces) => return Ok(pieces),
             Err(HallFault::NotEnabled) => {}
             Err(fault) => return Err(fault_of(fault)),
         }
@@ -190,7 +200,6 @@ fn deliver(hall: &mut Hall, packet: u16, work: Work, pieces: Vec<Piece>) -> Resu
 pub fn hand_back<R: Wait>(
     rt: &R,
     floor: &Mutex<Floor>,
-    bell: &Condvar,
     packet: u16,
     work: Work,
     pieces: Vec<Piece>,
@@ -201,9 +210,7 @@ pub fn hand_back<R: Wait>(
     if guard.failed {
         return Err(Fault::Stopped);
     }
-    deliver(&mut guard.hall, packet, work, pieces)?;
-    bell.notify_all();
-    Ok(())
+    deliver(&mut guard.hall, packet, work, pieces)
 }
 
 /// Ends the run for all processors.

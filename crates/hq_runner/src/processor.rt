@@ -68,7 +68,7 @@ pub fn do_work<R: Wait, G: Gate>(
     gate.hold(packet);
     let pieces = ask_fetch(rt, floor, bell, packet, work, list)?;
     let pieces = run_body(packet, work, body, pieces)?;
-    ask_deliver(rt, floor, bell, packet, work, pieces, list)?;
+    ask_deliver(rt, floor, packet, work, pieces, list)?;
     ask(rt, floor, bell, Step::Complete(packet), list)?;
     gate.passed(packet);
     Ok(())

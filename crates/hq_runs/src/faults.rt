@@ -1,0 +1,84 @@
+//! Runs in which bodies fail.
+
+use crate::bodies::{Faulting, Refusing};
+use crate::jobs::{EITHER, FILL_COPY_COPY, TWO_FILLS, accepted, run_with};
+use hq_certcheck::Accepted;
+use hq_footprint::Task;
+use hq_kernels::{Body, KernelBody, stock_kits};
+use hq_runner::{OpenGate, RunFault};
+use std::alloc::Global;
+use std::sync::Wait;
+use std::test::*;
+use std::thread::Threads;
+
+/// Whose body it is: the queue, and the place among its kit's bodies.
+type Place = (usize, usize);
+
+/// What was told of a fault: the packet, how many of its pieces came home, how many didn't, and how many came home in all.
+type Told = (u16, u8, u8, usize);
+
+/// The fault of a run of the job with these bodies in place of stock ones.
+fn fault_of<R: Threads + Wait + Sync>(
+    rt: &R,
+    alloc: Global,
+    accepted: &Accepted,
+    bodies: Vec<(Place, Box<dyn KernelBody + Send>)>,
+) -> Result<Told, Fail> {
+    let mut kits = stock_kits(alloc, accepted.job())?;
+    for ((queue, place), body) in bodies {
+        let Some(kit) = kits.get_mut(queue) else {
+            return Err("there is this queue".into());
+        };
+        let Some(old) = kit.bodies.get_mut(place) else {
+            return Err("there is this body".into());
+        };
+        *old = Body::Kernel(body);
+    }
+    match run_with(rt, alloc, accepted, kits, &OpenGate)? {
+        Err(
+            RunFault::Kernel {
+                packet,
+                home,
+                lost,
+                found,
+            },
+        ) => Ok((packet, home, lost, found.len())),
+        _ => Err("a body fails".into()),
+    }
+}
+
+#[test]
+fn a_body_that_faults(rt: HostRuntime) -> Result<(), Fail> {
+    let accepted = accepted(&rt, rt.alloc(), FILL_COPY_COPY)?;
+    let mut bodies: Vec<(Place, Box<dyn KernelBody + Send>)> = Vec::new(rt.alloc());
+    bodies.push(((0, 2), Box::new(rt.alloc(), Faulting::new(Task::Copy))?))?;
+    assert_eq!(rt; fault_of(&rt, rt.alloc(), &accepted, bodies)?, (2, 2, 0, 2));
+    Ok(())
+}
+
+#[test]
+fn a_body_that_refuses_a_piece(rt: HostRuntime) -> Result<(), Fail> {
+    let accepted = accepted(&rt, rt.alloc(), FILL_COPY_COPY)?;
+    let mut bodies: Vec<(Place, Box<dyn KernelBody + Send>)> = Vec::new(rt.alloc());
+    bodies.push(((0, 2), Box::new(rt.alloc(), Refusing::new(Task::Copy))?))?;
+    assert_eq!(rt; fault_of(&rt, rt.alloc(), &accepted, bodies)?, (2, 2, 0, 2));
+    Ok(())
+}
+
+#[test]
+fn a_fault_ends_the_wait_of_others(rt: HostRuntime) -> Result<(), Fail> {
+    let accepted = accepted(&rt, rt.alloc(), EITHER)?;
+    let mut bodies: Vec<(Place, Box<dyn KernelBody + Send>)> = Vec::new(rt.alloc());
+    bodies.push(((0, 0), Box::new(rt.alloc(), Faulting::new(Task::Fill(7)))?))?;
+    assert_eq!(rt; fault_of(&rt, rt.alloc(), &accepted, bodies)?, (0, 1, 0, 1));
+    Ok(())
+}
+
+#[test]
+fn the_last_packet_faults(rt: HostRuntime) -> Result<(), Fail> {
+    let accepted = accepted(&rt, rt.alloc(), EITHER)?;
+    let mut bodies: Vec<(Place, Box<dyn KernelBody + Send>)> = Vec::new(rt.alloc());
+    bodies.push(((3, 0), Box::new(rt.alloc(), Faulting::new(Task::Copy))?))?;
+    assert_eq!(rt; fault_of(&rt, rt.alloc(), &accepted, bodies)?, (4, 2, 0, 2));
+    Ok(())
+}

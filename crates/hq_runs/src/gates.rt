@@ -1,0 +1,52 @@
+//! Gates that hold packets back.
+
+use crate::jobs::{TWO_FILLS, accepted, run_with};
+use hq_kernels::stock_kits;
+use hq_runner::Gate;
+use std::sync::atomic::{AtomicBool, Ordering};
+use std::test::*;
+use std::thread;
+
+/// Holds packet 0 until packet 1 is complete, for at most a million turns.
+#[derive(Drop)]
+struct SecondFirst {
+    passed: AtomicBool,
+    opened: AtomicBool,
+}
+
+impl Gate for SecondFirst {
+    fn hold(&self, packet: u16) {
+        if packet != 0 {
+            return;
+        }
+        for _ in 0..1_000_000 {
+            if self.passed.load(Ordering::SeqCst) {
+                self.opened.store(true, Ordering::SeqCst);
+                return;
+            }
+            thread::yield_now();
+        }
+    }
+
+    fn passed(&self, packet: u16) {
+        if packet == 1 {
+            self.passed.store(true, Ordering::SeqCst);
+        }
+    }
+}
+
+#[test]
+fn a_queue_that_is_held_back_holds_back_no_other(rt: HostRuntime) -> Result<(), Fail> {
+    let accepted = accepted(&rt, rt.alloc(), TWO_FILLS)?;
+    let kits = stock_kits(rt.alloc(), accepted.job())?;
+    let gate = SecondFirst {
+        passed: AtomicBool::new(false),
+        opened: AtomicBool::new(false),
+    };
+    let Ok(outcome) = run_with(&rt, rt.alloc(), &accepted, kits, &gate)? else {
+        return Err("the run ends".into());
+    };
+    assert!(rt; gate.opened.load(Ordering::SeqCst));
+    assert!(rt; outcome.memory.as_slice() == [7u8, 7, 7, 7, 5, 5, 5, 5].as_slice());
+    Ok(())
+}
