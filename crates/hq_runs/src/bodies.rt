@@ -73,3 +73,46 @@ impl KernelBody for Refusing {
         self.0.give_back()
     }
 }
+
+/// Faults where it should run. When it is dropped it opens the first piece that it holds, so that this one doesn't come home.
+pub struct Opening(Stock);
+
+impl Opening {
+    /// Holds no piece yet.
+    pub fn new(task: Task) -> Opening {
+        Opening(Stock::new(task))
+    }
+}
+
+impl Drop for Opening {
+    fn drop(self) {
+        let Opening(mut stock) = self;
+        if let Some(piece) = stock.give_back() {
+            let _bytes = piece.open();
+        }
+    }
+}
+
+impl KernelBody for Opening {
+    ghost kernel = { λ body. body.0 };
+
+    fn task(&self) -> Task {
+        self.0.task()
+    }
+
+    fn has_run(&self) -> bool {
+        self.0.has_run()
+    }
+
+    fn load(&mut self, piece: Piece) -> Result<(), Piece> {
+        self.0.load(piece)
+    }
+
+    fn run(&mut self) -> Result<(), KernelFault> {
+        Err(KernelFault::Refused)
+    }
+
+    fn give_back(&mut self) -> Option<Piece> {
+        self.0.give_back()
+    }
+}

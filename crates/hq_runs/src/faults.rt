@@ -1,10 +1,11 @@
 //! Runs in which bodies fail.
 
-use crate::bodies::{Faulting, Refusing};
+use crate::bodies::{Faulting, Opening, Refusing};
 use crate::jobs::{EITHER, FILL_COPY_COPY, TWO_FILLS, accepted, run_with};
 use hq_certcheck::Accepted;
 use hq_footprint::Task;
-use hq_kernels::{Body, KernelBody, stock_kits};
+use hq_kernels::{Body, KernelBody, Stock, stock_kits};
+use hq_ledger::{Piece, Tray};
 use hq_runner::{OpenGate, RunFault};
 use std::alloc::Global;
 use std::sync::Wait;
@@ -80,5 +81,36 @@ fn the_last_packet_faults(rt: HostRuntime) -> Result<(), Fail> {
     let mut bodies: Vec<(Place, Box<dyn KernelBody + Send>)> = Vec::new(rt.alloc());
     bodies.push(((3, 0), Box::new(rt.alloc(), Faulting::new(Task::Copy))?))?;
     assert_eq!(rt; fault_of(&rt, rt.alloc(), &accepted, bodies)?, (4, 2, 0, 2));
+    Ok(())
+}
+
+#[test]
+fn a_piece_that_is_opened_is_lost(rt: HostRuntime) -> Result<(), Fail> {
+    let accepted = accepted(&rt, rt.alloc(), FILL_COPY_COPY)?;
+    let mut bodies: Vec<(Place, Box<dyn KernelBody + Send>)> = Vec::new(rt.alloc());
+    bodies.push(((0, 2), Box::new(rt.alloc(), Opening::new(Task::Copy))?))?;
+    assert_eq!(rt; fault_of(&rt, rt.alloc(), &accepted, bodies)?, (2, 1, 1, 1));
+    Ok(())
+}
+
+#[test]
+fn a_body_that_holds_a_piece_of_another_tray(rt: HostRuntime) -> Result<(), Fail> {
+    let accepted = accepted(&rt, rt.alloc(), FILL_COPY_COPY)?;
+    let mut tray = Tray::open(rt.alloc(), 1)?;
+    let mut stock = Stock::new(Task::Copy);
+    let piece = Piece::new(
+        rt.alloc(),
+        &tray,
+        0,
+        0,
+        4096,
+        [7u8].as_slice().to_vec(rt.alloc())?,
+    )?;
+    assert!(rt; stock.load(piece).is_ok());
+    let mut bodies: Vec<(Place, Box<dyn KernelBody + Send>)> = Vec::new(rt.alloc());
+    bodies.push(((0, 2), Box::new(rt.alloc(), stock)?))?;
+    assert_eq!(rt; fault_of(&rt, rt.alloc(), &accepted, bodies)?, (2, 2, 0, 2));
+    let homes = tray.gather(rt.alloc())?;
+    assert!(rt; homes.len() == 1 && homes[0].bytes.as_slice() == [7u8].as_slice());
     Ok(())
 }

@@ -45,4 +45,4 @@ program_app =
 
 abbrev pub hsaq_app : App
 hsaq_app =
-    with_subcommand (with_subcommand (with_subcommand (with_subcommand (with_subcommand (with_subcommand program_app show_app.top) pack_app.top) audit_app.top) check_app.top) run_app.top) replay_app.top
+    with_subcommand (with_subcommand (with_subcommand (with_subcommand (with_subcommand (with_subcommand program_app audit_app.top) check_app.top) run_app.top) replay_app.top) show_app.top) pack_app.top

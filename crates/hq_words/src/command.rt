@@ -167,7 +167,9 @@ fn program<'a>(alloc: Global) -> Command<'a>
     ensures { app_of result ≡ program_app }
 {
     Command::new(alloc, "hsaq")
-        .about("Orders the packets of HSA user-mode queues, and proves it")
+        .about(
+            "Checks whether the packets of HSA user-mode queues order their kernels, and proves its answer; it makes no order of its own",
+        )
         .after_help("In place of JOB, @ is standard input, and no words at all mean `audit @`.")
         .version(VERSION)
         .no_binary_name(true)
@@ -178,17 +180,17 @@ fn program<'a>(alloc: Global) -> Command<'a>
 pub fn hsaq<'a>(alloc: Global) -> Result<Command<'a>, AllocError>
     ensures { IfOk result (λ c. app_of c ≡ hsaq_app) }
 {
-    let show = show(alloc)?;
-    let pack = pack(alloc)?;
     let audit = audit(alloc)?;
     let check = check(alloc)?;
     let run = run(alloc)?;
     let replay = replay(alloc)?;
+    let show = show(alloc)?;
+    let pack = pack(alloc)?;
     program(alloc)
-        .subcommand(show)?
-        .subcommand(pack)?
         .subcommand(audit)?
         .subcommand(check)?
         .subcommand(run)?
-        .subcommand(replay)
+        .subcommand(replay)?
+        .subcommand(show)?
+        .subcommand(pack)
 }
