@@ -5,3 +5,4 @@ pub mod View
 pub mod WorkLeft
 pub mod Pushes
 pub mod Entries
+pub mod Readied

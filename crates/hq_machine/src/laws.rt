@@ -1,7 +1,8 @@
-//! Laws of the machine, those of the model.
+//! Laws of the machine: those of the model, and that a completion can be reached.
 
 ghost use Rattle.hq_model.specs.Theorems.{StepsDetermined, BoundLaw};
 ghost use Rattle.hq_model.specs.Journal.{CoarseLaw};
+ghost use Rattle.hq_machine.specs.Readied.{CompletionReached, EntryReadied};
 
 use hq_model::machine;
 
@@ -25,3 +26,13 @@ pub fn coarse_law()
 {
     machine::coarse_law();
 }
+
+/// In every run a packet that is active can complete, once its own reads and stores and pushes have done what is left.
+pub fn completion_reached()
+    ensures { CompletionReached }
+{}
+
+/// In every run a packet that enters can complete so.
+pub fn entry_readied()
+    ensures { EntryReadied }
+{}
