@@ -7,6 +7,7 @@ pub mod Texts
 pub mod Kept
 pub mod Lines
 pub mod BytePlaces
+pub mod NotRead
 pub mod Whole
 pub mod ByteNumbers
 pub mod SignalNumbers

@@ -9,8 +9,13 @@ use Rattle.hq_job.specs.declared.fault.JobFault.{JobFault}
 use Rattle.hq_job.specs.Value.{JobValue}
 use Rattle.hq_job.specs.Tables.{Tables, empty}
 use Rattle.hq_job.specs.JobText.{SaysVersion, one, two, JobText, RefusedAtEnd, undershoot, never_zero, FirstFault, at_end, at_line}
-use Rattle.hq_job.specs.Adds.{Fills, Finishes, Reads, GivesJob, GivesUnlessRead, signal_reason, no_memory}
+use Rattle.hq_job.specs.Adds.{Fills, Finishes, Reads, FaultOf, GivesJob, GivesUnlessRead, signal_reason, no_memory}
+use Rattle.hq_job.specs.declared.fault.Reason.TheVariants as reason
+use Rattle.hq_job.proofs.NotRead.{not_read}
 use Rattle.hq_job.proofs.Texts.{one_job, faultless_where_job}
+use Rattle.hq_text.specs.Intake.{OfText}
+use Rattle.hq_text.specs.Turns.{Turn, ReadTurn}
+use Rattle.hq_text.proofs.Taken.{any_known, known}
 use Rattle.std.proofs.lemmas.List.{length-append}
 
 pub told : (r : Result (Unit {0}) SignalFault) (signals : List OpenSignal) → ((handle : ℕ) → (r ≡ Err (signal.Undershoot handle)) ↔ IsFirstSignal IsUndershot signals handle)
@@ -46,13 +51,33 @@ text_only view (Ok j) lines job found fault t = one_job lines (view j) job found
 text_only view (Err f) lines job found (inl m) t = m
 text_only view (Err f) lines job found (inr h) t = absurd (faultless_where_job lines job f t h)
 
-gives_weaker : {X : Type 0} (view : X → JobValue) (r : Result X JobFault) (job : JobValue) → GivesJob view r job → GivesUnlessRead view r job
-gives_weaker view (Ok j) job h = h
-gives_weaker view (Err f) job h = inl h
+-- ---- texts from readers
 
-pub read_only : {X : Type 0} (view : X → JobValue) (o : Option (List ℕ)) (r : Result X JobFault) → IfSome o (λ text. (job : JobValue) → JobText (lines_of text) job → GivesJob view r job) → IfSome o (λ text. (job : JobValue) → JobText (lines_of text) job → GivesUnlessRead view r job)
-read_only view None r h = tt
-read_only view (Some text) r h = λ job t. gives_weaker view r job (h job t)
+pub known_fault : {X S : Type 0} (r : Result X JobFault) (left : S → Option (List ℕ)) (turns : ℕ) (old new : S) (failed : Type 0) → IfErr r (λ f. FaultOf f (OfText S (ReadTurn left) turns old new (λ text. FirstFault (lines_of text) f)) failed)
+    → IfSome (left old) (λ text. IfErr r (λ f. FaultOf f (FirstFault (lines_of text) f) (Unit {0})))
+known_fault (Ok j) left turns old new failed h = any_known (λ text. Unit {0}) (left old) (λ text. tt)
+known_fault (Err f) left turns old new failed (inl m) = any_known (λ text. FaultOf f (FirstFault (lines_of text) f) (Unit {0})) (left old) (λ text. inl m)
+known_fault (Err f) left turns old new failed (inr (inl h)) = any_known (λ text. FaultOf f (FirstFault (lines_of text) f) (Unit {0})) (left old) (λ text. inr (inl (h.0, tt)))
+known_fault (Err f) left turns old new failed (inr (inr h)) =
+    known left turns old new (λ text. FaultOf f (FirstFault (lines_of text) f) (Unit {0})) (record { text = h.text; ended = h.ended; so = inr (inr h.so) })
+
+pub known_only : {X : Type 0} (view : X → JobValue) (r : Result X JobFault) (bytes : Option (List ℕ)) → IfSome bytes (λ text. IfOk r (λ j. JobText (lines_of text) (view j))) → IfSome bytes (λ text. IfErr r (λ f. FaultOf f (FirstFault (lines_of text) f) (Unit {0})))
+    → IfSome bytes (λ text. (job : JobValue) → JobText (lines_of text) job → GivesUnlessRead view r job)
+known_only view r None found fault = tt
+known_only view (Ok j) (Some text) found fault = λ job t. one_job (lines_of text) (view j) job found t
+known_only view (Err f) (Some text) found (inl m) = λ job t. inl m
+known_only view (Err f) (Some text) found (inr (inl h)) = λ job t. inr h.0
+known_only view (Err f) (Some text) found (inr (inr h)) = λ job t. absurd (faultless_where_job (lines_of text) job f t h)
+
+-- a reader's failure is no fault of a text, so that where it is told it is one
+pub failed_where_read : {X S : Type 0} (r : Result X JobFault) (T : Turn S) (turns : ℕ) (old new : S) (failed : Type 0) → IfErr r (λ f. FaultOf f (OfText S T turns old new (λ text. FirstFault (lines_of text) f)) failed) → IfErr r (λ f. f.reason ≡ reason.Read → failed)
+failed_where_read (Ok j) T turns old new failed h = tt
+failed_where_read (Err f) T turns old new failed (inl m) = λ e. absurd (memory_not_read (sym (ap (λ (g : JobFault). g.reason) m) ∙ e))
+  where
+    memory_not_read : reason.Memory ≡ reason.Read → ⊥
+    memory_not_read e = cc
+failed_where_read (Err f) T turns old new failed (inr (inl h)) = λ e. h.1
+failed_where_read (Err f) T turns old new failed (inr (inr h)) = λ e. absurd (not_read (lines_of h.text) f h.so e)
 
 -- ---- versions
 

@@ -67,6 +67,11 @@ Finishes view (Err f) line ts = (f ≡ no_memory) ⊎ ((why : Reason) × Refused
 abbrev pub no_text : JobFault
 no_text = at_line 0 reason.Read
 
+-- What a fault of a reader's text says: that memory ran out; that the reader failed, the last of these facts; or what is wrong with the
+-- text, the first.
+abbrev pub FaultOf : JobFault → Type 0 → Type 0 → Type 0
+FaultOf f wrong failed = (f ≡ no_memory) ⊎ (((f ≡ no_text) × failed) ⊎ wrong)
+
 -- The same from a reader, unless that failed or passed its turns.
 abbrev pub GivesUnlessRead : {X : Type 0} → (X → JobValue) → Result X JobFault → JobValue → Type 0
 GivesUnlessRead view (Ok j) job = view j ≡ job

@@ -1,10 +1,11 @@
 //! Texts to jobs.
 
-ghost use Rattle.std.specs.Prelude.{◌≡◌, ◌⊎◌, ◌↔◌, Bool, map, IfOk, IfErr, IfSome, OnErr, IsTrue, Err};
+ghost use Rattle.std.specs.Prelude.{◌≡◌, ◌⊎◌, ◌↔◌, Bool, map, IfOk, IfErr, IfSome, OnErr, IsTrue};
 ghost use Rattle.hq_text.specs.Lines.{lines_of};
 ghost use Rattle.hq_lines.specs.Meaning as says;
 ghost use Rattle.hq_lines.specs.Meaning.{view};
-ghost use Rattle.hq_job.specs.Adds.{Adds, Takes, TakesAll, StartFits, Behind, Finishes, Reads, no_memory, no_text, signal_reason, GivesJob, GivesUnlessRead};
+ghost use Rattle.hq_job.specs.Adds.{Adds, Takes, TakesAll, StartFits, Behind, Finishes, Reads, no_memory, signal_reason, FaultOf, GivesJob, GivesUnlessRead};
+ghost use Rattle.hq_text.specs.Intake.{OfText};
 ghost use Rattle.hq_text.specs.Turns.{Fails, Passes, ReadTurn};
 ghost use Rattle.hq_job.specs.Fits.{TablesFit};
 ghost use Rattle.hq_job.specs.JobText.{JobText, FirstFault, SaysVersion, misplaced, at_line};
@@ -17,7 +18,7 @@ use crate::job::Job;
 use crate::tables::Tables;
 use hq_lines::{Line, Version, first_line, line_behind_end, read_line};
 use hq_signals::SignalFault;
-use hq_text::{TextFault, lines_of, take_text};
+use hq_text::{Source, TURNS, TextFault, lines_of, take_turns};
 use std::alloc::Global;
 use std::io::Read;
 
@@ -201,15 +202,12 @@ pub fn read_text(alloc: Global, text: &[u8]) -> Result<Job, JobFault>
     read_all(alloc, text)
 }
 
-/// The job that a reader's text is, or its first fault. The reader gives the text in at most 2,000,000 turns of at most
-/// 512 bytes; where it fails, in any way, or passes its turns, that is the fault, at line 0.
-pub fn read<R: Read>(alloc: Global, reader: &mut R) -> Result<Job, JobFault>
-    ensures found { IfSome (R.remaining reader.old) (λ text. IfOk result (λ job. JobText (lines_of text) job)) }
-    ensures only { IfSome (R.remaining reader.old) (λ text. (job : JobValue) → JobText (lines_of text) job → GivesUnlessRead (λ j. j) result job) }
-    ensures fault { IfSome (R.remaining reader.old) (λ text. IfErr result (λ f. (f ≡ no_memory) ⊎ ((f ≡ no_text) ⊎ FirstFault (lines_of text) f))) }
-    ensures read { result ≡ Err no_text → Fails R (ReadTurn R.remaining) 2000000 reader.old reader.new ⊎ Passes R (ReadTurn R.remaining) 2000000 reader.old reader.new }
+/// The job of the text that a source gives up to its end, or its first fault.
+fn read_source<S: Source>(alloc: Global, source: &mut S) -> Result<Job, JobFault>
+    ensures found { IfOk result (λ job. OfText S S.Turned TURNS source.old source.new (λ text. JobText (lines_of text) job)) }
+    ensures fault { IfErr result (λ f. FaultOf f (OfText S S.Turned TURNS source.old source.new (λ text. FirstFault (lines_of text) f)) (Fails S S.Turned TURNS source.old source.new ⊎ Passes S S.Turned TURNS source.old source.new)) }
 {
-    match take_text(alloc, reader) {
+    match take_turns(alloc, source) {
         Ok(text) => read_text(alloc, text.as_slice()),
         Err(TextFault::Read) => Err(JobFault {
             line: 0,
@@ -217,4 +215,19 @@ pub fn read<R: Read>(alloc: Global, reader: &mut R) -> Result<Job, JobFault>
         }),
         Err(TextFault::Memory) => Err(fault_at(0, Reason::Memory)),
     }
+}
+
+/// The job that a reader's text is, or its first fault. The reader gives the text in at most 2,000,000 turns of at most
+/// 512 bytes; where it fails, in any way, or passes its turns, that is the fault, at line 0.
+pub fn read<R: Read>(alloc: Global, reader: &mut R) -> Result<Job, JobFault>
+    ensures found { IfSome (R.remaining reader.old) (λ text. IfOk result (λ job. JobText (lines_of text) job)) }
+    ensures only { IfSome (R.remaining reader.old) (λ text. (job : JobValue) → JobText (lines_of text) job → GivesUnlessRead (λ j. j) result job) }
+    ensures fault { IfSome (R.remaining reader.old) (λ text. IfErr result (λ f. FaultOf f (FirstFault (lines_of text) f) (Unit {0}))) }
+    // The same of the turns that the reader was asked.
+    ensures turned { IfOk result (λ job. OfText R (ReadTurn R.remaining) TURNS reader.old reader.new (λ text. JobText (lines_of text) job)) }
+    ensures failed { IfErr result (λ f. FaultOf f (OfText R (ReadTurn R.remaining) TURNS reader.old reader.new (λ text. FirstFault (lines_of text) f)) (Fails R (ReadTurn R.remaining) TURNS reader.old reader.new ⊎ Passes R (ReadTurn R.remaining) TURNS reader.old reader.new)) }
+    // Where the reader's failure is the fault, there was one.
+    ensures read { IfErr result (λ f. f.reason ≡ Reason.Read → Fails R (ReadTurn R.remaining) TURNS reader.old reader.new ⊎ Passes R (ReadTurn R.remaining) TURNS reader.old reader.new) }
+{
+    read_source(alloc, reader)
 }

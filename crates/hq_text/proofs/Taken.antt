@@ -75,7 +75,8 @@ pub record Follows (S : Type 0) (T : Turn S) (old : S) (n : ℕ) (new : S) (P : 
   pub given : Gives S T old n text new
   pub so : P text
 
-known : {S : Type 0} (left : S → Option (List ℕ)) (turns : ℕ) (old new : S) (P : List ℕ → Type 0) → OfText S (ReadTurn left) turns old new P → IfSome (left old) P
+-- what is so of the text that was given is so of the bytes that the reader had left, where they are known
+pub known : {S : Type 0} (left : S → Option (List ℕ)) (turns : ℕ) (old new : S) (P : List ℕ → Type 0) → OfText S (ReadTurn left) turns old new P → IfSome (left old) P
 known left turns old new P h = known_text P (left old) (left new) h.text (ends_consumes left turns old new h.text h.ended) (ends_at_end left turns old new h.text h.ended) h.so
 
 -- what holds of the text of the turns holds of the bytes that the reader had left, where they are known
