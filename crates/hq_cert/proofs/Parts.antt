@@ -8,7 +8,6 @@ use Rattle.std.proofs.lemmas.Bool.{ltb-true, lt-ltb, eqb-true, eq-eqb}
 use Rattle.hq_text.specs.Numbers.{IsNumber, number_of}
 use Rattle.hq_text.proofs.InTurn.{steps, ok_is, word_is, guarded}
 use Rattle.hq_text.proofs.NumberLaws.{number_only, number_tells}
-use Rattle.hq_cert.specs.declared.fault.CertReason.{CertReason}
 use Rattle.hq_cert.specs.declared.fault.CertReason.TheVariants as reason
 use Rattle.hq_cert.specs.Grammar.{IsSmall, IsBelow, IsCited, citation_word}
 use Rattle.hq_text.specs.InTurn.{◌>>=◌}

@@ -1,11 +1,12 @@
 //! A certificate as far as it is read.
 
-ghost use Rattle.std.specs.Prelude.{◌≡◌, ◌&&◌, ◌<◌, true, false, map, length, IfOk, IfErr, Ok};
+ghost use Rattle.std.specs.Prelude.{◌≡◌, ◌&&◌, ◌<◌, true, false, map, length, IfOk, IfErr, IfSome};
 ghost use Rattle.hq_cert.specs.LineTests.{head_said, order_said};
 ghost use Rattle.hq_cert.specs.TextFaults.{start, add_head, add_order, add_line, add_pair, add_end, add_behind, add_content, added, is_ended, read_of};
 ghost use Rattle.hq_cert.specs.DraftView.{state_of};
 ghost use Rattle.hq_cert.specs.Gives.{Gives};
-ghost use Rattle.hq_cert.specs.OnePass.{TakenFrom};
+ghost use Rattle.hq_cert.specs.OnePass.{LineAhead, PairAhead, TakenFrom};
+ghost use Rattle.hq_cert.specs.View.{line_of, pair_of};
 ghost use Rattle.hq_cert.specs.declared.draft.Stage.{Stage};
 
 use crate::certificate::{Certificate, Line, Pair};
@@ -76,14 +77,23 @@ impl Draft {
         }
     }
 
-    /// How many lines there are, as the number of the next one.
-    fn count(&self) -> Result<u32, CertReason>
-        ensures { Gives (λ n. n) result (Ok (length (state_of self.now).lines)) }
+    /// How many lines there are.
+    fn count(&self) -> usize
+        ensures { result ≡ length (state_of self.now).lines }
     {
-        if self.lines.len() > 4_294_967_295 {
-            return Err(CertReason::Memory);
+        self.lines.len()
+    }
+
+    /// The same as the number of a line, where 32 bits can say it: behind 2^32 lines no more can come, but pair lines and the end can.
+    fn number(&self) -> Option<u32>
+        ensures { IfSome result (λ n. n ≡ length (state_of self.now).lines) }
+    {
+        let count = self.count();
+        if count <= 4_294_967_295 {
+            Some(count as u32)
+        } else {
+            None
         }
-        Ok(self.lines.len() as u32)
     }
 
     #[tactic(auto, unfolding(crate::specs::TextFaults::add_head))]
@@ -108,7 +118,10 @@ impl Draft {
     fn add_line(&mut self, alloc: Global, words: &[&[u8]]) -> Result<(), CertReason>
         ensures { Gives (λ u. state_of self.new) result (add_line (state_of self.old) (map (λ w. w.now) words.now)) }
     {
-        let line = line_said(alloc, self.count()?, words)?;
+        let Some(number) = self.number() else {
+            return Err(CertReason::Memory);
+        };
+        let line = line_said(alloc, number, words)?;
         self.lines.push(line)?;
         self.stage = Stage::Lines;
         Ok(())
@@ -118,7 +131,7 @@ impl Draft {
     fn add_pair(&mut self, alloc: Global, words: &[&[u8]]) -> Result<(), CertReason>
         ensures { Gives (λ u. state_of self.new) result (add_pair (state_of self.old) (map (λ w. w.now) words.now)) }
     {
-        let pair = pair_said(alloc, self.chained, self.count()?, words)?;
+        let pair = pair_said(alloc, self.chained, self.count(), words)?;
         self.pairs.push(pair)?;
         self.stage = Stage::Pairs;
         Ok(())
@@ -185,6 +198,22 @@ impl Draft {
         }
     }
 
+    /// The next line, where a text begins with one in a common form, and what stands behind it.
+    #[inline(always)]
+    fn line_ahead<'a>(&self, text: &'a [u8]) -> Option<(Line, &'a [u8])>
+        ensures { IfSome result (λ t. LineAhead (length (state_of self.now).lines) text.now (line_of t.0) t.1.now) }
+    {
+        one_pass::line(self.number()?, text)
+    }
+
+    /// The same of a pair line.
+    #[inline(always)]
+    fn pair_ahead<'a>(&self, text: &'a [u8]) -> Option<(Pair, &'a [u8])>
+        ensures { IfSome result (λ t. PairAhead (length (state_of self.now).lines) text.now (pair_of t.0) t.1.now) }
+    {
+        one_pass::pair(self.number()?, text)
+    }
+
     /// Takes in the lines that a text begins with, up to one that isn't in a common form. Answers how many they are, and what is left.
     fn take_lines<'a>(&mut self, text: &'a [u8]) -> Result<(usize, &'a [u8]), CertReason>
         requires { self.old.stage ≡ Stage.Lines }
@@ -194,7 +223,7 @@ impl Draft {
         let mut rest = text;
         let mut taken = 0;
         loop {
-            let Some((line, behind)) = one_pass::line(self.count()?, rest) else {
+            let Some((line, behind)) = self.line_ahead(rest) else {
                 return Ok((taken, rest));
             };
             self.lines.push(line)?;
@@ -209,11 +238,10 @@ impl Draft {
         ensures taken { IfOk result (λ t. TakenFrom text.now t.1.now t.0 (state_of self.old) (state_of self.new)) }
         ensures memory { IfErr result (λ e. e ≡ CertReason.Memory) }
     {
-        let count = self.count()?;
         let mut rest = text;
         let mut taken = 0;
         loop {
-            let Some((pair, behind)) = one_pass::pair(count, rest) else {
+            let Some((pair, behind)) = self.pair_ahead(rest) else {
                 return Ok((taken, rest));
             };
             self.pairs.push(pair)?;

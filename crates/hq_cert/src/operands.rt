@@ -46,25 +46,26 @@ pub fn citation_said(word: &[u8]) -> Result<Option<u32>, CertReason>
 
 /// The number of a line that is cited, which stands below the limit.
 #[tactic(auto, unfolding(crate::specs::LineTests::below))]
-pub fn below(limit: u32, number: u32) -> Result<u32, CertReason>
+pub fn below(limit: usize, number: u32) -> Result<u32, CertReason>
     ensures { result ≡ below limit number }
 {
-    if number < limit {
+    if (number as usize) < limit {
         Ok(number)
     } else {
         Err(CertReason::Citation)
     }
 }
 
-/// A citation of a line below the limit, or `=`.
+/// A citation of a line below the limit, or `=`. There is no room for one of the last line that 32 bits number.
 #[tactic(auto, unfolding(crate::specs::LineTests::below))]
-pub fn cited_below(limit: u32, number: Option<u32>) -> Result<Citation, CertReason>
+pub fn cited_below(limit: usize, number: Option<u32>) -> Result<Citation, CertReason>
     ensures { Gives cited result (cited_below limit number) }
 {
     match number {
         None => Ok(Citation::same()),
-        Some(number) if number < limit => Ok(Citation::line(number)),
-        Some(_) => Err(CertReason::Citation),
+        Some(number) if (number as usize) >= limit => Err(CertReason::Citation),
+        Some(number) if number < u32::MAX => Ok(Citation::line(number)),
+        Some(_) => Err(CertReason::Memory),
     }
 }
 
@@ -93,7 +94,7 @@ pub fn citations_said(alloc: Global, words: &[&[u8]]) -> Result<Vec<Option<u32>>
 /// Citations of lines below the limit.
 pub fn all_below(
     alloc: Global,
-    limit: u32,
+    limit: usize,
     numbers: &[Option<u32>],
 ) -> Result<Vec<Citation>, CertReason>
     ensures { Gives (λ v. map cited v.items) result (all_below limit numbers.now) }

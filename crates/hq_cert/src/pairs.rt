@@ -15,7 +15,7 @@ use crate::operands::{below, citation_said, cited_below, number_said};
 use std::alloc::Global;
 
 #[tactic(auto, unfolding(crate::specs::LineTests::read_write_said))]
-fn read_write_said(count: u32, words: &[&[u8]]) -> Result<Fences, CertReason>
+fn read_write_said(count: usize, words: &[&[u8]]) -> Result<Fences, CertReason>
     ensures { Gives fences_of result (read_write_said count (map (λ w. w.now) words.now)) }
 {
     match words {
@@ -28,7 +28,7 @@ fn read_write_said(count: u32, words: &[&[u8]]) -> Result<Fences, CertReason>
 }
 
 #[tactic(auto, unfolding(crate::specs::LineTests::write_write_of))]
-fn write_write_of(count: u32, x: &[u8], from: &[u8], on: &[u8]) -> Result<Fences, CertReason>
+fn write_write_of(count: usize, x: &[u8], from: &[u8], on: &[u8]) -> Result<Fences, CertReason>
     ensures { Gives fences_of result (write_write_of count x.now from.now on.now) }
 {
     let x = number_said(x)?;
@@ -40,7 +40,7 @@ fn write_write_of(count: u32, x: &[u8], from: &[u8], on: &[u8]) -> Result<Fences
 }
 
 #[tactic(auto, unfolding(crate::specs::LineTests::write_write_said))]
-fn write_write_said(count: u32, words: &[&[u8]]) -> Result<Fences, CertReason>
+fn write_write_said(count: usize, words: &[&[u8]]) -> Result<Fences, CertReason>
     ensures { Gives fences_of result (write_write_said count (map (λ w. w.now) words.now)) }
 {
     match words {
@@ -51,7 +51,7 @@ fn write_write_said(count: u32, words: &[&[u8]]) -> Result<Fences, CertReason>
 
 #[tactic(auto, unfolding(crate::specs::LineTests::write_read_of))]
 fn write_read_of(
-    count: u32,
+    count: usize,
     x: &[u8],
     y: &[u8],
     from: &[u8],
@@ -78,7 +78,7 @@ fn write_read_of(
 }
 
 #[tactic(auto, unfolding(crate::specs::LineTests::write_read_said))]
-fn write_read_said(count: u32, words: &[&[u8]]) -> Result<Fences, CertReason>
+fn write_read_said(count: usize, words: &[&[u8]]) -> Result<Fences, CertReason>
     ensures { Gives fences_of result (write_read_said count (map (λ w. w.now) words.now)) }
 {
     match words {
@@ -90,7 +90,7 @@ fn write_read_said(count: u32, words: &[&[u8]]) -> Result<Fences, CertReason>
 #[tactic(auto, unfolding(crate::specs::LineTests::write_chain_of))]
 fn write_chain_of(
     alloc: Global,
-    count: u32,
+    count: usize,
     x: &[u8],
     x2: &[u8],
     from: &[u8],
@@ -118,7 +118,7 @@ fn write_chain_of(
 }
 
 #[tactic(auto, unfolding(crate::specs::LineTests::write_chain_said))]
-fn write_chain_said(alloc: Global, count: u32, words: &[&[u8]]) -> Result<Fences, CertReason>
+fn write_chain_said(alloc: Global, count: usize, words: &[&[u8]]) -> Result<Fences, CertReason>
     ensures { Gives fences_of result (write_chain_said count (map (λ w. w.now) words.now)) }
 {
     match words {
@@ -192,7 +192,7 @@ fn links_said(
 }
 
 #[tactic(auto, unfolding(crate::specs::LineTests::links_below))]
-fn links_below(count: u32, links: Numbers) -> Result<Links, CertReason>
+fn links_below(count: usize, links: Numbers) -> Result<Links, CertReason>
     ensures { Gives links_of result (links_below count links) }
 {
     let from = cited_below(count, links.from)?;
@@ -236,7 +236,7 @@ fn chain_of(packets: Packets, links: Links) -> ReadChain
 #[tactic(auto, unfolding(crate::specs::LineTests::read_chain_of))]
 fn read_chain_of(
     alloc: Global,
-    count: u32,
+    count: usize,
     packets: Result<Packets, CertReason>,
     numbers: Result<Numbers, CertReason>,
 ) -> Result<Fences, CertReason>
@@ -250,7 +250,7 @@ fn read_chain_of(
 }
 
 #[tactic(auto, unfolding(crate::specs::LineTests::read_chain_said))]
-fn read_chain_said(alloc: Global, count: u32, words: &[&[u8]]) -> Result<Fences, CertReason>
+fn read_chain_said(alloc: Global, count: usize, words: &[&[u8]]) -> Result<Fences, CertReason>
     ensures { Gives fences_of result (read_chain_said count (map (λ w. w.now) words.now)) }
 {
     match words {
@@ -266,7 +266,7 @@ fn read_chain_said(alloc: Global, count: u32, words: &[&[u8]]) -> Result<Fences,
 #[tactic(auto, unfolding(crate::specs::LineTests::fences_said))]
 fn fences_said(
     alloc: Global,
-    count: u32,
+    count: usize,
     kind: FencesKind,
     words: &[&[u8]],
 ) -> Result<Fences, CertReason>
@@ -284,7 +284,7 @@ fn fences_said(
 #[tactic(auto, unfolding(crate::specs::LineTests::pair_of))]
 fn pair_of(
     alloc: Global,
-    count: u32,
+    count: usize,
     p: &[u8],
     r: &[u8],
     kind: FencesKind,
@@ -303,7 +303,7 @@ fn pair_of(
 pub fn pair_said(
     alloc: Global,
     chained: bool,
-    count: u32,
+    count: usize,
     words: &[&[u8]],
 ) -> Result<Pair, CertReason>
     ensures { Gives pair_of result (pair_said chained count (map (λ w. w.now) words.now)) }

@@ -4,7 +4,8 @@ ghost use Rattle.std.specs.Prelude.{◌≡◌, ◌+◌, ◌≤◌, ◌∷◌, []
 ghost use Rattle.std.specs.Fmt.{decimal};
 ghost use Rattle.std.specs.List.{list_any};
 ghost use Rattle.std.specs.Io.KnownBytes.{Appends};
-ghost use Rattle.hq_cert.specs.Grammar.{citation_word, rule_words, head_words, order_words, lines_words, pair_words};
+ghost use Rattle.hq_cert.specs.Grammar.{CertText, CertificateFits, citation_word, rule_words, head_words, order_words, lines_words, pair_words};
+ghost use Rattle.hq_text.specs.Lines.{lines_of};
 ghost use Rattle.hq_text.specs.Printed.{spaced, line_text, lines_text};
 ghost use Rattle.hq_cert.specs.Printed.{is_chain, has_chain, text_of};
 ghost use Rattle.hq_cert.specs.Gains.{Gains};
@@ -259,7 +260,8 @@ fn taken(alloc: Global) -> Result<(Vec<u8>, Rows), AllocError>
     Ok((bytes, Rows::new(alloc)?))
 }
 
-/// Writes the text of a certificate, which begins `hsac 2` exactly where a chained pair line is there. All memory is taken before
+/// Writes the text of a certificate, which begins `hsac 2` exactly where a chained pair line is there. Where the certificate has a text,
+/// as each one that an audit gives or a text was read as, what was written is that, and so is read as the same certificate. All memory is taken before
 /// the first byte is written. The writer is not flushed; where it fails a part of the text may be written.
 pub fn print<W: Write>(
     alloc: Global,
@@ -267,6 +269,7 @@ pub fn print<W: Write>(
     writer: &mut W,
 ) -> Result<(), PrintFault>
     ensures written { OnOk result (Appends (W.contents writer.old) (W.contents writer.new) (text_of certificate.now)) }
+    ensures read_back { OnOk result (CertificateFits (has_chain certificate.now) certificate.now → CertText (lines_of (text_of certificate.now)) certificate.now) }
     ensures unwritten { result ≡ Err PrintFault.Memory → writer.new ≡ writer.old }
 {
     let (mut bytes, rows) = match taken(alloc) {

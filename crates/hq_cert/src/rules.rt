@@ -37,7 +37,7 @@ fn or_said(alloc: Global, k: u32, words: &[&[u8]]) -> Result<Rule, CertReason>
     ensures { Gives rule_of result (or_said k (map (λ w. w.now) words.now)) }
 {
     let numbers = citations_said(alloc, words)?;
-    let citations = all_below(alloc, k, &numbers)?;
+    let citations = all_below(alloc, k as usize, &numbers)?;
     let branches = Box::new(alloc, Branches { citations })?;
     Ok(Rule::Or(branches))
 }
@@ -48,8 +48,8 @@ fn through_of(k: u32, first: &[u8], second: &[u8]) -> Result<Rule, CertReason>
 {
     let first = number_said(first)?;
     let second = number_said(second)?;
-    let first = below(k, first)?;
-    let second = below(k, second)?;
+    let first = below(k as usize, first)?;
+    let second = below(k as usize, second)?;
     Ok(Rule::Through(first, second))
 }
 

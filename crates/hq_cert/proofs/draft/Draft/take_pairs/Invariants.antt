@@ -8,7 +8,6 @@ abbrev pub invariant-loop-pair : goal.invariant-loop-pair
 invariant-loop-pair l = record {
   taken : TakenFrom l.text l.rest l.taken (state_of l.fn.self) (state_of l.self);
   at : l.self.stage ≡ stage.Pairs;
-  lines : l.self.lines ≡ l.fn.self.lines;
 }
 
 abbrev pub decreases-loop-pair : goal.decreases-loop-pair
