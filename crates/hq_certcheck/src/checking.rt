@@ -4,6 +4,7 @@ ghost use Rattle.std.specs.Prelude.{◌≡◌, ℕ, IfOk, IfErr, OnOk, MatchOpti
 ghost use Rattle.hq_job.specs.Plan.{plan};
 ghost use Rattle.hq_model.specs.Order.{OrderList, Extends};
 ghost use Rattle.hq_model.specs.Certificate.{LineHolds, PairHolds, CertHolds};
+ghost use Rattle.hq_model.specs.Fence.{Ordered};
 ghost use Rattle.hq_model.specs.Theorems.{Headline};
 ghost use Rattle.hq_certcheck.specs.Refusals.{IsRefused, IsBadLine, IsBadPair};
 
@@ -87,6 +88,7 @@ pub fn conclude(
     requires ok { IfOk examined (λ order. CertHolds (plan job) certificate.now × (order.items ≡ certificate.now.order)) }
     requires refused { IfErr examined (IsRefused (plan job) certificate.now) }
     ensures accepted { IfOk result (λ a. CertHolds (plan job) certificate.now × (a.job ≡ job) × (a.order ≡ certificate.now.order)) }
+    ensures ordered { IfOk result (λ _. Ordered (plan job)) }
     ensures extends { IfOk result (λ a. Extends (plan job) a.order) }
     ensures headline { IfOk result (λ _. Headline (plan job)) }
     ensures refused { IfErr result (λ e. (e.1 ≡ job) × IsRefused (plan job) certificate.now e.0) }
@@ -112,6 +114,7 @@ pub fn conclude(
 /// The first reason why it isn't accepted, and the job as it was. A certificate that holds is refused only with `Memory`.
 pub fn check(alloc: Global, job: Job, certificate: &Certificate) -> Result<Accepted, (CheckNo, Job)>
     ensures accepted { IfOk result (λ a. CertHolds (plan job) certificate.now × (a.job ≡ job) × (a.order ≡ certificate.now.order)) }
+    ensures ordered { IfOk result (λ _. Ordered (plan job)) }
     ensures extends { IfOk result (λ a. Extends (plan job) a.order) }
     ensures headline { IfOk result (λ _. Headline (plan job)) }
     ensures refused { IfErr result (λ e. (e.1 ≡ job) × IsRefused (plan job) certificate.now e.0) }

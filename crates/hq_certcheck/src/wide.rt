@@ -5,6 +5,7 @@ ghost use Rattle.hq_cert.specs.View.{line_of};
 ghost use Rattle.hq_job.specs.Plan.{plan};
 ghost use Rattle.hq_model.specs.Order.{Extends};
 ghost use Rattle.hq_model.specs.Certificate.{LineHolds, CertHolds};
+ghost use Rattle.hq_model.specs.Fence.{Ordered};
 ghost use Rattle.hq_model.specs.Theorems.{Headline};
 ghost use Rattle.hq_certcheck.specs.Listed.{LineFollows, FirstBadLine};
 ghost use Rattle.hq_certcheck.specs.Refusals.{IsRefused, IsBadLine};
@@ -81,6 +82,7 @@ pub fn check_wide(
     certificate: &Certificate,
 ) -> Result<Accepted, (CheckNo, Job)>
     ensures accepted { IfOk result (λ a. CertHolds (plan job) certificate.now × (a.job ≡ job) × (a.order ≡ certificate.now.order)) }
+    ensures ordered { IfOk result (λ _. Ordered (plan job)) }
     ensures extends { IfOk result (λ a. Extends (plan job) a.order) }
     ensures headline { IfOk result (λ _. Headline (plan job)) }
     ensures refused { IfErr result (λ e. (e.1 ≡ job) × IsRefused (plan job) certificate.now e.0) }

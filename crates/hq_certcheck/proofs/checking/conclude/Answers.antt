@@ -11,6 +11,11 @@ of-requires-clause-ordered c =
     let holds = subst (λ r. IfOk r (λ order. CertHolds (plan c.args.job) c.args.certificate.now × (order.items ≡ c.args.certificate.now.order))) c.in-Ok.is c.requires.ok in
     c.certificates_order.ensures (plan c.args.job) c.args.certificate.now c.valid.ensures.valid holds.0
 
+pub returns-in-Ok-clause-ordered : goal.returns-in-Ok-clause-ordered
+returns-in-Ok-clause-ordered c =
+    let holds = subst (λ r. IfOk r (λ order. CertHolds (plan c.args.job) c.args.certificate.now × (order.items ≡ c.args.certificate.now.order))) c.in-Ok.is c.requires.ok in
+    c.certificates_order.ensures (plan c.args.job) c.args.certificate.now c.valid.ensures.valid holds.0
+
 pub returns-in-Ok-clause-extends : goal.returns-in-Ok-clause-extends
 returns-in-Ok-clause-extends c =
     let holds = subst (λ r. IfOk r (λ order. CertHolds (plan c.args.job) c.args.certificate.now × (order.items ≡ c.args.certificate.now.order))) c.in-Ok.is c.requires.ok in
