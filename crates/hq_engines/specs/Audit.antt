@@ -1,10 +1,6 @@
 -- What `audit` writes.
 use Rattle.std.specs.Prelude.{ℕ, ◌≢◌, List, [], ◌∷◌, ◌++◌, Option, codes}
 use Rattle.std.specs.Fmt.{decimal}
-use Rattle.hq_text.specs.Lines.{lines_of}
-use Rattle.hq_job.specs.JobText.{JobText}
-use Rattle.hq_job.specs.Plan.{plan}
-use Rattle.hq_job.specs.Value.{JobValue}
 use Rattle.hq_model.specs.Job.{Job}
 use Rattle.hq_model.specs.Order.{In}
 use Rattle.hq_model.specs.Machine.{Event, State, Run}
@@ -18,7 +14,7 @@ use Rattle.hq_audit.specs.Refused.{IsRefused}
 use Rattle.hq_audit.specs.declared.fault.AuditNo.{AuditNo}
 use Rattle.hq_audit.specs.declared.fault.AuditNo.TheVariants as no
 use Rattle.hq_cert.specs.Printed.{text_of}
-use Rattle.hq_engines.specs.Reports.{NoJob, Said, with_feed}
+use Rattle.hq_engines.specs.Reports.{Said, with_feed}
 use Rattle.hq_engines.specs.declared.status.Status.{Status}
 use Rattle.hq_engines.specs.declared.status.Status.TheVariants.{Done, Stuck, Conflict, Memory}
 
@@ -50,11 +46,6 @@ pub data NotOrdered (job : Job) : List ℕ → Status → Type 0 where
 pub data JobReport (job : Job) : List ℕ → Status → Type 0 where
   ordered : (c : Certificate) → CertHolds job c → JobReport job (text_of c) Done
   not_ordered : {out : List ℕ} {status : Status} → NotOrdered job out status → JobReport job out status
-
--- What `audit` writes of a text.
-pub data AuditReport (text : List ℕ) : List ℕ → Status → Type 0 where
-  of_job : {out : List ℕ} {status : Status} (job : JobValue) → JobText (lines_of text) job → JobReport (plan job) out status → AuditReport text out status
-  no_job : {out : List ℕ} {status : Status} → NoJob text out status → AuditReport text out status
 
 -- why a job has no certificate is written
 abbrev pub NoSaid : AuditNo → Option (List ℕ) → Option (List ℕ) → Status → Type 0

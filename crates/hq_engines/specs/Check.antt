@@ -2,7 +2,6 @@
 use Rattle.std.specs.Prelude.{◌≡◌, ℕ, ◌⊎◌, List, ◌++◌, Option, Result, Ok, Err, length, codes}
 use Rattle.std.specs.Fmt.{decimal}
 use Rattle.hq_text.specs.Lines.{lines_of}
-use Rattle.hq_job.specs.JobText.{JobText}
 use Rattle.hq_job.specs.Plan.{plan}
 use Rattle.hq_job.specs.Value.{JobValue}
 use Rattle.hq_model.specs.Certificate.{Certificate, CertHolds}
@@ -17,9 +16,9 @@ use Rattle.hq_certcheck.specs.Refusals.{IsRefused}
 use Rattle.hq_certcheck.specs.View.{AcceptedJob}
 use Rattle.hq_certcheck.specs.declared.fault.CheckNo.{CheckNo}
 use Rattle.hq_certcheck.specs.declared.fault.CheckNo.TheVariants as no
-use Rattle.hq_engines.specs.Reports.{NoJob, Said, with_feed}
+use Rattle.hq_engines.specs.Reports.{Said, with_feed}
 use Rattle.hq_engines.specs.declared.status.Status.{Status}
-use Rattle.hq_engines.specs.declared.status.Status.TheVariants.{Done, CertificateRefused, Memory, File}
+use Rattle.hq_engines.specs.declared.status.Status.TheVariants.{Done, CertificateRefused, Memory}
 
 -- ---- the lines
 
@@ -62,11 +61,9 @@ refusal_status no.Memory = Memory
 
 -- ---- the reports
 
--- Why there is no certificate, of what was read: the text has a first fault; memory ran out; or the reader failed.
+-- Why there is no certificate: the text has a first fault.
 pub data NoCertificate (text : List ℕ) : List ℕ → Status → Type 0 where
   refused : (fault : CertFault) → FirstFault (lines_of text) fault → NoCertificate text (with_feed (cert_refusal fault)) CertificateRefused
-  no_memory : NoCertificate text (with_feed (codes "out of memory")) Memory
-  no_text : NoCertificate text (with_feed (codes "file fault")) File
 
 -- What is written of a job and a certificate: that it holds, and so every run of the job agrees with each order that keeps the
 -- job's; or the first reason why it doesn't.
@@ -78,11 +75,6 @@ pub data CheckedReport (job : JobValue) (c : Certificate) : List ℕ → Status 
 pub data CertReport (job : JobValue) (cert : List ℕ) : List ℕ → Status → Type 0 where
   checked : {out : List ℕ} {status : Status} (c : Certificate) → CertText (lines_of cert) c → CheckedReport job c out status → CertReport job cert out status
   no_certificate : {out : List ℕ} {status : Status} → NoCertificate cert out status → CertReport job cert out status
-
--- What `check` writes of a job's text and a certificate's.
-pub data CheckReport (text cert : List ℕ) : List ℕ → Status → Type 0 where
-  of_job : {out : List ℕ} {status : Status} (job : JobValue) → JobText (lines_of text) job → CertReport job cert out status → CheckReport text cert out status
-  no_job : {out : List ℕ} {status : Status} → NoJob text out status → CheckReport text cert out status
 
 -- ---- what the parts write
 

@@ -2,7 +2,6 @@
 use Rattle.std.specs.Prelude.{◌≡◌, ℕ, ◌⊎◌, List, ◌++◌, Option, codes}
 use Rattle.std.specs.Fmt.{decimal}
 use Rattle.hq_text.specs.Lines.{lines_of}
-use Rattle.hq_job.specs.JobText.{JobText}
 use Rattle.hq_job.specs.Plan.{plan}
 use Rattle.hq_job.specs.Value.{JobValue}
 use Rattle.hq_machine.specs.declared.event.Event.{Event}
@@ -15,9 +14,9 @@ use Rattle.hq_timeline.specs.declared.fault.TimeReason.TheVariants as reason
 use Rattle.hq_timeline.specs.declared.fault.ReplayFault.{ReplayFault}
 use Rattle.hq_timeline.specs.declared.fault.ReplayFault.TheVariants as fault
 use Rattle.hq_engines.specs.Buffers.{buffers_text}
-use Rattle.hq_engines.specs.Reports.{NoJob, Said, with_feed}
+use Rattle.hq_engines.specs.Reports.{Said, with_feed}
 use Rattle.hq_engines.specs.declared.status.Status.{Status}
-use Rattle.hq_engines.specs.declared.status.Status.TheVariants.{Done, RunRefused, Memory, File}
+use Rattle.hq_engines.specs.declared.status.Status.TheVariants.{Done, RunRefused, Memory}
 
 -- ---- the lines
 
@@ -35,11 +34,9 @@ event_refusal place = codes "refused event " ++ decimal place
 
 -- ---- the reports
 
--- Why there is no journal, of what was read: the text has a first fault; memory ran out; or the reader failed.
+-- Why there is no journal: the text has a first fault.
 pub data NoTimeline (text : List ℕ) : List ℕ → Status → Type 0 where
   refused : (fault : TimeFault) → FirstFault (lines_of text) fault → NoTimeline text (with_feed (time_refusal fault)) RunRefused
-  no_memory : NoTimeline text (with_feed (codes "out of memory")) Memory
-  no_text : NoTimeline text (with_feed (codes "file fault")) File
 
 -- What is written of a job and the events of a journal: the buffers as these leave them; or the first event that isn't enabled.
 pub data RunReport (job : JobValue) (events : List Event) : List ℕ → Status → Type 0 where
@@ -51,11 +48,6 @@ pub data RunReport (job : JobValue) (events : List Event) : List ℕ → Status 
 pub data TimelineReport (job : JobValue) (timeline : List ℕ) : List ℕ → Status → Type 0 where
   read : {out : List ℕ} {status : Status} (events : List Event) → TimeText (lines_of timeline) events → RunReport job events out status → TimelineReport job timeline out status
   no_timeline : {out : List ℕ} {status : Status} → NoTimeline timeline out status → TimelineReport job timeline out status
-
--- What `replay` writes of a job's text and a timeline's.
-pub data ReplayReport (text timeline : List ℕ) : List ℕ → Status → Type 0 where
-  of_job : {out : List ℕ} {status : Status} (job : JobValue) → JobText (lines_of text) job → TimelineReport job timeline out status → ReplayReport text timeline out status
-  no_job : {out : List ℕ} {status : Status} → NoJob text out status → ReplayReport text timeline out status
 
 -- ---- what the parts write
 

@@ -1,15 +1,13 @@
 -- What `show` writes.
 use Rattle.std.specs.Prelude.{ℕ, ◌+◌, List, [], ◌∷◌, ◌++◌, length, codes, slice_get, Option, Some, None}
 use Rattle.std.specs.Fmt.{decimal}
-use Rattle.hq_text.specs.Lines.{lines_of}
-use Rattle.hq_job.specs.JobText.{JobText}
 use Rattle.hq_job.specs.Value.{JobValue}
 use Rattle.hq_job.specs.declared.rows.Placed.{Placed}
 use Rattle.hq_job.specs.declared.rows.Queue.{Queue}
 use Rattle.hq_report.specs.Shown.{packet_text}
 use Rattle.hq_engines.specs.declared.status.Status.{Status}
 use Rattle.hq_engines.specs.declared.status.Status.TheVariants.{Done}
-use Rattle.hq_engines.specs.Reports.{NoJob, with_feed}
+use Rattle.hq_engines.specs.Reports.{with_feed}
 
 -- the name of a queue by its number
 abbrev pub name_of : Option Queue → List ℕ
@@ -29,7 +27,6 @@ packets_text queues number (p ∷ ps) = packet_line queues number p ++ packets_t
 abbrev pub show_text : JobValue → List ℕ
 show_text job = packets_text job.queues 0 job.packets ++ with_feed (codes "packets " ++ decimal (length job.packets))
 
--- What `show` writes of a text.
-pub data ShowReport (text : List ℕ) : List ℕ → Status → Type 0 where
-  shows : (job : JobValue) → JobText (lines_of text) job → ShowReport text (show_text job) Done
-  no_job : {out : List ℕ} {status : Status} → NoJob text out status → ShowReport text out status
+-- What `show` writes of a job.
+pub data ShowReport (job : JobValue) : List ℕ → Status → Type 0 where
+  shows : ShowReport job (show_text job) Done

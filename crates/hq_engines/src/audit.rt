@@ -1,10 +1,10 @@
 //! `hsaq audit`: from a job's bytes to a certificate's bytes.
 
-ghost use Rattle.std.specs.Prelude.{◌⊎◌, IfSome, codes};
+ghost use Rattle.std.specs.Prelude.{◌⊎◌, codes};
 ghost use Rattle.hq_cert.specs.Printed.{text_of};
 ghost use Rattle.hq_job.specs.Plan.{plan};
-ghost use Rattle.hq_engines.specs.Audit.{AuditReport, JobReport, NoSaid, conflict_text};
-ghost use Rattle.hq_engines.specs.Reports.{Reported, Said, with_feed};
+ghost use Rattle.hq_engines.specs.Audit.{JobReport, NoSaid, conflict_text};
+ghost use Rattle.hq_engines.specs.Reports.{JobTextReport, ReaderReport, Reported, Said, with_feed};
 
 use crate::saying::{say, say_memory};
 use crate::status::Status;
@@ -84,7 +84,7 @@ fn audit_found<W: Write>(alloc: Global, writer: &mut W, job: &Job) -> Status
 /// Reads a job and writes its certificate, or the packets that can never complete, or the conflict that nothing orders. Nothing
 /// is written before the last growth of memory.
 pub fn audit_engine<R: Read, W: Write>(alloc: Global, reader: &mut R, writer: &mut W) -> Status
-    ensures { IfSome (R.remaining reader.old) (λ text. Reported (AuditReport text) (W.contents writer.old) (W.contents writer.new) result) }
+    ensures { Reported (ReaderReport R R.remaining reader.old reader.new (JobTextReport (λ job. JobReport (plan job)))) (W.contents writer.old) (W.contents writer.new) result }
 {
     match take_job(alloc, reader, writer) {
         Ok(job) => audit_found(alloc, writer, &job),

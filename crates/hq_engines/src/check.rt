@@ -1,12 +1,12 @@
 //! `hsaq check`: whether a certificate holds for a job.
 
-ghost use Rattle.std.specs.Prelude.{◌≡◌, Some, IfSome, IfOk, IfErr, OnOk, length};
+ghost use Rattle.std.specs.Prelude.{◌≡◌, Some, IfOk, IfErr, OnOk, length};
 ghost use Rattle.hq_text.specs.Lines.{lines_of};
 ghost use Rattle.hq_job.specs.Plan.{plan};
 ghost use Rattle.hq_model.specs.Machine.{bound};
 ghost use Rattle.hq_cert.specs.Grammar.{CertText};
-ghost use Rattle.hq_engines.specs.Check.{NoCertificate, SaysNoCertificate, Checked, CheckedReport, CertReport, CheckReport, NoSaid, accepted_text, cert_refusal, bad_line_text, pair_missing_text, bad_pair_text};
-ghost use Rattle.hq_engines.specs.Reports.{Reported, Said, with_feed};
+ghost use Rattle.hq_engines.specs.Check.{NoCertificate, SaysNoCertificate, Checked, CheckedReport, CertReport, NoSaid, accepted_text, cert_refusal, bad_line_text, pair_missing_text, bad_pair_text};
+ghost use Rattle.hq_engines.specs.Reports.{JobTextReport, OfReader, ReaderReport, Reported, Said, with_feed};
 
 use crate::saying::{say, say_file, say_memory};
 use crate::status::Status;
@@ -105,9 +105,9 @@ fn take_certificate<R: Read, W: Write>(
     reader: &mut R,
     writer: &mut W,
 ) -> Result<Certificate, Status>
-    ensures found { IfSome (R.remaining reader.old) (λ text. IfOk result (λ c. CertText (lines_of text) c)) }
+    ensures found { IfOk result (λ c. OfReader R R.remaining reader.old reader.new (λ text. CertText (lines_of text) c)) }
     ensures unwritten { OnOk result (writer.new ≡ writer.old) }
-    ensures refused { IfSome (R.remaining reader.old) (λ text. IfErr result (Reported (NoCertificate text) (W.contents writer.old) (W.contents writer.new))) }
+    ensures refused { IfErr result (Reported (ReaderReport R R.remaining reader.old reader.new NoCertificate) (W.contents writer.old) (W.contents writer.new)) }
 {
     match read(alloc, reader) {
         Ok(certificate) => Ok(certificate),
@@ -170,7 +170,7 @@ fn check_read<S: Read, W: Write>(
     writer: &mut W,
     job: Job,
 ) -> Status
-    ensures { IfSome (S.remaining certificate.old) (λ cert. Reported (CertReport job cert) (W.contents writer.old) (W.contents writer.new) result) }
+    ensures { Reported (ReaderReport S S.remaining certificate.old certificate.new (CertReport job)) (W.contents writer.old) (W.contents writer.new) result }
 {
     match take_certificate(alloc, certificate, writer) {
         Ok(certificate) => check_found(rt, alloc, writer, job, &certificate),
@@ -187,7 +187,7 @@ pub fn check_engine<R: Read, S: Read, W: Write>(
     certificate: &mut S,
     writer: &mut W,
 ) -> Status
-    ensures { IfSome (R.remaining reader.old) (λ text. IfSome (S.remaining certificate.old) (λ cert. Reported (CheckReport text cert) (W.contents writer.old) (W.contents writer.new) result)) }
+    ensures { Reported (ReaderReport R R.remaining reader.old reader.new (JobTextReport (λ job. ReaderReport S S.remaining certificate.old certificate.new (CertReport job)))) (W.contents writer.old) (W.contents writer.new) result }
 {
     match take_job(alloc, reader, writer) {
         Ok(job) => check_read(rt, alloc, certificate, writer, job),

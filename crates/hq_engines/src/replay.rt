@@ -1,10 +1,10 @@
 //! `hsaq replay`: a job's buffers after the events of a timeline.
 
-ghost use Rattle.std.specs.Prelude.{◌≡◌, Some, IfSome, IfOk, IfErr, OnOk};
+ghost use Rattle.std.specs.Prelude.{◌≡◌, Some, IfOk, IfErr, OnOk};
 ghost use Rattle.hq_text.specs.Lines.{lines_of};
 ghost use Rattle.hq_timeline.specs.Grammar.{TimeText};
-ghost use Rattle.hq_engines.specs.Replay.{NoTimeline, SaysNoTimeline, StopSaid, RunReport, TimelineReport, ReplayReport, time_refusal, event_refusal};
-ghost use Rattle.hq_engines.specs.Reports.{Reported};
+ghost use Rattle.hq_engines.specs.Replay.{NoTimeline, SaysNoTimeline, StopSaid, RunReport, TimelineReport, time_refusal, event_refusal};
+ghost use Rattle.hq_engines.specs.Reports.{JobTextReport, OfReader, ReaderReport, Reported};
 
 use crate::buffers::say_buffers;
 use crate::saying::{say, say_file, say_memory};
@@ -63,9 +63,9 @@ fn take_journal<R: Read, W: Write>(
     reader: &mut R,
     writer: &mut W,
 ) -> Result<Journal, Status>
-    ensures found { IfSome (R.remaining reader.old) (λ text. IfOk result (λ journal. TimeText (lines_of text) journal)) }
+    ensures found { IfOk result (λ journal. OfReader R R.remaining reader.old reader.new (λ text. TimeText (lines_of text) journal)) }
     ensures unwritten { OnOk result (writer.new ≡ writer.old) }
-    ensures refused { IfSome (R.remaining reader.old) (λ text. IfErr result (Reported (NoTimeline text) (W.contents writer.old) (W.contents writer.new))) }
+    ensures refused { IfErr result (Reported (ReaderReport R R.remaining reader.old reader.new NoTimeline) (W.contents writer.old) (W.contents writer.new)) }
 {
     match read(alloc, reader) {
         Ok(journal) => Ok(journal),
@@ -101,7 +101,7 @@ fn replay_read<S: Read, W: Write>(
     writer: &mut W,
     job: &Job,
 ) -> Status
-    ensures { IfSome (S.remaining timeline.old) (λ text. Reported (TimelineReport job.now text) (W.contents writer.old) (W.contents writer.new) result) }
+    ensures { Reported (ReaderReport S S.remaining timeline.old timeline.new (TimelineReport job.now)) (W.contents writer.old) (W.contents writer.new) result }
 {
     match take_journal(alloc, timeline, writer) {
         Ok(journal) => replay_found(alloc, writer, job, &journal),
@@ -117,7 +117,7 @@ pub fn replay_engine<R: Read, S: Read, W: Write>(
     timeline: &mut S,
     writer: &mut W,
 ) -> Status
-    ensures { IfSome (R.remaining reader.old) (λ text. IfSome (S.remaining timeline.old) (λ line. Reported (ReplayReport text line) (W.contents writer.old) (W.contents writer.new) result)) }
+    ensures { Reported (ReaderReport R R.remaining reader.old reader.new (JobTextReport (λ job. ReaderReport S S.remaining timeline.old timeline.new (TimelineReport job)))) (W.contents writer.old) (W.contents writer.new) result }
 {
     match take_job(alloc, reader, writer) {
         Ok(job) => replay_read(alloc, timeline, writer, &job),

@@ -1,8 +1,8 @@
 //! `hsaq show`: a job's packets, one line each.
 
-ghost use Rattle.std.specs.Prelude.{◌<◌, IfSome, OnOk, length, All};
+ghost use Rattle.std.specs.Prelude.{◌<◌, OnOk, length, All};
 ghost use Rattle.std.specs.Io.KnownBytes.{Appends};
-ghost use Rattle.hq_engines.specs.Reports.{Reported, Said};
+ghost use Rattle.hq_engines.specs.Reports.{JobTextReport, ReaderReport, Reported, Said};
 ghost use Rattle.hq_engines.specs.Show.{packets_text, packet_line, show_text, ShowReport};
 
 use crate::status::Status;
@@ -66,7 +66,7 @@ fn show_found<W: Write>(writer: &mut W, job: &Job) -> Status
 
 /// Reads a job and writes its packets, one line each, and how many there are. It takes no memory once the job is read.
 pub fn show_engine<R: Read, W: Write>(alloc: Global, reader: &mut R, writer: &mut W) -> Status
-    ensures { IfSome (R.remaining reader.old) (λ text. Reported (ShowReport text) (W.contents writer.old) (W.contents writer.new) result) }
+    ensures { Reported (ReaderReport R R.remaining reader.old reader.new (JobTextReport ShowReport)) (W.contents writer.old) (W.contents writer.new) result }
 {
     match take_job(alloc, reader, writer) {
         Ok(job) => show_found(writer, &job),

@@ -1,9 +1,9 @@
 //! Jobs from readers.
 
-ghost use Rattle.std.specs.Prelude.{◌≡◌, IfSome, IfOk, IfErr, OnOk};
+ghost use Rattle.std.specs.Prelude.{◌≡◌, IfOk, IfErr, OnOk};
 ghost use Rattle.hq_text.specs.Lines.{lines_of};
 ghost use Rattle.hq_job.specs.JobText.{JobText};
-ghost use Rattle.hq_engines.specs.Reports.{Reported, NoJob, SaysNoJob};
+ghost use Rattle.hq_engines.specs.Reports.{NoJob, OfReader, ReaderReport, Reported, SaysNoJob};
 
 use crate::saying::{say, say_file, say_memory};
 use crate::status::Status;
@@ -29,9 +29,9 @@ pub fn take_job<R: Read, W: Write>(
     reader: &mut R,
     writer: &mut W,
 ) -> Result<Job, Status>
-    ensures found { IfSome (R.remaining reader.old) (λ text. IfOk result (λ job. JobText (lines_of text) job)) }
+    ensures found { IfOk result (λ job. OfReader R R.remaining reader.old reader.new (λ text. JobText (lines_of text) job)) }
     ensures unwritten { OnOk result (writer.new ≡ writer.old) }
-    ensures refused { IfSome (R.remaining reader.old) (λ text. IfErr result (λ status. Reported (NoJob text) (W.contents writer.old) (W.contents writer.new) status)) }
+    ensures refused { IfErr result (Reported (ReaderReport R R.remaining reader.old reader.new NoJob) (W.contents writer.old) (W.contents writer.new)) }
 {
     match read(alloc, reader) {
         Ok(job) => Ok(job),
