@@ -1,4 +1,4 @@
-ghost use Rattle.std.specs.Prelude.{◌<◌};
+ghost use Rattle.std.specs.Prelude.{◌≡◌, ◌<◌, IfOk};
 
 use super::*;
 use hq_footprint::{Footprint, Range};
@@ -40,6 +40,36 @@ fn piece_of(
         4096,
         Vec::from_elem(alloc, byte, 4)?,
     )
+}
+
+/// A tray, asked for once more where memory is refused.
+fn tray_of(alloc: Global, packets: u16) -> Result<Tray, AllocError>
+    ensures { IfOk result (λ tray. tray.packets ≡ packets) }
+{
+    match Tray::open(alloc, packets) {
+        Ok(tray) => Ok(tray),
+        Err(_) => Tray::open(alloc, packets),
+    }
+}
+
+/// Drops a piece of four bytes that are all the same, which is asked for once more where memory is refused.
+fn drop_one(alloc: Global, tray: &Tray, packet: u16, place: u8, byte: u8) -> Result<(), AllocError>
+    requires packet { packet < tray.now.packets }
+    requires place { place < 3 }
+{
+    match piece_of(alloc, tray, packet, place, byte) {
+        Ok(piece) => drop(piece),
+        Err(_) => drop(piece_of(alloc, tray, packet, place, byte)?),
+    }
+    Ok(())
+}
+
+/// What came home, asked for once more where memory is refused.
+fn gathered(alloc: Global, tray: &mut Tray) -> Result<Vec<Home>, AllocError> {
+    match tray.gather(alloc) {
+        Ok(homes) => Ok(homes),
+        Err(_) => tray.gather(alloc),
+    }
 }
 
 #[test]
@@ -94,5 +124,32 @@ fn dropped_pieces_come_home(rt: HostRuntime) -> Result<(), Fail> {
     let homes = tray.gather(rt.alloc())?;
     assert_eq!(rt; homes.len(), 3);
     assert!(rt; homes[0].packet == 1 && homes[0].place == 2 && homes[2].place == 1);
+    Ok(())
+}
+
+// A call that is refused memory changes nothing, so that the next answers as if it hadn't been. Here no allocation is refused; with
+// `rt try --test --fail-alloc N` the Nth is.
+#[test]
+fn what_is_refused_is_asked_for_once_more(rt: HostRuntime) -> Result<(), Fail> {
+    let mut grants = Grants::new(rt.alloc());
+    let granted = grants.grant(0, &writer(4096, 4));
+    if granted.is_err() {
+        assert_eq!(rt; granted, Err(GrantFault::Memory));
+        assert!(rt; !grants.is_out(0));
+        assert_eq!(rt; grants.grant(0, &writer(4096, 4)), Ok(()));
+    }
+    assert!(rt; grants.is_out(0));
+    let mut tray = tray_of(rt.alloc(), 4)?;
+    drop_one(rt.alloc(), &tray, 2, 1, 7)?;
+    drop_one(rt.alloc(), &tray, 1, 2, 8)?;
+    drop_one(rt.alloc(), &tray, 2, 0, 5)?;
+    let homes = gathered(rt.alloc(), &mut tray)?;
+    assert_eq!(rt; homes.len(), 3);
+    assert!(rt; homes[0].packet == 1 && homes[0].place == 2);
+    assert!(rt; homes[0].bytes.as_slice() == [8, 8, 8, 8].as_slice());
+    assert!(rt; homes[1].packet == 2 && homes[1].place == 0);
+    assert!(rt; homes[1].bytes.as_slice() == [5, 5, 5, 5].as_slice());
+    assert!(rt; homes[2].packet == 2 && homes[2].place == 1);
+    assert!(rt; homes[2].bytes.as_slice() == [7, 7, 7, 7].as_slice());
     Ok(())
 }
