@@ -14,33 +14,78 @@ fn piece_of(alloc: Global, tray: &Tray, place: u8, bytes: &[u8]) -> Result<Piece
     Piece::new(alloc, tray, 0, place, 4096, bytes.to_vec(alloc)?)
 }
 
-#[test]
-fn sums_and_counts_are_eight_bytes(rt: HostRuntime) -> Result<(), Fail> {
-    let tray = Tray::open(rt.alloc(), 1)?;
-    let mut sum = Stock::new(Task::Sum);
-    assert!(rt;
-        sum.load(piece_of(rt.alloc(), &tray, 0, &[1, 2, 3, 255])?)
-            .is_ok()
-    );
-    assert!(rt; sum.load(piece_of(rt.alloc(), &tray, 1, &[9; 8])?).is_ok());
-    assert!(rt; sum.run().is_ok() && sum.has_run());
-    assert!(rt; sum.give_back().is_some());
-    match sum.give_back() {
-        Some(piece) => assert!(rt; piece.bytes() == [5, 1, 0, 0, 0, 0, 0, 0].as_slice()),
-        None => assert!(rt; false),
+/// Whether the body, which hasn't run, runs and says so, and these are then the bytes of the last piece that it gives back.
+fn writes(stock: Stock, wanted: &[u8]) -> bool {
+    let mut stock = stock;
+    if stock.has_run() || stock.run().is_err() || !stock.has_run() {
+        return false;
     }
-    let mut count = Stock::new(Task::Count(1));
-    assert!(rt;
-        count
-            .load(piece_of(rt.alloc(), &tray, 0, &[1, 2, 1])?)
-            .is_ok()
-    );
-    assert!(rt; count.load(piece_of(rt.alloc(), &tray, 1, &[9; 8])?).is_ok());
-    assert!(rt; count.run().is_ok());
-    assert!(rt; count.give_back().is_some());
-    match count.give_back() {
-        Some(piece) => assert!(rt; piece.bytes() == [2, 0, 0, 0, 0, 0, 0, 0].as_slice()),
-        None => assert!(rt; false),
+    let mut last = None;
+    for _ in 0..3 {
+        if let Some(piece) = stock.give_back() {
+            last = Some(piece);
+        }
+    }
+    match last {
+        Some(piece) => piece.bytes() == wanted,
+        None => false,
+    }
+}
+
+#[test]
+fn bodies_that_read_nothing(rt: HostRuntime) -> Result<(), Fail> {
+    let tray = Tray::open(rt.alloc(), 1)?;
+    let mut fill = Stock::new(Task::Fill(7));
+    assert!(rt; fill.load(piece_of(rt.alloc(), &tray, 0, &[9; 3])?).is_ok());
+    assert!(rt; writes(fill, &[7, 7, 7]));
+    let mut store = Stock::new(Task::Store64(77));
+    assert!(rt; store.load(piece_of(rt.alloc(), &tray, 0, &[9; 8])?).is_ok());
+    assert!(rt; writes(store, &[77, 0, 0, 0, 0, 0, 0, 0]));
+    let mut nop = Stock::new(Task::Nop);
+    assert!(rt; !nop.has_run() && nop.run().is_ok() && nop.has_run());
+    assert!(rt; nop.give_back().is_none());
+    Ok(())
+}
+
+#[test]
+fn bodies_that_read_one_range(rt: HostRuntime) -> Result<(), Fail> {
+    let tray = Tray::open(rt.alloc(), 1)?;
+    for (task, read, wrote) in [
+        (Task::Copy, [1, 2, 3].as_slice(), [1, 2, 3].as_slice()),
+        (Task::Rev, [1, 2, 3].as_slice(), [3, 2, 1].as_slice()),
+        (
+            Task::Sum,
+            [1, 2, 3, 255].as_slice(),
+            [5, 1, 0, 0, 0, 0, 0, 0].as_slice(),
+        ),
+        (
+            Task::Count(1),
+            [1, 2, 1].as_slice(),
+            [2, 0, 0, 0, 0, 0, 0, 0].as_slice(),
+        ),
+    ] {
+        let mut stock = Stock::new(task);
+        assert!(rt; stock.load(piece_of(rt.alloc(), &tray, 0, read)?).is_ok());
+        let write = Vec::from_elem(rt.alloc(), 9, wrote.len())?;
+        assert!(rt; stock.load(piece_of(rt.alloc(), &tray, 1, &write)?).is_ok());
+        assert!(rt; writes(stock, wrote));
+    }
+    Ok(())
+}
+
+#[test]
+fn bodies_that_read_two_ranges(rt: HostRuntime) -> Result<(), Fail> {
+    let tray = Tray::open(rt.alloc(), 1)?;
+    for (task, wrote) in [(Task::Xor, [253, 2]), (Task::Add, [1, 4])] {
+        let mut stock = Stock::new(task);
+        assert!(rt;
+            stock
+                .load(piece_of(rt.alloc(), &tray, 0, &[255, 1])?)
+                .is_ok()
+        );
+        assert!(rt; stock.load(piece_of(rt.alloc(), &tray, 1, &[2, 3])?).is_ok());
+        assert!(rt; stock.load(piece_of(rt.alloc(), &tray, 2, &[9, 9])?).is_ok());
+        assert!(rt; writes(stock, &wrote));
     }
     Ok(())
 }
