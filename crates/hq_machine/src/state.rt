@@ -111,7 +111,7 @@ fn first_phases(alloc: Global, job: &Job) -> Result<Vec<Phase>, AllocError>
 }
 
 /// What each packet has observed as the job starts.
-fn nothing_observed(alloc: Global, count: usize) -> Result<Vec<[bool; 5]>, AllocError>
+pub fn nothing_observed(alloc: Global, count: usize) -> Result<Vec<[bool; 5]>, AllocError>
     ensures { IfOk result (λ rows. rows.items ≡ replicate count (replicate 5 false)) }
 {
     let rows = vec![in alloc; [false; 5]; count]?;
@@ -119,7 +119,7 @@ fn nothing_observed(alloc: Global, count: usize) -> Result<Vec<[bool; 5]>, Alloc
 }
 
 /// What each signal starts with.
-fn signal_values(alloc: Global, job: &Job) -> Result<Vec<u64>, AllocError>
+pub fn signal_values(alloc: Global, job: &Job) -> Result<Vec<u64>, AllocError>
     ensures { IfOk result (λ values. values.items ≡ (plan job.now).starts) }
 {
     let signals = job.signals();
