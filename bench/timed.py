@@ -47,6 +47,6 @@ def seconds(words, stdin=None):
     for _ in range(5):
         with open(stdin or os.devnull, 'rb') as file:
             start = time.perf_counter()
-            subprocess.run(words, stdin=file, check=True)
+            subprocess.run(words, stdin=file, stdout=subprocess.DEVNULL, check=True)
             least.append(time.perf_counter() - start)
     return min(least)
