@@ -58,7 +58,13 @@ fn sum_of(bytes: &[u8]) -> u64
 fn count_of(bytes: &[u8], byte: u8) -> u64
     ensures { result ≡ count_by (λ x. x == byte) bytes.now }
 {
-    bytes.iter().filter(|x| **x == byte).count() as u64
+    let mut count = 0u64;
+    for other in bytes {
+        if *other == byte {
+            count += 1;
+        }
+    }
+    count
 }
 
 /// Writes what a task makes of the bytes of its read ranges: `first`, and for xor and add `second`, which is else empty.
