@@ -9,6 +9,8 @@ mod known;
 pub mod laws;
 mod rule;
 mod seat;
+#[cfg(test)]
+mod tests;
 mod words;
 
 pub use board::Board;
