@@ -5,6 +5,8 @@ use std::{fmt, io};
 
 const WORDS: &str = "these words are no packet; `hsaq pack --help` lists the fields";
 
+const NOT_ENABLED: &str = "an event isn't enabled after those before it";
+
 const STUCK: &str = "these packets can never complete, in any run";
 
 /// What the codes of refusals mean. A number that stands behind a code goes behind its meaning.
@@ -190,14 +192,22 @@ fn explain_refusal(rt: &HostRuntime, text: &str, answer: &str) -> io::Result<()>
     eprintln!(rt; "hsaq: {}", Refusal { text, answer })
 }
 
-/// What a run's fault means; an answer that tells of none is a refusal of a timeline.
+/// What a run's fault means; an answer that tells of none is a refusal of a timeline, or a picture that ends at one.
 fn explain_run(rt: &HostRuntime, answer: &str) -> io::Result<()> {
+    if answer.starts_with("<svg") {
+        return eprintln!(rt; "hsaq: {NOT_ENABLED}, up to which the timeline is drawn");
+    }
     let Some(fault) = answer.strip_prefix("run fault ") else {
         return explain_refusal(rt, "timeline", answer);
     };
     match fault.strip_prefix("Kernel ") {
         Some(packet) => {
             eprintln!(rt; "hsaq: the body of packet {packet} failed, and the run was stopped")
+        }
+        None if fault == "Split" => {
+            eprintln!(rt;
+                "hsaq: the signals' words and the record of the run tell of different events"
+            )
         }
         None if fault == "Receipts" => {
             eprintln!(rt; "hsaq: what a thread says that it did isn't what was done")

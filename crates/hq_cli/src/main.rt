@@ -10,8 +10,8 @@ mod progress;
 use explaining::{explain, explain_unopened};
 use heard::Heard;
 use hq_engines::{
-    Status, audit_engine, check_engine, job_engine, pack_engine, replay_engine, run_engine,
-    say_file, say_memory, show_engine,
+    Status, audit_engine, chart_engine, check_engine, job_engine, pack_engine, replay_engine,
+    run_engine, say_file, say_memory, show_engine,
 };
 use hq_job::Job;
 use hq_kernels::stock_kits;
@@ -88,6 +88,15 @@ fn replay<W: Write>(rt: &HostRuntime, job: &str, timeline: &str, writer: &mut W)
     }
 }
 
+/// Opens both files before it reads either.
+fn chart<W: Write>(rt: &HostRuntime, job: &str, timeline: &str, writer: &mut W) -> Status {
+    match (open(rt, job), open_file(rt, timeline)) {
+        (Ok(mut input), Ok(mut file)) => chart_engine(rt.alloc(), &mut input, &mut file, writer),
+        (Err(error), _) => say_unopened(rt, job, &error, writer),
+        (_, Err(error)) => say_unopened(rt, timeline, &error, writer),
+    }
+}
+
 /// The file that a timeline is asked for in, if it is.
 fn create_timeline(rt: &HostRuntime, timeline: Option<&str>) -> io::Result<Option<Output>> {
     match timeline {
@@ -149,6 +158,7 @@ fn answer<W: Write>(
         Asked::Check { job, certificate } => check(rt, threads, job, certificate, writer),
         Asked::Run { job, timeline } => run(rt, threads, job, *timeline, writer),
         Asked::Replay { job, timeline } => replay(rt, job, timeline, writer),
+        Asked::Chart { job, timeline } => chart(rt, job, timeline, writer),
     }
 }
 

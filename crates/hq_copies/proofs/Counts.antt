@@ -1,5 +1,5 @@
 -- Counts of the numbers below one that pass a test, and what a list of bytes in the order of those numbers gives.
-use Rattle.std.proofs.Common.{◌≡◌, ℕ, zero, suc, ◌+◌, ◌-◌, ◌<◌, ◌≤◌, ◌≢◌, Bool, true, false, not, inl, inr, List, [], ◌∷◌, length, refl, sym, ◌∙◌, ap, cond, ltb, get_or, set, arith, Some, None, get_or-set_same, get_or-set_other}
+use Rattle.std.proofs.Common.{◌≡◌, ℕ, zero, suc, ◌+◌, ◌-◌, ◌<◌, ◌≤◌, ◌≢◌, Bool, true, false, not, inl, inr, List, [], ◌∷◌, length, refl, sym, ◌∙◌, ap, cond, ltb, get_or, set, arith, subst, Some, None, get_or-set_same, get_or-set_other}
 use Rattle.std.proofs.lemmas.Bool.{cases_lt, cases_order, cases_Bool, cond-true, cond-false, lt-ltb, le-ltb}
 use Rattle.std.proofs.lemmas.List.Edits.{get_or-insert_at, get_or-insert_below, get_or-insert_above, get_or-remove_below, get_or-remove_above}
 use Rattle.std.specs.List.{insert, remove}
@@ -110,6 +110,23 @@ count_mono test m zero l = let e : m ≡ 0 = omega arith in let same : count_bel
 count_mono test m (suc n) l = elim (cases_lt n m) [
   | inl h ↦ let e : m ≡ suc n = omega arith in let same : count_below test m ≡ count_below test (suc n) = ap (count_below test) e in omega (arith, same)
   | inr h ↦ omega (arith, count_mono test m n h, (count_step test n).0)
+]
+
+count_most : (test : ℕ → Bool) (m k : ℕ) → count_below test (m + k) ≤ count_below test m + k
+count_most test m zero = let e : m + 0 ≡ m = omega arith in let same : count_below test (m + 0) ≡ count_below test m = ap (count_below test) e in omega (arith, same)
+count_most test m (suc k) =
+    let e : m + suc k ≡ suc (m + k) = omega arith in
+    let same : count_below test (m + suc k) ≡ count_below test (suc (m + k)) = ap (count_below test) e in
+    omega (arith, same, (count_step test (m + k)).1, count_most test m k)
+
+count_at_most : (test : ℕ → Bool) (m n : ℕ) → m ≤ n → count_below test n ≤ count_below test m + (n - m)
+count_at_most test m n l = let e : m + (n - m) ≡ n = omega arith in subst (λ k. count_below test k ≤ count_below test m + (n - m)) e (count_most test m (n - m))
+
+-- where as many numbers pass as there are, each does
+pub all_held : (test : ℕ → Bool) (start k : ℕ) → count_below test (start + k) ≡ count_below test start + k → (n : ℕ) → start ≤ n → n < start + k → test n ≡ true
+all_held test start k e n l h = elim (cases_Bool (test n)) [
+  | inl passes ↦ passes
+  | inr fails ↦ absurd (omega (arith, e, step_false test n fails, count_at_most test start n l, count_at_most test (suc n) (start + k) h))
 ]
 
 -- a number that passes has a place of its own

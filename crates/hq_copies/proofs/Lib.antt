@@ -1,5 +1,6 @@
 pub mod Edges
 pub mod Counts
+pub mod Covers
 pub mod Finds
 pub mod Marks
 pub mod Overlays

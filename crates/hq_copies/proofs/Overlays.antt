@@ -1,15 +1,15 @@
 -- Runs of bytes that are put over others, at their end or one byte after another.
-use Rattle.std.proofs.Common.{◌≡◌, ℕ, zero, suc, ◌+◌, ◌-◌, ◌<◌, ◌≤◌, ◌≢◌, true, false, not, inl, inr, List, [], ◌∷◌, ◌++◌, length, take, refl, sym, ◌∙◌, ap, ap₂, subst, ltb, get_or, arith, Option, Some, None, is_some, slice_get, length-append}
+use Rattle.std.proofs.Common.{◌≡◌, ℕ, zero, suc, ◌+◌, ◌-◌, ◌<◌, ◌≤◌, ◌≢◌, true, false, not, cond, inl, inr, List, [], ◌∷◌, ◌++◌, length, take, drop, refl, sym, ◌∙◌, ap, ap₂, subst, ltb, get_or, arith, Option, Some, None, is_some, slice_get, length-append}
 use Rattle.std.proofs.lemmas.Bool.{cases_lt, cond-true, cond-false, lt-ltb, le-ltb, true≢false}
-use Rattle.std.proofs.lemmas.List.{get_or-take, get_or_append_left, get_or-append_right, length-take-le}
+use Rattle.std.proofs.lemmas.List.{get_or-take, get_or-drop, get_or_append_left, get_or-append_right, length-take-le, length-drop}
 use Rattle.std.proofs.lemmas.Option.{slice_get_past, slice_get-get_or}
-use Rattle.hq_copies.specs.Edges.{has, IsRising, is_odd, toggled, ceiling, byte_at, IsRuns}
+use Rattle.hq_copies.specs.Edges.{has, IsRising, is_odd, toggled, ceiling, byte_at, Covered, IsRuns}
 use Rattle.hq_copies.specs.Copies.{count_below}
 use Rattle.hq_copies.specs.Marks.{byte_of, AreRuns, SameRuns}
 use Rattle.hq_copies.specs.declared.runs.Runs.{Runs}
 use Rattle.hq_copies.specs.Overlays.{run_at, or_lower, Over}
 use Rattle.hq_copies.proofs.Edges.{not_not, has_beyond, toggled_before, toggled_from, toggled_rising, toggled_odd}
-use Rattle.hq_copies.proofs.Counts.{count_same, count_less, count_mono, step_true, step_false, at_true, at_false, at_other}
+use Rattle.hq_copies.proofs.Counts.{count_same, count_less, count_mono, all_held, step_true, step_false, at_true, at_other}
 
 -- ---- where a run has bytes
 
@@ -46,25 +46,12 @@ pub none_last : (edges : List ℕ) → None ≡ slice_get edges (length edges - 
 none_last [] e = refl
 none_last (x ∷ edges) e = absurd (true≢false (ap is_some (sym (e ∙ slice_get-get_or (x ∷ edges) (length (x ∷ edges) - 1) 0 (omega arith)))))
 
--- ---- a run at the end
+-- ---- a run that is put in
 
--- what is known of edges with a run behind all of them
-record Appended (edges : List ℕ) (start end : ℕ) (new : List ℕ) : Type 0 where
-  pub below : (n : ℕ) → n < start → has new n ≡ has edges n
-  pub within : (n : ℕ) → start ≤ n → n < end → has new n ≡ true
-  pub past : (n : ℕ) → end ≤ n → has new n ≡ false
-
-appended : (edges : List ℕ) (start end : ℕ) → start < end → ((n : ℕ) → start ≤ n → has edges n ≡ false) → Appended edges start end (toggled end (toggled start edges))
-appended edges start end l none = record {
-  below = λ n h. toggled_before end (toggled start edges) n (omega arith) ∙ toggled_before start edges n h;
-  within = λ n h k. toggled_before end (toggled start edges) n k ∙ toggled_from start edges n h ∙ ap not (none n h);
-  past = λ n h. toggled_from end (toggled start edges) n h ∙ ap not (toggled_from start edges n (omega arith)) ∙ not_not (has edges n) ∙ none n (omega arith);
-}
-
-counts_below : (edges new : List ℕ) (start end n : ℕ) → Appended edges start end new → n ≤ start → count_below (has new) n ≡ count_below (has edges) n
+counts_below : (edges new : List ℕ) (start end n : ℕ) → Covered edges start end new → n ≤ start → count_below (has new) n ≡ count_below (has edges) n
 counts_below edges new start end n a l = count_same (has edges) (has new) n (λ m h. a.below m (omega arith))
 
-counts_within : (edges new : List ℕ) (start end k : ℕ) → Appended edges start end new → start + k ≤ end → count_below (has new) (start + k) ≡ count_below (has edges) start + k
+counts_within : (edges new : List ℕ) (start end k : ℕ) → Covered edges start end new → start + k ≤ end → count_below (has new) (start + k) ≡ count_below (has edges) start + k
 counts_within edges new start end zero a l =
     let e : start + 0 ≡ start = omega arith in
     let f : count_below (has new) (start + 0) ≡ count_below (has edges) start = ap (count_below (has new)) e ∙ counts_below edges new start end start a (omega arith) in
@@ -76,82 +63,132 @@ counts_within edges new start end (suc k) a l =
     let h : count_below (has new) (start + k) ≡ count_below (has edges) start + k = counts_within edges new start end k a (omega arith) in
     omega (arith, f, g, h)
 
-counts_past : (edges new : List ℕ) (start end k : ℕ) → Appended edges start end new → count_below (has new) (end + k) ≡ count_below (has new) end
-counts_past edges new start end zero a = let e : end + 0 ≡ end = omega arith in ap (count_below (has new)) e
+counts_past : (edges new : List ℕ) (start end k : ℕ) → Covered edges start end new → count_below (has new) (end + k) + count_below (has edges) end ≡ count_below (has new) end + count_below (has edges) (end + k)
+counts_past edges new start end zero a =
+    let e : end + 0 ≡ end = omega arith in
+    let f : count_below (has new) (end + 0) ≡ count_below (has new) end = ap (count_below (has new)) e in
+    let g : count_below (has edges) (end + 0) ≡ count_below (has edges) end = ap (count_below (has edges)) e in
+    omega (arith, f, g)
 counts_past edges new start end (suc k) a =
     let e : end + suc k ≡ suc (end + k) = omega arith in
-    ap (count_below (has new)) e ∙ step_false (has new) (end + k) (a.past (end + k) (omega arith)) ∙ counts_past edges new start end k a
+    let f : count_below (has new) (end + suc k) ≡ count_below (has new) (end + k) + cond {A = ℕ} (has new (end + k)) 1 0 = ap (count_below (has new)) e in
+    let g : count_below (has edges) (end + suc k) ≡ count_below (has edges) (end + k) + cond {A = ℕ} (has edges (end + k)) 1 0 = ap (count_below (has edges)) e in
+    let h : cond {A = ℕ} (has new (end + k)) 1 0 ≡ cond {A = ℕ} (has edges (end + k)) 1 0 = ap (λ t. cond {A = ℕ} t 1 0) (a.past (end + k) (omega arith)) in
+    omega (arith, f, g, h, counts_past edges new start end k a)
 
 -- the count at a number of the run
-count_at : (edges new : List ℕ) (start end n : ℕ) → Appended edges start end new → start ≤ n → n ≤ end → count_below (has new) n ≡ count_below (has edges) start + (n - start)
+count_at : (edges new : List ℕ) (start end n : ℕ) → Covered edges start end new → start ≤ n → n ≤ end → count_below (has new) n ≡ count_below (has edges) start + (n - start)
 count_at edges new start end n a l h =
     let e : start + (n - start) ≡ n = omega arith in
     ap (count_below (has new)) (sym e) ∙ counts_within edges new start end (n - start) a (omega arith)
 
-count_after : (edges new : List ℕ) (start end n : ℕ) → Appended edges start end new → end ≤ n → count_below (has new) n ≡ count_below (has new) end
-count_after edges new start end n a l =
+-- and behind it
+count_after : (edges new : List ℕ) (start end n : ℕ) → Covered edges start end new → start ≤ end → end ≤ n → count_below (has new) n + count_below (has edges) end ≡ count_below (has edges) start + (end - start) + count_below (has edges) n
+count_after edges new start end n a low l =
     let e : end + (n - end) ≡ n = omega arith in
-    ap (count_below (has new)) (sym e) ∙ counts_past edges new start end (n - end) a
+    let f : count_below (has new) (end + (n - end)) ≡ count_below (has new) n = ap (count_below (has new)) e in
+    let g : count_below (has edges) (end + (n - end)) ≡ count_below (has edges) n = ap (count_below (has edges)) e in
+    omega (arith, f, g, counts_past edges new start end (n - end) a, count_at edges new start end end a low (omega arith))
 
-pub appended_runs : (edges bytes run : List ℕ) (start end i : ℕ) (new : List ℕ) → IsRuns edges bytes → ((n : ℕ) → start ≤ n → has edges n ≡ false) → i ≡ count_below (has edges) start → 0 < length run → end ≡ start + length run
-    → new ≡ toggled end (toggled start edges) → IsRuns new (take i bytes ++ run)
-appended_runs edges bytes run start end i new runs none at some past e = rw e (record {
-  rising = toggled_rising end 0 (toggled start edges) (toggled_rising start 0 edges runs.rising (omega arith)) (omega arith);
-  ends = toggled_odd end (toggled start edges) ∙ ap not (toggled_odd start edges) ∙ not_not (is_odd edges) ∙ runs.ends;
+-- the bytes of the numbers from end on
+pub record Behind (edges bytes : List ℕ) (end : ℕ) (tail : List ℕ) : Type 0 where
+  pub enough : (n : ℕ) → end ≤ n → count_below (has edges) n ≤ count_below (has edges) end + length tail
+  pub same : (n : ℕ) → end ≤ n → has edges n ≡ true → get_or tail (count_below (has edges) n - count_below (has edges) end) 0 ≡ get_or bytes (count_below (has edges) n) 0
+
+pub behind_dropped : (edges bytes : List ℕ) (end j : ℕ) → IsRuns edges bytes → j ≡ count_below (has edges) end → Behind edges bytes end (drop j bytes)
+behind_dropped edges bytes end j runs at = record {
+  enough = λ n l. let e : length (drop j bytes) ≡ length bytes - j = length-drop j bytes in omega (arith, at, e, runs.enough n, runs.enough end);
+  same = λ n l h.
+      let e : j + (count_below (has edges) n - count_below (has edges) end) ≡ count_below (has edges) n = omega (arith, at, count_mono (has edges) end n l) in
+      get_or-drop j bytes (count_below (has edges) n - count_below (has edges) end) 0 ∙ ap (λ k. get_or bytes k 0) e;
+}
+
+none_counted : (edges : List ℕ) (end k : ℕ) → ((n : ℕ) → end ≤ n → has edges n ≡ false) → count_below (has edges) (end + k) ≡ count_below (has edges) end
+none_counted edges end zero none = let e : end + 0 ≡ end = omega arith in ap (count_below (has edges)) e
+none_counted edges end (suc k) none =
+    let e : end + suc k ≡ suc (end + k) = omega arith in
+    ap (count_below (has edges)) e ∙ step_false (has edges) (end + k) (none (end + k) (omega arith)) ∙ none_counted edges end k none
+
+pub behind_none : (edges bytes : List ℕ) (end : ℕ) → ((n : ℕ) → end ≤ n → has edges n ≡ false) → Behind edges bytes end []
+behind_none edges bytes end none = record {
+  enough = λ n l.
+      let e : end + (n - end) ≡ n = omega arith in
+      let f : count_below (has edges) (end + (n - end)) ≡ count_below (has edges) n = ap (count_below (has edges)) e in
+      omega (arith, f, none_counted edges end (n - end) none);
+  same = λ n l h. absurd (true≢false (sym h ∙ none n l));
+}
+
+pub put_runs : (edges bytes run tail : List ℕ) (start end i : ℕ) (new : List ℕ) → IsRuns edges bytes → i ≡ count_below (has edges) start → end ≡ start + length run → Covered edges start end new → Behind edges bytes end tail → IsRuns new (take i bytes ++ run ++ tail)
+put_runs edges bytes run tail start end i new runs at past a b = record {
+  rising = a.rising;
+  ends = a.odd ∙ runs.ends;
   enough = λ n. elim (cases_lt n end) [
     | inl low ↦ elim (cases_lt n start) [
-      | inl below ↦ omega (arith, size, counts_below edges new' start end n a (omega arith), small n below)
-      | inr from ↦ omega (arith, size, count_at edges new' start end n a from (omega arith))
+      | inl below ↦ omega (arith, size, counts_below edges new start end n a (omega arith), at, count_mono (has edges) n start (omega arith))
+      | inr from ↦ omega (arith, size, at, past, count_at edges new start end n a from (omega arith))
     ]
-    | inr high ↦ omega (arith, size, count_after edges new' start end n a high, count_at edges new' start end end a (omega arith) (omega arith))
+    | inr high ↦ omega (arith, size, at, past, count_after edges new start end n a (omega (arith, past)) high, b.enough n high)
   ];
-})
+}
   where
-    new' : List ℕ
-    new' = toggled end (toggled start edges)
+    size : length (take i bytes ++ run ++ tail) ≡ i + length run + length tail
+    size = length-append (take i bytes ++ run) tail ∙ ap (λ k. k + length tail) (length-append (take i bytes) run ∙ ap (λ k. k + length run) (length-take-le i bytes (omega (arith, at, runs.enough start))))
 
-    a : Appended edges start end (toggled end (toggled start edges))
-    a = appended edges start end (omega arith) none
-
-    size : length (take i bytes ++ run) ≡ i + length run
-    size = length-append (take i bytes) run ∙ ap (λ k. k + length run) (length-take-le i bytes (omega (arith, runs.enough start)))
-
-    small : (n : ℕ) → n < start → count_below (has edges) n ≤ i
-    small n l = omega (arith, at, count_mono (has edges) n start (omega arith))
-
-pub appended_over : (edges bytes run : List ℕ) (start end i : ℕ) (new : List ℕ) → IsRuns edges bytes → ((n : ℕ) → start ≤ n → has edges n ≡ false) → i ≡ count_below (has edges) start → 0 < length run → end ≡ start + length run
-    → new ≡ toggled end (toggled start edges) → Over (run_at start run) (byte_at (has edges) bytes) (byte_at (has new) (take i bytes ++ run))
-appended_over edges bytes run start end i new runs none at some past e n = rw e (elim (cases_lt n start) [
+pub put_over : (edges bytes run tail : List ℕ) (start end i : ℕ) (new : List ℕ) → IsRuns edges bytes → i ≡ count_below (has edges) start → end ≡ start + length run → Covered edges start end new → Behind edges bytes end tail
+    → Over (run_at start run) (byte_at (has edges) bytes) (byte_at (has new) (take i bytes ++ run ++ tail))
+put_over edges bytes run tail start end i new runs at past a b n = elim (cases_lt n start) [
   | inl low ↦
-      at_other (has edges) (has new') bytes (take i bytes ++ run) n (a.below n low) (λ h.
-      let c : count_below (has new') n ≡ count_below (has edges) n = counts_below edges new' start end n a (omega arith) in
+      at_other (has edges) (has new) bytes (take i bytes ++ run ++ tail) n (a.below n low) (λ h.
+      let c : count_below (has new) n ≡ count_below (has edges) n = counts_below edges new start end n a (omega arith) in
       let l : count_below (has edges) n < i = omega (arith, at, count_less (has edges) n start h low) in
-      ap (λ k. get_or (take i bytes ++ run) k 0) c
+      ap (λ k. get_or (take i bytes ++ run ++ tail) k 0) c
+      ∙ get_or_append_left (take i bytes ++ run) tail 0 (count_below (has edges) n) (omega (arith, l, front))
       ∙ get_or_append_left (take i bytes) run 0 (count_below (has edges) n) (omega (arith, l, size))
       ∙ get_or-take i bytes (count_below (has edges) n) 0 l)
       ∙ ap (λ t. or_lower t (byte_at (has edges) bytes n)) (sym (run_before start run n low))
   | inr from ↦ elim (cases_lt n end) [
     | inl inside ↦
-        let c : count_below (has new') n ≡ count_below (has edges) start + (n - start) = count_at edges new' start end n a from (omega arith) in
-        let k : count_below (has new') n - i ≡ n - start = omega (arith, c, at) in
-        at_true (has new') (take i bytes ++ run) n (a.within n from inside)
-        ∙ ap Some (get_or-append_right (take i bytes) run i (count_below (has new') n) 0 size (omega (arith, c, at)) ∙ ap (λ m. get_or run m 0) k)
-        ∙ ap (λ t. or_lower t (byte_at (has edges) bytes n)) (sym (run_held start run n from (omega arith)))
+        let c : count_below (has new) n ≡ count_below (has edges) start + (n - start) = count_at edges new start end n a from (omega arith) in
+        let k : count_below (has new) n - i ≡ n - start = omega (arith, c, at) in
+        at_true (has new) (take i bytes ++ run ++ tail) n (a.within n from inside)
+        ∙ ap Some
+        (get_or_append_left (take i bytes ++ run) tail 0 (count_below (has new) n) (omega (arith, c, at, past, front))
+        ∙ get_or-append_right (take i bytes) run i (count_below (has new) n) 0 size (omega (arith, c, at))
+        ∙ ap (λ m. get_or run m 0) k)
+        ∙ ap (λ t. or_lower t (byte_at (has edges) bytes n)) (sym (run_held start run n from (omega (arith, past))))
     | inr high ↦
-        at_false (has new') (take i bytes ++ run) n (a.past n high)
-        ∙ sym (at_false (has edges) bytes n (none n from))
-        ∙ ap (λ t. or_lower t (byte_at (has edges) bytes n)) (sym (run_past start run n (omega arith)))
+        at_other (has edges) (has new) bytes (take i bytes ++ run ++ tail) n (a.past n high) (λ h.
+        let c : count_below (has new) n + count_below (has edges) end ≡ count_below (has edges) start + (end - start) + count_below (has edges) n = count_after edges new start end n a (omega (arith, past)) high in
+        let m : count_below (has edges) end ≤ count_below (has edges) n = count_mono (has edges) end n high in
+        let k : count_below (has new) n - (i + length run) ≡ count_below (has edges) n - count_below (has edges) end = omega (arith, c, m, at, past) in
+        get_or-append_right (take i bytes ++ run) tail (i + length run) (count_below (has new) n) 0 front (omega (arith, c, m, at, past))
+        ∙ ap (λ x. get_or tail x 0) k
+        ∙ b.same n high h)
+        ∙ ap (λ t. or_lower t (byte_at (has edges) bytes n)) (sym (run_past start run n (omega (arith, past))))
   ]
-])
+]
   where
-    new' : List ℕ
-    new' = toggled end (toggled start edges)
-
-    a : Appended edges start end (toggled end (toggled start edges))
-    a = appended edges start end (omega arith) none
-
     size : length (take i bytes) ≡ i
-    size = length-take-le i bytes (omega (arith, runs.enough start))
+    size = length-take-le i bytes (omega (arith, at, runs.enough start))
+
+    front : length (take i bytes ++ run) ≡ i + length run
+    front = length-append (take i bytes) run ∙ ap (λ k. k + length run) (length-take-le i bytes (omega (arith, at, runs.enough start)))
+
+-- ---- where a run is put
+
+-- behind all others
+pub covered_last : (edges : List ℕ) (start end : ℕ) → IsRising 0 edges → start < end → ((n : ℕ) → start ≤ n → has edges n ≡ false) → Covered edges start end (toggled end (toggled start edges))
+covered_last edges start end r l none = record {
+  rising = toggled_rising end 0 (toggled start edges) (toggled_rising start 0 edges r (omega arith)) (omega arith);
+  odd = toggled_odd end (toggled start edges) ∙ ap not (toggled_odd start edges) ∙ not_not (is_odd edges);
+  below = λ n h. toggled_before end (toggled start edges) n (omega arith) ∙ toggled_before start edges n h;
+  within = λ n h k. toggled_before end (toggled start edges) n k ∙ toggled_from start edges n h ∙ ap not (none n h);
+  past = λ n h. toggled_from end (toggled start edges) n h ∙ ap not (toggled_from start edges n (omega arith)) ∙ not_not (has edges n);
+}
+
+-- where all numbers have a byte
+pub covered_held : (edges : List ℕ) (start k : ℕ) → IsRising 0 edges → count_below (has edges) (start + k) ≡ count_below (has edges) start + k → Covered edges start (start + k) edges
+covered_held edges start k r e = record { rising = r; odd = refl; below = λ n h. refl; within = all_held (has edges) start k e; past = λ n h. refl }
 
 -- ---- byte after byte
 

@@ -1,6 +1,6 @@
 -- Sets of numbers as rising lists of edges, and bytes by their numbers. An edge is a number at which the set begins or ends.
 -- This project's own.
-use Rattle.std.specs.Prelude.{◌≡◌, ℕ, zero, suc, ◌+◌, ◌-◌, ◌≤◌, Bool, false, not, List, [], ◌∷◌, length, nat_lt, ◌==◌, slice_index, if◌then◌else◌, Option, Some, None, max}
+use Rattle.std.specs.Prelude.{◌≡◌, ℕ, zero, suc, ◌+◌, ◌-◌, ◌<◌, ◌≤◌, Bool, true, false, not, List, [], ◌∷◌, length, nat_lt, ◌==◌, slice_index, if◌then◌else◌, Option, Some, None, max}
 use Rattle.std.specs.FinMap as finite
 use Rattle.hq_model.specs.View.{Held}
 use Rattle.hq_model.specs.Machine.{Copy}
@@ -24,6 +24,19 @@ is_odd (e ∷ edges) = not (is_odd edges)
 abbrev pub toggled : ℕ → List ℕ → List ℕ
 toggled p [] = p ∷ []
 toggled p (e ∷ edges) = if e == p then edges else if nat_lt p e then p ∷ e ∷ edges else e ∷ toggled p edges
+
+-- the edge alone, or none, where the flag is set
+abbrev pub unless : Bool → ℕ → List ℕ
+unless true p = []
+unless false p = p ∷ []
+
+-- The new edges are those of the numbers in the set, and of all from start on and before end.
+pub record Covered (edges : List ℕ) (start end : ℕ) (new : List ℕ) : Type 0 where
+  pub rising : IsRising 0 new
+  pub odd : is_odd new ≡ is_odd edges
+  pub below : (n : ℕ) → n < start → has new n ≡ has edges n
+  pub within : (n : ℕ) → start ≤ n → n < end → has new n ≡ true
+  pub past : (n : ℕ) → end ≤ n → has new n ≡ has edges n
 
 -- how many numbers below n are in the set, by its edges from one of them on; inside says whether the numbers before are in it
 abbrev pub spans : Bool → ℕ → List ℕ → ℕ → ℕ

@@ -1,7 +1,7 @@
 //! The bytes of one mark, in runs.
 
-ghost use Rattle.std.specs.Prelude.{◌≡◌, ◌≢◌, ◌↔◌, ℕ, ◌+◌, ◌-◌, ◌<◌, ◌≤◌, ◌^◌, length, slice_index, Some, None, IsTrue, OnOk, OnErr, IfOk, MatchOption, drop, if◌then◌else◌, vec_len, vec_capacity, true, false};
-ghost use Rattle.hq_copies.specs.Edges.{has, IsRising, toggled};
+ghost use Rattle.std.specs.Prelude.{◌≡◌, ◌≢◌, ◌↔◌, ℕ, ◌+◌, ◌-◌, ◌<◌, ◌≤◌, ◌^◌, List, ◌++◌, length, slice_index, Some, None, IsTrue, OnOk, OnErr, IfOk, MatchOption, take, drop, if◌then◌else◌, vec_len, vec_capacity, true, false};
+ghost use Rattle.hq_copies.specs.Edges.{has, IsRising, is_odd, toggled, unless, Covered};
 ghost use Rattle.hq_copies.specs.Copies.{count_below};
 ghost use Rattle.hq_copies.specs.Marks.{byte_of, AreRuns, HasRoom, HasRunRoom, SameRuns, IsNowhere, IsFirst};
 ghost use Rattle.hq_copies.specs.Overlays.{run_at, byte_over, Over};
@@ -165,24 +165,46 @@ impl Runs {
         self.edges.reserve(2)?;
         self.bytes.reserve(bytes.len())?;
         self.bytes.truncate(index);
-        if self.bytes.extend_from_slice(bytes).is_err() {
-            unreachable!();
-        }
+        append_bytes(&mut self.bytes, bytes);
         turn(&mut self.edges, start, start + bytes.len() as u32);
         Ok(())
     }
 
-    // Gives the numbers from start on these bytes, one after another.
-    fn put_each(&mut self, start: u32, bytes: &[u8]) -> Result<(), AllocError>
+    // Gives the numbers from start on these bytes, where each of them has one; so many bytes stand before theirs.
+    fn overwrite(&mut self, start: u32, first: usize, bytes: &[u8])
+        requires runs { AreRuns self.old }
+        requires first { first ≡ count_below (has self.old.edges.items) start }
+        requires all { count_below (has self.old.edges.items) (start + length bytes.now) ≡ first + length bytes.now }
+        ensures runs { AreRuns self.new }
+        ensures ok { Over (run_at start bytes.now) (byte_of self.old) (byte_of self.new) }
+    {
+        write_at(&mut self.bytes, first, bytes);
+    }
+
+    // Gives the numbers from start on these bytes; so many bytes stand before theirs, and before those of the numbers behind.
+    fn splice(
+        &mut self,
+        start: u32,
+        first: usize,
+        last: usize,
+        bytes: &[u8],
+    ) -> Result<(), AllocError>
         requires runs { AreRuns self.old }
         requires fits { start + length bytes.now < 2 ^ 32 }
+        requires some { 0 < length bytes.now }
+        requires first { first ≡ count_below (has self.old.edges.items) start }
+        requires last { last ≡ count_below (has self.old.edges.items) (start + length bytes.now) }
         ensures runs { AreRuns self.new }
         ensures ok { OnOk result (Over (run_at start bytes.now) (byte_of self.old) (byte_of self.new)) }
+        ensures err { OnErr result ((n : ℕ) → byte_of self.new n ≡ byte_of self.old n) }
     {
-        for (i, byte) in bytes.iter().enumerate() {
-            self.reserve()?;
-            self.set(start + i as u32, *byte);
-        }
+        let behind = behind(&self.bytes, last);
+        let behind = Vec::from_slice(*self.bytes.allocator(), behind)?;
+        self.bytes.reserve(bytes.len())?;
+        cover(&mut self.edges, start, start + bytes.len() as u32)?;
+        self.bytes.truncate(first);
+        append_bytes(&mut self.bytes, bytes);
+        append_bytes(&mut self.bytes, &behind);
         Ok(())
     }
 
@@ -194,13 +216,19 @@ impl Runs {
         ensures ok { OnOk result (Over (run_at start bytes.now) (byte_of self.old) (byte_of self.new)) }
         ensures err { OnErr result ((n : ℕ) → byte_of self.new n ≡ byte_of self.old n) }
     {
-        if !bytes.is_empty() && self.ends_by(start) {
+        if bytes.is_empty() {
+            return Ok(());
+        }
+        if self.ends_by(start) {
             return self.append(start, bytes);
         }
-        let mut next = self.copy()?;
-        next.put_each(start, bytes)?;
-        *self = next;
-        Ok(())
+        let (_, first) = find(&self.edges, start);
+        let (_, last) = find(&self.edges, start + bytes.len() as u32);
+        if last - first == bytes.len() {
+            self.overwrite(start, first, bytes);
+            return Ok(());
+        }
+        self.splice(start, first, last, bytes)
     }
 
     /// All bytes, from the first run on.
@@ -281,28 +309,35 @@ impl<'a> RunsLeft<'a> {
     }
 }
 
-// Where the first edge stands that isn't below this one.
-fn place(edges: &[u32], edge: u32) -> usize
+// Where the first edge stands that isn't below this number.
+fn place(edges: &[u32], number: u64) -> usize
+    requires { IsRising 0 edges.now }
     ensures within { result ≤ length edges.now }
-    ensures below { (k : ℕ) → k < result → slice_index edges.now k < edge }
-    ensures above { result < length edges.now → edge ≤ slice_index edges.now result }
+    ensures below { (k : ℕ) → k < result → slice_index edges.now k < number }
+    ensures above { result < length edges.now → number ≤ slice_index edges.now result }
 {
-    for (i, other) in edges.iter().enumerate() {
-        if edge <= *other {
-            return i;
+    let mut low = 0;
+    let mut high = edges.len();
+    'search: while low < high {
+        let mid = low + (high - low) / 2;
+        if (edges[mid] as u64) < number {
+            low = mid + 1;
+        } else {
+            high = mid;
         }
     }
-    edges.len()
+    low
 }
 
 // Puts the edge in, or takes it out if it is there: the numbers from it on are turned.
 fn toggle(edges: &mut Vec<u32>, edge: u32)
-    requires { vec_len edges.old + 1 ≤ vec_capacity edges.old }
+    requires rising { IsRising 0 edges.old.items }
+    requires room { vec_len edges.old + 1 ≤ vec_capacity edges.old }
     ensures edges { edges.new.items ≡ toggled edge edges.old.items }
     ensures len { vec_len edges.new ≤ vec_len edges.old + 1 }
     ensures capacity { vec_capacity edges.new ≡ vec_capacity edges.old }
 {
-    let at = place(edges, edge);
+    let at = place(edges, edge as u64);
     if at < edges.len() && edges[at] == edge {
         edges.remove(at);
         return;
@@ -314,20 +349,67 @@ fn toggle(edges: &mut Vec<u32>, edge: u32)
 
 // Puts the numbers from start on and before end in, or takes them out if they are there.
 fn turn(edges: &mut Vec<u32>, start: u32, end: u32)
-    requires { vec_len edges.old + 2 ≤ vec_capacity edges.old }
+    requires rising { IsRising 0 edges.old.items }
+    requires room { vec_len edges.old + 2 ≤ vec_capacity edges.old }
     ensures { edges.new.items ≡ toggled end (toggled start edges.old.items) }
 {
     toggle(edges, start);
     toggle(edges, end);
 }
 
-// So many numbers lie between the two, if they are inside.
-fn span(inside: bool, from: u32, end: u32) -> usize
-    requires { from ≤ end }
-    ensures exact { result ≡ (if inside then end - from else 0) }
-    ensures small { result ≤ end - from }
+// Puts an edge behind the others, if the count is even.
+fn add_if_even(edges: &mut Vec<u32>, count: usize, edge: u32)
+    requires room { vec_len edges.old + 1 ≤ vec_capacity edges.old }
+    ensures edges { (xs : List ℕ) → length xs ≡ count → edges.new.items ≡ edges.old.items ++ unless (is_odd xs) edge }
+    ensures len { vec_len edges.new ≤ vec_len edges.old + 1 }
+    ensures capacity { vec_capacity edges.old ≤ vec_capacity edges.new }
 {
-    if inside { (end - from) as usize } else { 0 }
+    if count % 2 == 1 {
+        return;
+    }
+    if edges.push(edge).is_err() {
+        unreachable!();
+    }
+}
+
+// Puts the numbers from start on and before end in.
+fn cover(edges: &mut Vec<u32>, start: u32, end: u32) -> Result<(), AllocError>
+    requires rising { IsRising 0 edges.old.items }
+    requires some { start < end }
+    ensures ok { OnOk result (Covered edges.old.items start end edges.new.items) }
+    ensures err { OnErr result (edges.new.items ≡ edges.old.items) }
+{
+    let first = place(edges, start as u64);
+    let last = place(edges, end as u64 + 1);
+    let behind = Vec::from_slice(*edges.allocator(), edges.as_slice().split_at(last).1)?;
+    edges.reserve(2)?;
+    edges.truncate(first);
+    add_if_even(edges, first, start);
+    add_if_even(edges, last, end);
+    if edges.extend_from_slice(&behind).is_err() {
+        unreachable!();
+    }
+    Ok(())
+}
+
+// Puts bytes behind the others, where there is room.
+fn append_bytes(all: &mut Vec<u8>, bytes: &[u8])
+    requires { vec_len all.old + length bytes.now ≤ vec_capacity all.old }
+    ensures items { all.new.items ≡ all.old.items ++ bytes.now }
+    ensures len { vec_len all.new ≡ vec_len all.old + length bytes.now }
+    ensures capacity { vec_capacity all.old ≤ vec_capacity all.new }
+{
+    if all.extend_from_slice(bytes).is_err() {
+        unreachable!();
+    }
+}
+
+// Writes the bytes over those from a place on.
+fn write_at(all: &mut [u8], at: usize, bytes: &[u8])
+    requires { at + length bytes.now ≤ length all.old }
+    ensures { all.new ≡ take at all.old ++ bytes.now ++ drop (at + length bytes.now) all.old }
+{
+    all[at..at + bytes.len()].copy_from_slice(bytes);
 }
 
 // How many numbers there are from start on and before end.
@@ -345,18 +427,15 @@ fn find(edges: &[u32], number: u32) -> (bool, usize)
     ensures held { result.0 ≡ has edges.now number }
     ensures index { result.1 ≡ count_below (has edges.now) number }
 {
-    let mut inside = false;
-    let mut from = 0;
+    let at = place(edges, number as u64 + 1);
     let mut count = 0;
-    for edge in edges {
-        if number < *edge {
-            return (inside, count + span(inside, from, number));
-        }
-        count += span(inside, from, *edge);
-        inside = !inside;
-        from = *edge;
+    for run in 0..at / 2 {
+        count += edges[2 * run + 1] - edges[2 * run];
     }
-    (inside, count + span(inside, from, number))
+    if at % 2 == 0 {
+        return (false, count as usize);
+    }
+    (true, (count + (number - edges[at - 1])) as usize)
 }
 
 // Writes the bytes of a run over those of the slice, which begins at a number.

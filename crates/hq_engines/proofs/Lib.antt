@@ -7,3 +7,4 @@ pub mod Checks
 pub mod Replays
 pub mod Runs
 pub mod ReadTexts
+pub mod Charts

@@ -48,14 +48,14 @@ pub buffers_reported : (job : JobValue) (events : List Event) (bytes : List ℕ)
 buffers_reported job events bytes old new answered run (inl said) = (buffers_text job.buffers bytes, Done, replayed bytes run, said)
 buffers_reported job events bytes old new answered run (inr said) = (with_feed (codes "out of memory"), Memory, run_memory, said)
 
-pub timeline_missing : (S : Type 0) (left : S → Option (List ℕ)) (old new : S) (job : JobValue) (was is : Option (List ℕ)) (answered : Status)
-    → Reported (ReaderReport S left old new NoTimeline) was is answered → Reported (ReaderReport S left old new (TimelineReport job)) was is answered
-timeline_missing S left old new job was is answered said = missing S left old new NoTimeline (TimelineReport job) (λ text out status why. no_timeline why) was is answered said
+pub timeline_missing : (S : Type 0) (left : S → Option (List ℕ)) (old new : S) (Report : List Event → List ℕ → Status → Type 0) (was is : Option (List ℕ)) (answered : Status)
+    → Reported (ReaderReport S left old new NoTimeline) was is answered → Reported (ReaderReport S left old new (TimelineReport Report)) was is answered
+timeline_missing S left old new Report was is answered said = missing S left old new NoTimeline (TimelineReport Report) (λ text out status why. no_timeline why) was is answered said
 
-pub timeline_found : (S : Type 0) (left : S → Option (List ℕ)) (old new : S) (job : JobValue) (events : List Event) (was mid is : Option (List ℕ)) (answered : Status)
-    → OfReader S left old new (λ text. TimeText (lines_of text) events) → mid ≡ was → Reported (RunReport job events) mid is answered → Reported (ReaderReport S left old new (TimelineReport job)) was is answered
-timeline_found S left old new job events was mid is answered h same said =
-    found S left old new (λ text. TimeText (lines_of text) events) (RunReport job events) (TimelineReport job) (λ text out status is_text report. read events is_text report) was mid is answered h same said
+pub timeline_found : (S : Type 0) (left : S → Option (List ℕ)) (old new : S) (Report : List Event → List ℕ → Status → Type 0) (events : List Event) (was mid is : Option (List ℕ)) (answered : Status)
+    → OfReader S left old new (λ text. TimeText (lines_of text) events) → mid ≡ was → Reported (Report events) mid is answered → Reported (ReaderReport S left old new (TimelineReport Report)) was is answered
+timeline_found S left old new Report events was mid is answered h same said =
+    found S left old new (λ text. TimeText (lines_of text) events) (Report events) (TimelineReport Report) (λ text out status is_text report. read events is_text report) was mid is answered h same said
 
 length_listed : (n : ℕ) (f : ℕ → ℕ) → length (listed n f) ≡ n
 length_listed zero f = refl

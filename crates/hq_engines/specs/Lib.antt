@@ -8,3 +8,4 @@ pub mod Check
 pub mod Buffers
 pub mod Replay
 pub mod Run
+pub mod Chart

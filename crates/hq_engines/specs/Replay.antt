@@ -44,10 +44,10 @@ pub data RunReport (job : JobValue) (events : List Event) : List ℕ → Status 
   stopped : (place : ℕ) → StopsAt (plan job) events place → RunReport job events (with_feed (event_refusal place)) RunRefused
   no_memory : RunReport job events (with_feed (codes "out of memory")) Memory
 
--- What is written of a job and a timeline's text.
-pub data TimelineReport (job : JobValue) (timeline : List ℕ) : List ℕ → Status → Type 0 where
-  read : {out : List ℕ} {status : Status} (events : List Event) → TimeText (lines_of timeline) events → RunReport job events out status → TimelineReport job timeline out status
-  no_timeline : {out : List ℕ} {status : Status} → NoTimeline timeline out status → TimelineReport job timeline out status
+-- What is written of a timeline's text: the report of its events; or why there are none.
+pub data TimelineReport (Report : List Event → List ℕ → Status → Type 0) (timeline : List ℕ) : List ℕ → Status → Type 0 where
+  read : {out : List ℕ} {status : Status} (events : List Event) → TimeText (lines_of timeline) events → Report events out status → TimelineReport Report timeline out status
+  no_timeline : {out : List ℕ} {status : Status} → NoTimeline timeline out status → TimelineReport Report timeline out status
 
 -- ---- what the parts write
 

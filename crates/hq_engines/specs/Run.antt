@@ -20,6 +20,7 @@ use Rattle.hq_engines.specs.declared.status.Status.TheVariants.{Done, RunRefused
 abbrev pub fault_name : RunFault → List ℕ
 fault_name fault.Memory = codes "Memory"
 fault_name (fault.Kernel packet home lost found) = codes "Kernel " ++ decimal packet
+fault_name fault.Split = codes "Split"
 fault_name (fault.Receipts queue) = codes "Receipts"
 fault_name fault.Unfinished = codes "Unfinished"
 

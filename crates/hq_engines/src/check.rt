@@ -100,7 +100,7 @@ fn say_no_certificate<W: Write>(writer: &mut W, fault: CertFault) -> Status
 }
 
 /// The certificate of a reader's text; or, where there is none, the status of the refusal, which is written.
-fn take_certificate<R: Read, W: Write>(
+pub fn take_certificate<R: Read, W: Write>(
     alloc: Global,
     reader: &mut R,
     writer: &mut W,
@@ -139,7 +139,7 @@ fn say_refused<W: Write>(writer: &mut W, no: &CheckNo) -> Status
 }
 
 /// Writes what a check answered.
-fn say_checked<W: Write>(writer: &mut W, checked: &Result<Accepted, (CheckNo, Job)>) -> Status
+pub fn say_checked<W: Write>(writer: &mut W, checked: &Result<Accepted, (CheckNo, Job)>) -> Status
     ensures { Checked checked.now (W.contents writer.old) (W.contents writer.new) result }
 {
     match checked {

@@ -7,7 +7,9 @@
 mod accepting;
 mod audit;
 mod buffers;
+mod chart;
 mod check;
+mod check_alone;
 mod fields;
 mod pack;
 mod replay;
@@ -20,7 +22,9 @@ mod taking;
 
 pub use accepting::accept;
 pub use audit::audit_engine;
+pub use chart::chart_engine;
 pub use check::check_engine;
+pub use check_alone::check_alone_engine;
 pub use pack::pack_engine;
 pub use replay::replay_engine;
 pub use run::run_engine;

@@ -58,7 +58,7 @@ fn say_no_timeline<W: Write>(writer: &mut W, fault: TimeFault) -> Status
 }
 
 /// The journal of a reader's text; or, where there is none, the status of the refusal, which is written.
-fn take_journal<R: Read, W: Write>(
+pub fn take_journal<R: Read, W: Write>(
     alloc: Global,
     reader: &mut R,
     writer: &mut W,
@@ -101,7 +101,7 @@ fn replay_read<S: Read, W: Write>(
     writer: &mut W,
     job: &Job,
 ) -> Status
-    ensures { Reported (ReaderReport S S.remaining timeline.old timeline.new (TimelineReport job.now)) (W.contents writer.old) (W.contents writer.new) result }
+    ensures { Reported (ReaderReport S S.remaining timeline.old timeline.new (TimelineReport (RunReport job.now))) (W.contents writer.old) (W.contents writer.new) result }
 {
     match take_journal(alloc, timeline, writer) {
         Ok(journal) => replay_found(alloc, writer, job, &journal),
@@ -117,7 +117,7 @@ pub fn replay_engine<R: Read, S: Read, W: Write>(
     timeline: &mut S,
     writer: &mut W,
 ) -> Status
-    ensures { Reported (ReaderReport R R.remaining reader.old reader.new (JobTextReport (λ job. ReaderReport S S.remaining timeline.old timeline.new (TimelineReport job)))) (W.contents writer.old) (W.contents writer.new) result }
+    ensures { Reported (ReaderReport R R.remaining reader.old reader.new (JobTextReport (λ job. ReaderReport S S.remaining timeline.old timeline.new (TimelineReport (RunReport job))))) (W.contents writer.old) (W.contents writer.new) result }
 {
     match take_job(alloc, reader, writer) {
         Ok(job) => replay_read(alloc, timeline, writer, &job),

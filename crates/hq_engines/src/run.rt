@@ -38,6 +38,7 @@ impl<'a> fmt::Display for FaultLine<'a> {
         match self.0 {
             RunFault::Memory => write!(f, "run fault Memory"),
             RunFault::Kernel { packet, .. } => write!(f, "run fault Kernel {packet}"),
+            RunFault::Split => write!(f, "run fault Split"),
             RunFault::Receipts(_) => write!(f, "run fault Receipts"),
             RunFault::Unfinished => write!(f, "run fault Unfinished"),
         }

@@ -1,5 +1,5 @@
 -- The tables fit at first, and with each line that is admitted; and the job of those that fit at the end is one that was read.
-use Rattle.std.proofs.Common.{◌≡◌, ℕ, zero, suc, ◌+◌, ◌<◌, ◌≤◌, ◌≢◌, inl, inr, Bool, List, [], ◌∷◌, ◌++◌, length, Option, Some, None, Ok, refl, sym, ap, ◌∙◌, subst, arith, slice_get, All, AllPairs, Contains, IfSome, IsTrue, count_by, unwrap_or, length-append}
+use Rattle.std.proofs.Common.{◌≡◌, ℕ, zero, suc, ◌+◌, ◌<◌, ◌≤◌, ◌≢◌, inl, inr, List, [], ◌∷◌, ◌++◌, length, Option, Some, None, Ok, refl, sym, ap, ◌∙◌, subst, arith, slice_get, All, AllPairs, Contains, IfSome, IsTrue, count_by, unwrap_or, length-append}
 use Rattle.std.proofs.lemmas.Bool.{cases_lt}
 use Rattle.std.proofs.lemmas.List.{length-map, get_or_push, get_or_default}
 use Rattle.std.proofs.lemmas.List.Elements.{All-push, All-weaker}

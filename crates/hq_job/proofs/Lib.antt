@@ -1,4 +1,6 @@
 pub mod Grouped
+pub mod Heads
+pub mod Copied
 pub mod Submitted
 pub mod Counted
 pub mod Found
@@ -6,6 +8,7 @@ pub mod Tail
 pub mod Texts
 pub mod Kept
 pub mod Lines
+pub mod Leads
 pub mod BytePlaces
 pub mod NotRead
 pub mod Whole
@@ -24,3 +27,7 @@ pub mod Shares
 pub mod Spans
 pub mod Options
 pub mod BlockRows
+pub mod Causes
+pub mod RewrittenLines
+pub mod RewrittenJob
+pub mod RewrittenOnce

@@ -1,5 +1,5 @@
 -- That the reader failed is no fault of a text.
-use Rattle.std.proofs.Common.{◌≡◌, ℕ, ◌⊎◌, inl, inr, Bool, true, false, List, [], ◌∷◌, refl, sym, ap, ◌∙◌, codes}
+use Rattle.std.proofs.Common.{◌≡◌, ℕ, inl, inr, Bool, true, false, List, [], ◌∷◌, refl, sym, ap, ◌∙◌}
 use Rattle.std.specs.Prelude.{◌||◌, if◌then◌else◌}
 use Rattle.std.specs.List.{list_any}
 use Rattle.hq_lines.specs.Bytes.{is_outside}
@@ -13,7 +13,7 @@ use Rattle.hq_job.specs.declared.fault.Reason.{Reason}
 use Rattle.hq_job.specs.declared.fault.Reason.TheVariants as reason
 use Rattle.hq_job.specs.LineFaults.{reason_of}
 use Rattle.hq_job.specs.Tables.{Tables, Test, tests, IsFirst}
-use Rattle.hq_job.specs.JobText.{misplaced, Refused, by_itself, by_tables, RefusedAtEnd, undershoot, never_zero, FirstFault, nothing, headless, faulty, behind, endless, at_end}
+use Rattle.hq_job.specs.JobText.{Refused, by_itself, by_tables, RefusedAtEnd, undershoot, never_zero, FirstFault, nothing, headless, faulty, behind, endless, at_end}
 
 abbrev is_read : Reason → Bool
 is_read reason.Read = true

@@ -1,5 +1,6 @@
 -- The places of packets in their queues.
 use Rattle.std.proofs.Common.{◌≡◌, ℕ, zero, suc, ◌+◌, ◌-◌, ◌<◌, ◌≤◌, ◌↔◌, inl, inr, Bool, true, false, cond, ◌==◌, List, [], ◌∷◌, ◌++◌, length, map, take, Option, Some, None, IsNone, refl, sym, ◌∙◌, ap, subst, arith, slice_get, slice_index, slice_index_or, All, count_by}
+use Rattle.std.proofs.Math.ListN.{get_or-map}
 use Rattle.std.proofs.lemmas.Bool.{cases_lt, cond-true, eq-eqb, ne_eqb, eqb-true}
 use Rattle.std.proofs.lemmas.List.{take-append-le, take-map, length-map}
 use Rattle.std.proofs.lemmas.List.Elements.{All-nil, All-cons, All-append, All-weaker}
@@ -149,6 +150,66 @@ stands_where job n placed queue place p e f =
       place_is = omega (arith, place_is job n placed p f.row e f.there, h.number_is, f.number_is, ap (λ q. length (by_number q placed)) f.queue_is);
     }
 
+-- the job with these packets in place of its own
+abbrev pub with_rows : Job → List Placed → Job
+with_rows job rows = record job { packets = map planned rows }
+
+-- ---- packets in the same queues, one by one
+
+abbrev pub queues_of : List Placed → List ℕ
+queues_of rows = map queue_of rows
+
+-- what stands at a place, of this queue
+pub record OfQueue (rows : List Placed) (p queue : ℕ) : Type 0 where
+  pub row : Placed
+  pub there : slice_get rows p ≡ Some row
+  pub queue_is : row.queue ≡ queue
+
+pub same_queue_at : (xs ys : List Placed) → queues_of xs ≡ queues_of ys → (p : ℕ) (x : Placed) → slice_get xs p ≡ Some x → OfQueue ys p x.queue
+same_queue_at [] ys same p x e = absurd (cc)
+same_queue_at (a ∷ xs) [] same p x e = absurd (cc)
+same_queue_at (a ∷ xs) (b ∷ ys) same zero x e = record { row = b; there = refl; queue_is = sym (head_of same) ∙ ap queue_of (some_is a x e) }
+  where
+    head_of : queue_of a ∷ queues_of xs ≡ queue_of b ∷ queues_of ys → queue_of a ≡ queue_of b
+    head_of e = cc
+same_queue_at (a ∷ xs) (b ∷ ys) same (suc p) x e =
+    let h = same_queue_at xs ys (rest_of same) p x e in
+    record { row = h.row; there = h.there; queue_is = h.queue_is }
+  where
+    rest_of : queue_of a ∷ queues_of xs ≡ queue_of b ∷ queues_of ys → queues_of xs ≡ queues_of ys
+    rest_of e = cc
+
+planned_queues : (rows : List Placed) → map (λ (e : model.Packet). e.queue) (map planned rows) ≡ queues_of rows
+planned_queues [] = refl
+planned_queues (x ∷ xs) = ap (λ qs. x.queue ∷ qs) (planned_queues xs)
+
+-- in jobs that have them, the packets stand alike
+module _ (job : Job) (xs ys : List Placed) (same : queues_of xs ≡ queues_of ys) where
+  planned_same : map (λ (e : model.Packet). e.queue) (map planned xs) ≡ map (λ (e : model.Packet). e.queue) (map planned ys)
+  planned_same = planned_queues xs ∙ same ∙ sym (planned_queues ys)
+
+  pub as_many_rows : length (map planned xs) ≡ length (map planned ys)
+  as_many_rows = length-map xs planned ∙ sym (length-map xs queue_of) ∙ ap length same ∙ length-map ys queue_of ∙ sym (length-map ys planned)
+
+  pub queue_kept : (p : ℕ) → (packet (with_rows job xs) p).queue ≡ (packet (with_rows job ys) p).queue
+  queue_kept p =
+      sym (get_or-map (λ (e : model.Packet). e.queue) (map planned xs) p model.no_packet)
+      ∙ ap (λ qs. slice_index_or qs p 0) planned_same
+      ∙ get_or-map (λ (e : model.Packet). e.queue) (map planned ys) p model.no_packet
+
+  place_kept : (p : ℕ) → place_in_queue (with_rows job xs) p ≡ place_in_queue (with_rows job ys) p
+  place_kept p =
+      ap (λ q. count_by (λ (e : model.Packet). e.queue == q) (take p (map planned xs))) (queue_kept p)
+      ∙ sym (counted xs) ∙ ap (λ qs. count_by (λ r. r == (packet (with_rows job ys) p).queue) (take p qs)) planned_same ∙ counted ys
+    where
+      counted : (rows : List Placed) → count_by (λ r. r == (packet (with_rows job ys) p).queue) (take p (map (λ (e : model.Packet). e.queue) (map planned rows))) ≡ count_by (λ (e : model.Packet). e.queue == (packet (with_rows job ys) p).queue) (take p (map planned rows))
+      counted rows =
+          ap (count_by (λ r. r == (packet (with_rows job ys) p).queue)) (take-map (λ (e : model.Packet). e.queue) p (map planned rows))
+          ∙ count_map (λ r. r == (packet (with_rows job ys) p).queue) (λ (e : model.Packet). e.queue) (take p (map planned rows))
+
+  pub stands_kept : (q i p : ℕ) → StandsAt (with_rows job xs) q i p → StandsAt (with_rows job ys) q i p
+  stands_kept q i p s = record { is_packet = omega (arith, s.is_packet, as_many_rows); queue_is = sym (queue_kept p) ∙ s.queue_is; place_is = sym (place_kept p) ∙ s.place_is }
+
 -- ---- by the fields of a job
 
 pub first_is : (j : Inside) → FieldsFit j → (q : ℕ) → q < length j.firsts.items → (q < length j.tables.queues.items) × (slice_index j.firsts.items q ≡ length (by_number q j.tables.placed.items))
@@ -160,26 +221,31 @@ first_is j fit q l =
 stands_of : (j : Inside) → FieldsFit j → (q i p : ℕ) → LiesAt j.firsts.items j.packets.items q i p → StandsAt (plan (value_of j)) q i p
 stands_of j fit q i p lies =
     let first = first_is j fit q lies.below in
-    stands_where (plan (value_of j)) (length j.tables.queues.items) j.tables.placed.items q i p (ap (map planned) fit.by_number_is)
+    let rows : List Placed = by_number (length j.tables.queues.items) j.tables.placed.items in
+    let row = same_queue_at j.packets.items rows fit.queues_are p lies.row lies.there in
+    stands_kept (plan (value_of j)) rows j.packets.items (sym fit.queues_are) q i p
+    (stands_where (with_rows (plan (value_of j)) rows) (length j.tables.queues.items) j.tables.placed.items q i p refl
     (record {
       below = first.0;
       number_is = lies.number_is ∙ ap (λ n. n + i) first.1;
-      row = lies.row;
-      there = sym (ap (λ ps. slice_get ps p) fit.by_number_is) ∙ lies.there;
-      queue_is = lies.queue_is;
-    })
+      row = row.row;
+      there = row.there;
+      queue_is = row.queue_is ∙ lies.queue_is;
+    }))
 
 lies_of : (j : Inside) → FieldsFit j → (q i p : ℕ) → StandsAt (plan (value_of j)) q i p → LiesAt j.firsts.items j.packets.items q i p
 lies_of j fit q i p s =
-    let found = found_where (plan (value_of j)) (length j.tables.queues.items) j.tables.placed.items q i p (ap (map planned) fit.by_number_is) s in
+    let rows : List Placed = by_number (length j.tables.queues.items) j.tables.placed.items in
+    let found = found_where (with_rows (plan (value_of j)) rows) (length j.tables.queues.items) j.tables.placed.items q i p refl (stands_kept (plan (value_of j)) j.packets.items rows fit.queues_are q i p s) in
     let counted = counted_none queue_of (length j.tables.queues.items) j.tables.placed.items j.firsts.items fit.firsts_are in
     let below : q < length j.firsts.items = omega (arith, counted.count, found.below) in
+    let row = same_queue_at rows j.packets.items (sym fit.queues_are) p found.row found.there in
     record {
       below = below;
       number_is = found.number_is ∙ sym (ap (λ n. n + i) (first_is j fit q below).1);
-      row = found.row;
-      there = ap (λ ps. slice_get ps p) fit.by_number_is ∙ found.there;
-      queue_is = found.queue_is;
+      row = row.row;
+      there = row.there;
+      queue_is = row.queue_is ∙ found.queue_is;
     }
 
 -- what the fields' numbers say, of the value that they show

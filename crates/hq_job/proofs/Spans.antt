@@ -1,10 +1,11 @@
 -- The packets of a queue stand one behind another.
-use Rattle.std.proofs.Common.{◌≡◌, ℕ, suc, ◌+◌, ◌-◌, ◌<◌, ◌≤◌, inl, inr, true, cond, ◌==◌, nat_lt, List, length, map, take, Some, sym, ◌∙◌, ap, subst, arith, slice_get, slice_index, length-append, add-one}
+use Rattle.std.proofs.Common.{◌≡◌, ℕ, suc, ◌+◌, ◌-◌, ◌<◌, ◌≤◌, inl, inr, true, cond, ◌==◌, nat_lt, List, length, map, take, Some, refl, sym, ◌∙◌, ap, subst, arith, slice_get, slice_index, length-append, add-one}
 use Rattle.std.proofs.lemmas.Bool.{cases_lt, cond-true, cond-false, eq-eqb, lt-ltb, le-ltb}
 use Rattle.std.proofs.lemmas.List.{length-map}
 use Rattle.hq_model.specs.Job as model
 use Rattle.hq_model.specs.Job.{Job}
 use Rattle.hq_job.specs.declared.job.Job.TheInside.{Inside}
+use Rattle.hq_job.specs.declared.rows.Placed.{Placed}
 use Rattle.hq_job.specs.JobFields.{FieldsFit}
 use Rattle.hq_job.specs.View.{value_of}
 use Rattle.hq_job.specs.Value.{JobValue}
@@ -12,7 +13,7 @@ use Rattle.hq_job.specs.Plan.{plan, planned}
 use Rattle.hq_job.specs.Numbering.{with_key, grouped, by_number}
 use Rattle.hq_job.specs.Access.{AreOfQueue}
 use Rattle.hq_job.proofs.Grouped.{grouped_more, some_is, get_within, get_filtered, get_grouped, get_number, numbered, key_at}
-use Rattle.hq_job.proofs.QueuePlaces.{keys_are, stands, packet_at, first_is, queue_of}
+use Rattle.hq_job.proofs.QueuePlaces.{keys_are, stands, packet_at, first_is, queue_of, with_rows, queue_kept, as_many_rows}
 use Rattle.hq_job.proofs.Submitted.{at, within, all_at}
 use Rattle.hq_job.proofs.Counted.{counted_none}
 
@@ -54,22 +55,26 @@ last_is j fit q l = elim (cases_lt (q + 1) (length j.firsts.items)) [
   | inr last ↦
       let count : length j.firsts.items ≡ length j.tables.queues.items = (counted_none queue_of (length j.tables.queues.items) j.tables.placed.items j.firsts.items fit.firsts_are).count in
       let n_is : length j.tables.queues.items ≡ q + 1 = omega (arith, count) in
-      cond-false (nat_lt (q + 1) (length j.firsts.items)) (slice_index j.firsts.items (q + 1)) (length j.packets.items) (le-ltb (q + 1) (length j.firsts.items) last) ∙ ap length fit.by_number_is ∙ ap (λ n. length (by_number n j.tables.placed.items)) n_is
+      let rows : List Placed = by_number (length j.tables.queues.items) j.tables.placed.items in
+      let rows_are : length j.packets.items ≡ length rows = sym (length-map j.packets.items queue_of) ∙ ap length fit.queues_are ∙ length-map rows queue_of in
+      cond-false (nat_lt (q + 1) (length j.firsts.items)) (slice_index j.firsts.items (q + 1)) (length j.packets.items) (le-ltb (q + 1) (length j.firsts.items) last) ∙ rows_are ∙ ap (λ n. length (by_number n j.tables.placed.items)) n_is
 ]
 
 of_fields : (j : Inside) → FieldsFit j → (q : ℕ) → q < length j.firsts.items → AreOfQueue (plan (value_of j)) q (length (by_number q j.tables.placed.items)) (length (by_number (suc q) j.tables.placed.items))
 of_fields j fit q l =
     let n : ℕ = length j.tables.queues.items in
     let placed = j.tables.placed.items in
-    let rows : (plan (value_of j)).packets ≡ map planned (by_number n placed) = ap (map planned) fit.by_number_is in
-    let count : length (plan (value_of j)).packets ≡ length (by_number n placed) = ap length rows ∙ length-map (by_number n placed) planned in
+    let old : Job = with_rows (plan (value_of j)) (by_number n placed) in
+    let alike = queue_kept (plan (value_of j)) j.packets.items (by_number n placed) fit.queues_are in
+    let many = as_many_rows (plan (value_of j)) j.packets.items (by_number n placed) fit.queues_are in
+    let count : length old.packets ≡ length (by_number n placed) = length-map (by_number n placed) planned in
     record {
       within = λ p is_packet same.
-          let f = at (by_number n placed) p (omega (arith, is_packet, count)) in
-          has_span queue_of n placed p q f.x f.there (sym (ap (λ (r : model.Packet). r.queue) (packet_at (plan (value_of j)) (by_number n placed) p f.x rows f.there)) ∙ same);
+          let f = at (by_number n placed) p (omega (arith, is_packet, count, many)) in
+          has_span queue_of n placed p q f.x f.there (sym (ap (λ (r : model.Packet). r.queue) (packet_at old (by_number n placed) p f.x refl f.there)) ∙ sym (alike p) ∙ same);
       of_queue = λ p low high.
           let f = in_span queue_of n placed p q (first_is j fit q l).0 low high in
-          (omega (arith, count, within (by_number n placed) p f.x f.there), ap (λ (r : model.Packet). r.queue) (packet_at (plan (value_of j)) (by_number n placed) p f.x rows f.there) ∙ f.key_is);
+          (omega (arith, count, many, within (by_number n placed) p f.x f.there), alike p ∙ ap (λ (r : model.Packet). r.queue) (packet_at old (by_number n placed) p f.x refl f.there) ∙ f.key_is);
     }
 
 pub spans : (j : Inside) → FieldsFit j → (job : JobValue) → value_of j ≡ job → (firsts : List ℕ) → firsts ≡ j.firsts.items → (count : ℕ) → count ≡ length j.packets.items → (q start stop : ℕ) → q < length firsts → start ≡ slice_index firsts q → stop ≡ cond (nat_lt (q + 1) (length firsts)) (slice_index firsts (q + 1)) count → AreOfQueue (plan job) q start stop

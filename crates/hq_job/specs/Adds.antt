@@ -1,5 +1,5 @@
 -- What taking a line in answers and leaves.
-use Rattle.std.specs.Prelude.{◌≡◌, ℕ, ◌^◌, ◌<◌, ◌⊎◌, Bool, true, false, List, [], ◌∷◌, ◌++◌, All, Result, Ok, Err}
+use Rattle.std.specs.Prelude.{◌≡◌, ℕ, ◌^◌, ◌<◌, ◌⊎◌, Bool, true, false, List, All, Result, Ok, Err}
 use Rattle.hq_signals.specs.declared.fault.SignalFault.{SignalFault}
 use Rattle.hq_signals.specs.declared.fault.SignalFault.TheVariants as signal
 use Rattle.hq_lines.specs.Meaning as says
@@ -8,10 +8,9 @@ use Rattle.hq_job.specs.declared.fault.JobFault.{JobFault}
 use Rattle.hq_job.specs.declared.fault.Reason.{Reason}
 use Rattle.hq_job.specs.declared.fault.Reason.TheVariants as reason
 use Rattle.hq_job.specs.Value.{JobValue}
-use Rattle.hq_job.specs.Tables.{Tables, empty, tests, added, NoneApplies, IsFirst}
-use Rattle.hq_job.specs.JobText.{SaysVersion, misplaced, Admits, AdmitsAll, Refused, RefusedAtEnd, IsEnd, JobText, FirstFault, at_line, value_of}
+use Rattle.hq_job.specs.Tables.{Tables, tests, added, NoneApplies, IsFirst}
+use Rattle.hq_job.specs.JobText.{Admits, Refused, RefusedAtEnd, IsEnd, at_line, value_of}
 use Rattle.hq_signals.specs.Table.{IsUndershot, NeverReachesZero}
-use Rattle.hq_job.specs.Fits.{TablesFit}
 
 -- Where no test applies the line adds what it says. Else the tables stay, and the first test that applies is told, or that
 -- memory ran out.
@@ -24,39 +23,20 @@ abbrev pub StartFits : Meaning → Type 0
 StartFits (says.Signal name handle start) = start < 2 ^ 63
 StartFits m = Unit {0}
 
--- What taking a line in answers: whether it is the end.
+-- What taking a line in answers: whether it is the end. A line that is refused leaves the tables.
 abbrev pub Takes : Result Bool Reason → Tables → List ℕ → Tables → Type 0
 Takes (Ok true) old line new = IsEnd line × (new ≡ old)
 Takes (Ok false) old line new = Admits old line new
-Takes (Err e) old line new = (e ≡ reason.Memory) ⊎ Refused old line e
+Takes (Err e) old line new = (new ≡ old) × ((e ≡ reason.Memory) ⊎ Refused old line e)
 
 -- out of memory, at line 0
 abbrev pub no_memory : JobFault
 no_memory = at_line 0 reason.Memory
 
--- Admitted lines, and then the end.
-pub record Fills (old : Tables) (lines : List (List ℕ)) (new : Tables) : Type 0 where
-  pub front : List (List ℕ)
-  pub last : List ℕ
-  pub whole : lines ≡ front ++ last ∷ []
-  pub admitted : AdmitsAll old front new
-  pub ends : IsEnd last
-  pub fit : TablesFit new
-
--- What taking the lines behind the first one answers.
-abbrev pub TakesAll : Result (Unit {0}) JobFault → Bool → List (List ℕ) → Tables → Type 0
-TakesAll (Ok u) rings lines new = Fills (empty rings) lines new
-TakesAll (Err f) rings lines new = (f ≡ no_memory) ⊎ ((first : List ℕ) → SaysVersion first rings → FirstFault (first ∷ lines) f)
-
 -- What reading answers, against the job of the text: that job, unless memory ran out.
 abbrev pub GivesJob : {X : Type 0} → (X → JobValue) → Result X JobFault → JobValue → Type 0
 GivesJob view (Ok j) job = view j ≡ job
 GivesJob view (Err f) job = f ≡ no_memory
-
--- What stands behind the end, which is nothing or a fault at this line.
-abbrev pub Behind : Result (Unit {0}) JobFault → ℕ → List (List ℕ) → Type 0
-Behind (Ok u) line lines = lines ≡ []
-Behind (Err f) line lines = (more : List ℕ) × (rest : List (List ℕ)) × (lines ≡ more ∷ rest) × (f ≡ at_line line (misplaced more))
 
 -- What the end makes of the tables: their job, where no signal is against it.
 abbrev pub Finishes : {X : Type 0} → (X → JobValue) → Result X JobFault → ℕ → Tables → Type 0
@@ -81,8 +61,3 @@ GivesUnlessRead view (Err f) job = (f ≡ no_memory) ⊎ (f ≡ no_text)
 abbrev pub signal_reason : SignalFault → Reason
 signal_reason (signal.Undershoot handle) = reason.Undershoot handle
 signal_reason (signal.NeverZero handle) = reason.NeverZero handle
-
--- What reading the lines behind the first one answers.
-abbrev pub Reads : {X : Type 0} → (X → JobValue) → Result X JobFault → Bool → List (List ℕ) → Type 0
-Reads view (Ok j) rings lines = (first : List ℕ) → SaysVersion first rings → JobText (first ∷ lines) (view j)
-Reads view (Err f) rings lines = (f ≡ no_memory) ⊎ ((first : List ℕ) → SaysVersion first rings → FirstFault (first ∷ lines) f)

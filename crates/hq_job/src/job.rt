@@ -3,17 +3,20 @@
 ghost use Rattle.std.specs.Prelude.{◌≡◌, ◌<◌, ◌↔◌, ℕ, Some, IsNone, All, IfOk, length};
 ghost use Rattle.hq_job.specs.Access.{StandsAt, AreOfQueue};
 ghost use Rattle.hq_job.specs.Blocks.{blocks_of};
+ghost use Rattle.hq_job.specs.Heads.{job_with_each, job_with_head, SameButHeads};
 ghost use Rattle.hq_job.specs.Plan.{plan, planned};
 ghost use Rattle.hq_job.specs.Tables.{byte_number};
 ghost use Rattle.hq_model.specs.Job.{packet};
+ghost use Rattle.hq_model.specs.Settings.{head_at, with_each, with_head};
 ghost use Rattle.hq_model.specs.Theorems.{Valid};
 
 use crate::addresses::byte_number;
 use crate::memory::memory_of;
 use crate::numbering::{by_number, submissions};
 use crate::places::{number_at, span_of};
-use crate::rows::{Block, Kernel, Placed, Queue};
+use crate::rows::{self, Block, Kernel, Placed, Queue};
 use crate::tables::Tables;
+use hq_packet::Head;
 use hq_signals::SignalTable;
 use hq_text::Name;
 use std::alloc::{AllocError, Global};
@@ -59,6 +62,22 @@ impl Job {
         let (packets, firsts) = by_number(alloc, tables.queues.len(), &tables.placed)?;
         let next = firsts.clone()?;
         let submissions = submissions(alloc, tables.queues.len(), next, &tables.placed)?;
+        Ok(Job {
+            tables,
+            packets,
+            firsts,
+            submissions,
+        })
+    }
+
+    /// An equal job.
+    pub fn copy(&self, alloc: Global) -> Result<Job, AllocError>
+        ensures { IfOk result (λ job. job ≡ self.now) }
+    {
+        let tables = self.tables.copy(alloc)?;
+        let packets = self.packets.clone()?;
+        let firsts = self.firsts.clone()?;
+        let submissions = self.submissions.clone()?;
         Ok(Job {
             tables,
             packets,
@@ -145,6 +164,33 @@ impl Job {
         ensures { planned result.now ≡ packet (plan self.now) number }
     {
         &self.packets[number]
+    }
+
+    /// A packet's barrier bit and the scopes of its fences.
+    pub fn head(&self, packet: usize) -> Head
+        requires { packet < length self.now.packets }
+        ensures { result ≡ head_at (plan self.now) packet }
+    {
+        self.packet(packet).packet.head()
+    }
+
+    /// Gives a packet this head. All else is as it was, and no memory is taken.
+    pub fn set_head(&mut self, packet: usize, head: Head)
+        requires { packet < length self.old.packets }
+        ensures value { self.new ≡ job_with_head self.old packet head }
+        ensures plan { plan self.new ≡ with_head (plan self.old) packet head }
+        ensures same { SameButHeads self.old self.new }
+    {
+        rows::set_head(&mut self.packets, packet, head);
+    }
+
+    /// Gives each packet this head. All else is as it was, and no memory is taken.
+    pub fn set_each_head(&mut self, head: Head)
+        ensures value { self.new ≡ job_with_each self.old head }
+        ensures plan { plan self.new ≡ with_each (plan self.old) head }
+        ensures same { SameButHeads self.old self.new }
+    {
+        rows::set_each_head(&mut self.packets, head);
     }
 
     /// The numbers of the packets in the order of their submission, which is the order of their lines.

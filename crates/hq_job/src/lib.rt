@@ -13,6 +13,7 @@
 
 mod addresses;
 mod conflicts;
+mod draft;
 mod fault;
 mod finding;
 mod job;
@@ -21,7 +22,10 @@ mod memory;
 mod numbering;
 mod packets;
 mod places;
+mod progress;
+mod reader;
 mod reading;
+mod rewriting;
 mod rows;
 mod same;
 mod tables;
@@ -29,5 +33,6 @@ mod tables;
 pub use fault::{JobFault, Reason};
 pub use hq_text::{TextFault, take_text};
 pub use job::Job;
-pub use reading::{read, read_text};
+pub use reader::{read, read_text};
+pub use rewriting::rewrite;
 pub use rows::{Block, Kernel, Placed, Queue};

@@ -1,8 +1,13 @@
 //! What the lines of a job declare.
 
+ghost use Rattle.std.specs.Prelude.{◌≡◌, ◌<◌, length, map, IfOk};
+ghost use Rattle.hq_job.specs.Blocks.{bytes_of, blocks_of};
+ghost use Rattle.hq_job.specs.Heads.{placed_with_head, packets_with_head};
+
 use hq_footprint::{Code, Footprint, Work};
-use hq_packet::Packet;
+use hq_packet::{Head, Packet};
 use hq_text::Name;
+use std::alloc::{AllocError, Global};
 
 /// A named run of bytes from an address on: a buffer as the job starts, or a kernarg block.
 #[derive(Debug, Drop)]
@@ -43,4 +48,57 @@ pub struct Placed {
     pub slots: [Option<u16>; 5],
     /// The number of its completion signal, if it has one.
     pub done: Option<u16>,
+}
+
+impl Block {
+    /// An equal block, with bytes of its own.
+    fn copy(&self) -> Result<Block, AllocError>
+        ensures { IfOk result (λ block. bytes_of block ≡ bytes_of self.now) }
+    {
+        Ok(Block {
+            name: self.name,
+            at: self.at,
+            bytes: self.bytes.clone()?,
+        })
+    }
+}
+
+/// Equal blocks, with bytes of their own.
+pub fn copied(alloc: Global, blocks: &[Block]) -> Result<Vec<Block>, AllocError>
+    ensures { IfOk result (λ copies. blocks_of copies.items ≡ blocks_of blocks.now) }
+{
+    let mut copies = Vec::with_capacity(alloc, blocks.len())?;
+    for block in blocks {
+        copies.push(block.copy()?)?;
+    }
+    Ok(copies)
+}
+
+impl Placed {
+    /// The packet with this head, and all else as it was.
+    pub fn with_head(self, head: Head) -> Placed
+        ensures { result ≡ placed_with_head self head }
+    {
+        Placed {
+            packet: self.packet.with_head(head),
+            ..self
+        }
+    }
+}
+
+/// Gives a packet this head, and leaves all others.
+pub fn set_head(packets: &mut [Placed], packet: usize, head: Head)
+    requires { packet < length packets.old }
+    ensures { packets.new ≡ packets_with_head packets.old packet head }
+{
+    packets[packet] = packets[packet].with_head(head);
+}
+
+/// Gives each packet this head.
+pub fn set_each_head(packets: &mut [Placed], head: Head)
+    ensures { packets.new ≡ map (λ p. placed_with_head p head) packets.old }
+{
+    for packet in packets.iter_mut() {
+        *packet = packet.with_head(head);
+    }
 }

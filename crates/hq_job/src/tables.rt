@@ -1,17 +1,17 @@
 //! The tables that the lines of a job fill.
 
-ghost use Rattle.std.specs.Prelude.{◌≡◌, ◌^◌, ◌<◌, ◌↔◌, All, IsOk, IfErr};
+ghost use Rattle.std.specs.Prelude.{◌≡◌, ◌^◌, ◌<◌, ◌↔◌, All, IsOk, IfOk, IfErr, OnOk};
 ghost use Rattle.hq_lines.specs.Meaning as says;
 ghost use Rattle.hq_job.specs.Fits.{TablesFit};
 
 use crate::fault::Reason;
 use crate::finding;
-use crate::rows::{Block, Kernel, Placed, Queue};
+use crate::rows::{Block, Kernel, Placed, Queue, copied};
 use hq_footprint::{Code, Range};
 use hq_signals::{SignalFault, SignalTable};
 use hq_text::Name;
 use indexmap::IndexSet;
-use std::alloc::Global;
+use std::alloc::{AllocError, Global};
 
 /// What the lines so far declare.
 #[derive(Drop)]
@@ -26,6 +26,14 @@ pub struct Tables {
     pub queues: Vec<Queue>,
     pub current: Option<u16>,
     pub placed: Vec<Placed>,
+}
+
+/// Makes the second set equal to the first.
+fn copy_names(names: &IndexSet<Name>, copy: &mut IndexSet<Name>) -> Result<(), AllocError>
+    ensures { OnOk result (copy.new.keys ≡ names.now.keys) }
+{
+    *copy = names.clone()?;
+    Ok(())
 }
 
 impl Tables {
@@ -51,6 +59,32 @@ impl Tables {
             current: None,
             placed: Vec::new(alloc),
         }
+    }
+
+    /// Fills tables before any line with what these declare.
+    fn copy_to(&self, alloc: Global, copy: &mut Tables) -> Result<(), AllocError>
+        requires { tables_of copy.old ≡ empty self.now.rings }
+        ensures { OnOk result (tables_of copy.new ≡ tables_of self.now) }
+    {
+        copy_names(&self.agents, &mut copy.agents)?;
+        copy.buffers = copied(alloc, &self.buffers)?;
+        copy.arguments = copied(alloc, &self.arguments)?;
+        copy_names(&self.signal_names, &mut copy.signal_names)?;
+        copy.signals = self.signals.copy()?;
+        copy.kernels.extend_from_slice(&self.kernels)?;
+        copy.queues.extend_from_slice(&self.queues)?;
+        copy.current = self.current;
+        copy.placed.extend_from_slice(&self.placed)?;
+        Ok(())
+    }
+
+    /// Equal tables.
+    pub fn copy(&self, alloc: Global) -> Result<Tables, AllocError>
+        ensures { IfOk result (λ t. tables_of t ≡ tables_of self.now) }
+    {
+        let mut copy = Tables::new(alloc, self.rings);
+        self.copy_to(alloc, &mut copy)?;
+        Ok(copy)
     }
 
     pub fn add_agent(&mut self, name: Name) -> Result<(), Reason>

@@ -1,6 +1,6 @@
 -- Digits have no space among them, so that a packet line has two words.
-use Rattle.std.proofs.Common.{◌≡◌, ℕ, true, false, List, [], ◌∷◌, ◌++◌, ◌%◌, drop, ◌==◌, length, Option, Some, None, codes, refl, sym, ◌∙◌, ap, subst, inl, inr, Decides}
-use Rattle.std.specs.Prelude.{All, Ok, Err, IfSome, MatchOption, MatchResult, Result}
+use Rattle.std.proofs.Common.{◌≡◌, ℕ, true, false, List, [], ◌∷◌, ◌++◌, ◌%◌, drop, ◌==◌, length, Option, codes, refl, sym, ◌∙◌, ap, subst, inl, inr, Decides}
+use Rattle.std.specs.Prelude.{All, Ok, Err, IfSome, MatchResult, Result}
 use Rattle.std.specs.Result.{result_ok}
 use Rattle.std.proofs.lemmas.Bool.{cases_eq, ne_eqb, eq-eqb, eqb-true}
 use Rattle.std.proofs.lemmas.List.Elements.{All-cons, All-nil, All-weaker}
@@ -21,7 +21,7 @@ digit_apart c h = elim (cases_eq c 32) [
 abbrev IsApart : ℕ → Type 0
 IsApart c = is_space c ≡ false
 
-word_apart : All IsApart (codes "packet")
+pub word_apart : All IsApart (codes "packet")
 word_apart =
     let rest : ℕ → List ℕ = λ n. drop n (codes "packet") in
     All-cons IsApart 112 (rest 1) refl (All-cons IsApart 97 (rest 2) refl (All-cons IsApart 99 (rest 3) refl (All-cons IsApart 107 (rest 4) refl (All-cons IsApart 101 (rest 5) refl (All-cons IsApart 116 (rest 6) refl (All-nil IsApart))))))
@@ -45,10 +45,6 @@ packet_behind line digits m e h =
 
 pub same_numbers : (a b : ℕ) → Decides (a == b) (a ≡ b)
 same_numbers a b = (eqb-true a b, eq-eqb a b)
-
-pub some_behind : {X : Type 0} (P : X → Type 0) (N : Type 0) (r : Option X) → MatchOption r N P → IfSome r P
-some_behind P N None h = tt
-some_behind P N (Some x) h = h
 
 -- the packet that the digits behind the word spell
 pub packet_found : {X : Type 0} (v : X → Meaning) (r : Result X LineFault) (Q : LineFault → Type 0) (o : Option X) (line word digits : List ℕ) → word ≡ codes "packet " → line ≡ word ++ digits → MatchResult r (λ l. SpellsPacket digits (v l)) Q → o ≡ result_ok r → IfSome o (λ l. Says (words_of line) (v l))

@@ -4,3 +4,8 @@ pub mod Ranges
 pub mod Whole
 pub mod Digits
 pub mod Pairs
+pub mod Told
+pub mod Judged
+pub mod Classes
+pub mod Means
+pub mod PacketLines

@@ -112,21 +112,21 @@ pub short_is : (bytes : List ℕ) → length bytes ≤ 64 → short_said bytes �
 unfolding short_said
 short_is bytes le = rw (le-leb (length bytes) 64 le) refl
 
-abbrev exponents : List ℕ
+abbrev pub exponents : List ℕ
 exponents = 0 ∷ 1 ∷ 2 ∷ 3 ∷ 4 ∷ 5 ∷ 6 ∷ 7 ∷ 8 ∷ 9 ∷ 10 ∷ []
 
 or_power : (b : Bool) (n k : ℕ) (more : Bool) → eqb n (2 ^ k) ≡ b → (more ≡ true → IsPower n) → (b || more) ≡ true → IsPower n
 or_power true n k more is f e = record { exponent = k; power = eqb-true n (2 ^ k) is }
 or_power false n k more is f e = f e
 
-power_found : (n : ℕ) (ks : List ℕ) → list_any (λ k. eqb n (2 ^ k)) ks ≡ true → IsPower n
+pub power_found : (n : ℕ) (ks : List ℕ) → list_any (λ k. eqb n (2 ^ k)) ks ≡ true → IsPower n
 power_found n [] e = absurd cc
 power_found n (k ∷ ks) e = or_power (eqb n (2 ^ k)) n k (list_any (λ j. eqb n (2 ^ j)) ks) refl (power_found n ks) e
 
 too_big : (k : ℕ) → 11 ≤ k → 2 ^ k ≤ 1024 → ⊥
 too_big k low le = let big : 2 ^ 11 ≤ 2 ^ k = pow_mono {i = 11} {j = k} low in omega arith
 
-small_power : (k : ℕ) → 2 ^ k ≤ 1024 → is_power (2 ^ k) ≡ true
+pub small_power : (k : ℕ) → 2 ^ k ≤ 1024 → is_power (2 ^ k) ≡ true
 small_power zero le = refl
 small_power (suc zero) le = refl
 small_power (suc (suc zero)) le = refl

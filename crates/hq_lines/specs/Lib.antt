@@ -5,3 +5,5 @@ pub mod Fits
 pub mod Order
 pub mod Gives
 pub mod Decodes
+pub mod LineForms
+pub mod Heads

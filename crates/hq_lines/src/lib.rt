@@ -2,11 +2,13 @@
 #![tactic(auto)]
 
 mod fault;
+mod heads;
 pub mod laws;
 mod line;
 mod read;
 mod words;
 
 pub use fault::LineFault;
+pub use heads::{begins_packet, with_head};
 pub use line::{Line, Version};
 pub use read::{first_line, line_behind_end, read_line};

@@ -1,6 +1,6 @@
 //! Lines read.
 
-ghost use Rattle.std.specs.Prelude.{◌≡◌, if◌then◌else◌, ◌⊎◌, ◌↔◌, ◌++◌, List, IfOk, IfErr, IfSome, Ok, Err, Some, codes};
+ghost use Rattle.std.specs.Prelude.{◌≡◌, ◌≢◌, ℕ, MatchOption, if◌then◌else◌, ◌⊎◌, ◌↔◌, ◌++◌, List, IfOk, IfErr, IfSome, Ok, Err, Some, codes};
 ghost use Rattle.std.specs.List.{list_any};
 ghost use Rattle.hq_text.specs.Lines.{words_of};
 ghost use Rattle.hq_lines.specs.Bytes.{is_outside};
@@ -50,9 +50,9 @@ pub fn first_line(line: &[u8]) -> Result<Version, LineFault>
     Err(line_behind_end(line))
 }
 
-/// What stands behind the first bytes of a line.
-fn behind<'a>(line: &'a [u8], first: &[u8]) -> Option<&'a [u8]>
-    ensures { IfSome result (λ rest. line.now ≡ first.now ++ rest.now) }
+/// What stands behind the first bytes of a line, if it begins with these.
+pub(crate) fn behind<'a>(line: &'a [u8], first: &[u8]) -> Option<&'a [u8]>
+    ensures { MatchOption result ((rest : List ℕ) → line.now ≢ first.now ++ rest) (λ rest. line.now ≡ first.now ++ rest.now) }
 {
     line.strip_prefix(first)
 }

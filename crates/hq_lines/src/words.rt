@@ -312,7 +312,7 @@ fn plain_said(alloc: Global, words: &[&[u8]]) -> Result<Line, LineFault>
 }
 
 /// The value of a digit, or 255 where it is none.
-fn digit_value(digit: u8) -> u8
+pub(crate) fn digit_value(digit: u8) -> u8
     ensures { result ≡ unwrap_or (hex_digit_value digit) 255 }
 {
     match digit {

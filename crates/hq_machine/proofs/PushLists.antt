@@ -1,15 +1,14 @@
 -- The dirty bytes of several holders are pushed, in turn.
-use Rattle.std.proofs.Common.{◌≡◌, ℕ, zero, suc, ◌+◌, ◌-◌, ◌<◌, ◌≤◌, ◌⊎◌, inl, inr, List, [], ◌∷◌, ◌++◌, Bool, true, false, length, map, filter, refl, sym, ◌∙◌, ap, subst, arith}
+use Rattle.std.proofs.Common.{◌≡◌, ℕ, zero, suc, ◌+◌, ◌-◌, ◌<◌, ◌≤◌, ◌⊎◌, inl, inr, List, [], ◌∷◌, ◌++◌, Bool, true, false, length, map, filter, refl, sym, ◌∙◌, ap, ap₂, subst, arith}
 use Rattle.std.proofs.lemmas.Bool.{cases_eq, cases_Bool, true≢false}
-use Rattle.std.proofs.lemmas.List.{append-nil}
+use Rattle.std.proofs.lemmas.List.{append-nil, append_assoc}
 use Rattle.std.proofs.lemmas.Grind.{flat_map-append}
 use Rattle.hq_model.specs.Machine.{Event, is_dirty, listed}
 use Rattle.hq_model.specs.Journal.{numbers}
 use Rattle.hq_model.specs.View.{copies_of}
 use Rattle.hq_copies.specs.Copies.{CopiesValue, IsFirstDirty, NoneDirty, held, lane_pushed, agent_pushed}
-use Rattle.hq_machine.specs.declared.coarse.Holders.{Holders}
-use Rattle.hq_machine.specs.declared.coarse.Holders.TheVariants as holders
-use Rattle.hq_machine.specs.Pushes.{maps_of, push_of, PushedBy, AllPushed, Within, dirty_of, Cleaned, Swept, WrittenBack, span, pushes_of}
+use Rattle.hq_machine.specs.Pushes.Holders.{Lanes, Agents}
+use Rattle.hq_machine.specs.Pushes.{Holders, maps_of, push_of, PushedBy, AllPushed, Within, dirty_of, Cleaned, Swept, WrittenBack, span, pushes_of}
 use Rattle.hq_machine.proofs.PushedBytes.{kept_same, kept_on, pushed_on, maps_count, Cleaning, cleaning_starts, cleaning_pushes, cleaned, fewer, dirty_is}
 
 -- ---- the numbers from start on
@@ -22,6 +21,18 @@ span_more start stop l =
     let e : (stop + 1) - start ≡ suc (stop - start) = omega arith in
     let f : start + (stop - start) ≡ stop = omega arith in
     ap (λ n. listed n (λ i. start + i)) e ∙ ap (λ x. span start stop ++ x ∷ []) f
+
+span_joined : (start mid n : ℕ) → start ≤ mid → span start (mid + n) ≡ span start mid ++ span mid (mid + n)
+span_joined start mid zero l =
+    let e : mid + 0 ≡ mid = omega arith in
+    ap (span start) e ∙ sym (append-nil (span start mid)) ∙ ap (λ xs. span start mid ++ xs) (sym (ap (span mid) e ∙ span_none mid))
+span_joined start mid (suc n) l =
+    let e : mid + suc n ≡ (mid + n) + 1 = omega arith in
+    ap (span start) e
+    ∙ span_more start (mid + n) (omega arith)
+    ∙ ap (λ xs. xs ++ (mid + n) ∷ []) (span_joined start mid n l)
+    ∙ append_assoc (span start mid) (span mid (mid + n)) ((mid + n) ∷ [])
+    ∙ ap (λ xs. span start mid ++ xs) (sym (ap (span mid) e ∙ span_more mid (mid + n) (omega arith)))
 
 -- ---- one holder after another
 
@@ -38,19 +49,47 @@ dirty_still h old cur k e same =
     let f : (λ (b : ℕ). is_dirty (copies_of (maps_of h cur) k b)) ≡ (λ (b : ℕ). is_dirty (copies_of (maps_of h old) k b)) = λ i b. is_dirty (same b i) in
     ap (λ n. filter (λ b. is_dirty (copies_of (maps_of h cur) k b)) (numbers n)) e ∙ ap (λ t. filter t (numbers (length old.memory))) f
 
+pushes_more : (h : Holders) (c : CopiesValue) (start stop : ℕ) → start ≤ stop → pushes_of h c (span start (stop + 1)) ≡ pushes_of h c (span start stop) ++ map (push_of h stop) (dirty_of h c stop)
+pushes_more h c start stop l =
+    ap (pushes_of h c) (span_more start stop l)
+    ∙ flat_map-append (λ k. map (push_of h k) (dirty_of h c k)) (span start stop) (stop ∷ [])
+    ∙ ap (λ xs. pushes_of h c (span start stop) ++ xs) (append-nil (map (push_of h stop) (dirty_of h c stop)))
+
 pub sweep_more : (h : Holders) (old : CopiesValue) (start stop : ℕ) (cur new : CopiesValue) → start ≤ stop → Swept h old start stop cur → Cleaned h cur stop new → Swept h old start (stop + 1) new
 sweep_more h old start stop cur new l s c =
     let bytes = dirty_still h old cur stop s.kept.counts.memory (λ b. s.later stop b (omega arith)) in
     let last : List Event = map (push_of h stop) (dirty_of h old stop) in
     let run : AllPushed cur last new = subst (λ bs. AllPushed cur (map (push_of h stop) bs) new) bytes c.run in
-    let list : pushes_of h old (span start (stop + 1)) ≡ pushes_of h old (span start stop) ++ last =
-    ap (pushes_of h old) (span_more start stop l)
-    ∙ flat_map-append (λ k. map (push_of h k) (dirty_of h old k)) (span start stop) (stop ∷ [])
-    ∙ ap (λ xs. pushes_of h old (span start stop) ++ xs) (append-nil last) in
     record {
-      run = subst (λ xs. AllPushed old xs new) (sym list) (pushed_on old cur new (pushes_of h old (span start stop)) last s.run run);
+      run = subst (λ xs. AllPushed old xs new) (sym (pushes_more h old start stop l)) (pushed_on old cur new (pushes_of h old (span start stop)) last s.run run);
       kept = kept_on old cur new s.kept c.kept;
       later = λ q b h'. c.others q b (λ e. absurd (omega (arith, e))) ∙ s.later q b (omega arith);
+    }
+
+-- the bytes of holders that hold what they held
+pushes_still : (h : Holders) (old cur : CopiesValue) (start n : ℕ) → length cur.memory ≡ length old.memory → ((q b : ℕ) → start ≤ q → copies_of (maps_of h cur) q b ≡ copies_of (maps_of h old) q b) → pushes_of h cur (span start (start + n)) ≡ pushes_of h old (span start (start + n))
+pushes_still h old cur start zero e same =
+    let z : span start (start + 0) ≡ [] = let d : start + 0 ≡ start = omega arith in ap (span start) d ∙ span_none start in
+    ap (pushes_of h cur) z ∙ sym (ap (pushes_of h old) z)
+pushes_still h old cur start (suc n) e same =
+    let d : start + suc n ≡ (start + n) + 1 = omega arith in
+    ap (λ m. pushes_of h cur (span start m)) d
+    ∙ pushes_more h cur start (start + n) (omega arith)
+    ∙ ap₂ (λ xs ys. xs ++ ys) (pushes_still h old cur start n e same) (ap (map (push_of h (start + n))) (dirty_still h old cur (start + n) e (λ b. same (start + n) b (omega arith))))
+    ∙ sym (ap (λ m. pushes_of h old (span start m)) d ∙ pushes_more h old start (start + n) (omega arith))
+
+-- one part of the holders, and then the next
+pub sweep_on : (h : Holders) (old : CopiesValue) (start mid stop : ℕ) (cur new : CopiesValue) → start ≤ mid → mid ≤ stop → Swept h old start mid cur → Swept h cur mid stop new → Swept h old start stop new
+sweep_on h old start mid stop cur new low high s t =
+    let e : mid + (stop - mid) ≡ stop = omega arith in
+    let still : pushes_of h cur (span mid stop) ≡ pushes_of h old (span mid stop) = subst (λ n. pushes_of h cur (span mid n) ≡ pushes_of h old (span mid n)) e (pushes_still h old cur mid (stop - mid) s.kept.counts.memory s.later) in
+    let joined : span start stop ≡ span start mid ++ span mid stop = subst (λ n. span start n ≡ span start mid ++ span mid n) e (span_joined start mid (stop - mid) low) in
+    let list : pushes_of h old (span start stop) ≡ pushes_of h old (span start mid) ++ pushes_of h old (span mid stop) =
+    ap (pushes_of h old) joined ∙ flat_map-append (λ k. map (push_of h k) (dirty_of h old k)) (span start mid) (span mid stop) in
+    record {
+      run = subst (λ xs. AllPushed old xs new) (sym list) (pushed_on old cur new (pushes_of h old (span start mid)) (pushes_of h old (span mid stop)) s.run (subst (λ xs. AllPushed cur xs new) still t.run));
+      kept = kept_on old cur new s.kept t.kept;
+      later = λ q b l. t.later q b l ∙ s.later q b (omega arith);
     }
 
 -- ---- it can always be done
@@ -74,13 +113,13 @@ not_true true h = absurd (h refl)
 not_true false h = refl
 
 dirty_low : (h : Holders) (cur : CopiesValue) (k : ℕ) → Within cur → (b : ℕ) → is_dirty (copies_of (maps_of h cur) k b) ≡ true → b < length cur.memory
-dirty_low holders.Lanes cur k within b d = within.lanes k b d
-dirty_low holders.Agents cur k within b d = within.agents k b d
+dirty_low Lanes cur k within b d = within.lanes k b d
+dirty_low Agents cur k within b d = within.agents k b d
 
 -- a dirty byte can be pushed
 can_push : (h : Holders) (cur : CopiesValue) (k b : ℕ) → k < length (maps_of h cur) → Within cur → is_dirty (copies_of (maps_of h cur) k b) ≡ true → (new : CopiesValue) × PushedBy cur (push_of h k b) new
-can_push holders.Lanes cur k b l within d = let (value, e) = dirty_is (copies_of cur.lanes k b) d in (lane_pushed cur k b value, ((l, within.lanes k b d), (value, e, refl)))
-can_push holders.Agents cur k b l within d = let (value, e) = dirty_is (copies_of cur.agents k b) d in (agent_pushed cur k b value, ((l, within.agents k b d), (value, e, refl)))
+can_push Lanes cur k b l within d = let (value, e) = dirty_is (copies_of cur.lanes k b) d in (lane_pushed cur k b value, ((l, within.lanes k b d), (value, e, refl)))
+can_push Agents cur k b l within d = let (value, e) = dirty_is (copies_of cur.agents k b) d in (agent_pushed cur k b value, ((l, within.agents k b d), (value, e, refl)))
 
 can_go_on : (h : Holders) (old : CopiesValue) (k : ℕ) → k < length (maps_of h old) → (fuel : ℕ) (cur : CopiesValue) → length (dirty_of h cur k) < fuel → Cleaning h old k cur → (new : CopiesValue) × Cleaned h old k new × NoneDirty (held (maps_of h new) k)
 can_go_on h old k l zero cur few c = absurd (omega arith)
@@ -117,6 +156,6 @@ can_sweep h old start stop within low high =
 
 pub can_write_back : (old : CopiesValue) (lane lanes agent agents : ℕ) → Within old → lane ≤ lanes → lanes ≤ length old.lanes → agent ≤ agents → agents ≤ length old.agents → (new : CopiesValue) × WrittenBack old lane lanes agent agents new
 can_write_back old lane lanes agent agents within a b c d =
-    let (mid, s) = can_sweep holders.Lanes old lane lanes within a b in
-    let (new, t) = can_sweep holders.Agents mid agent agents s.kept.within c (omega (arith, s.kept.counts.agents)) in
+    let (mid, s) = can_sweep Lanes old lane lanes within a b in
+    let (new, t) = can_sweep Agents mid agent agents s.kept.within c (omega (arith, s.kept.counts.agents)) in
     (new, record { mid = mid; lanes_swept = s; agents_swept = t })

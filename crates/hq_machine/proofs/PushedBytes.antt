@@ -1,5 +1,5 @@
 -- The dirty bytes of one holder are pushed, the least first.
-use Rattle.std.proofs.Common.{◌≡◌, ◌≢◌, ℕ, zero, suc, ◌<◌, ◌⊎◌, inl, inr, List, [], ◌∷◌, ◌++◌, Bool, true, false, cond, Option, Some, None, Result, Ok, Err, IfErr, length, map, filter, slice_index, refl, sym, ◌∙◌, ap, subst, arith, length-set}
+use Rattle.std.proofs.Common.{◌≡◌, ◌≢◌, ℕ, zero, suc, ◌<◌, ◌⊎◌, inl, inr, List, [], ◌∷◌, ◌++◌, Bool, true, false, cond, Option, Some, None, Result, Ok, Err, length, map, filter, slice_index, refl, sym, ◌∙◌, ap, subst, arith, length-set}
 use Rattle.std.proofs.lemmas.Bool.{cases_eq, cond-true, cond-false, true≢false}
 use Rattle.std.proofs.lemmas.List.{map-append, append-nil, append_assoc}
 use Rattle.std.proofs.lemmas.List.Elements.{filter-append}
@@ -11,9 +11,8 @@ use Rattle.hq_model.proofs.Sums.{put2_same, put2_other}
 use Rattle.hq_copies.specs.Copies.{CopiesValue, IsDirty, IsFirstDirty, NoneDirty, held, a_copy, lane_pushed, agent_pushed}
 use Rattle.hq_copies.specs.declared.fault.CopiesFault.{CopiesFault}
 use Rattle.hq_copies.specs.declared.fault.CopiesFault.TheVariants as copies_fault
-use Rattle.hq_machine.specs.declared.coarse.Holders.{Holders}
-use Rattle.hq_machine.specs.declared.coarse.Holders.TheVariants as holders
-use Rattle.hq_machine.specs.Pushes.{maps_of, push_of, PushedBy, AllPushed, Within, Counts, Kept, dirty_of, Cleaned}
+use Rattle.hq_machine.specs.Pushes.Holders.{Lanes, Agents}
+use Rattle.hq_machine.specs.Pushes.{Holders, maps_of, push_of, PushedBy, AllPushed, Within, Counts, Kept, dirty_of, Cleaned}
 
 -- ---- lists of numbers that pass a test
 
@@ -66,7 +65,7 @@ pub record OnePush (h : Holders) (old : CopiesValue) (k b : ℕ) (new : CopiesVa
   pub maps : copies_of (maps_of h new) ≡ put2 (copies_of (maps_of h old)) k b (clean value)
   pub kept : Kept old new
 
-lane_push : (old : CopiesValue) (p b value : ℕ) → p < length old.lanes → b < length old.memory → Within old → OnePush holders.Lanes old p b (lane_pushed old p b value)
+lane_push : (old : CopiesValue) (p b value : ℕ) → p < length old.lanes → b < length old.memory → Within old → OnePush Lanes old p b (lane_pushed old p b value)
 lane_push old p b value l m within =
     let a = slice_index old.lane_agents p in
     let lanes = copies_of_insert old.lanes p b (a_copy value false) l in
@@ -86,7 +85,7 @@ lane_push old p b value l m within =
       };
     }
 
-agent_push : (old : CopiesValue) (a b value : ℕ) → a < length old.agents → b < length old.memory → Within old → OnePush holders.Agents old a b (agent_pushed old a b value)
+agent_push : (old : CopiesValue) (a b value : ℕ) → a < length old.agents → b < length old.memory → Within old → OnePush Agents old a b (agent_pushed old a b value)
 agent_push old a b value l m within =
     let agents = copies_of_insert old.agents a b (a_copy value false) l in
     let count = length-set old.agents a _ in
@@ -105,12 +104,12 @@ agent_push old a b value l m within =
     }
 
 pub one_push : (h : Holders) (old : CopiesValue) (k b : ℕ) (new : CopiesValue) → Within old → PushedBy old (push_of h k b) new → OnePush h old k b new
-one_push holders.Lanes old k b new within ((l, m), (value, copy, is)) = subst (OnePush holders.Lanes old k b) (sym is) (lane_push old k b value l m within)
-one_push holders.Agents old k b new within ((l, m), (value, copy, is)) = subst (OnePush holders.Agents old k b) (sym is) (agent_push old k b value l m within)
+one_push Lanes old k b new within ((l, m), (value, copy, is)) = subst (OnePush Lanes old k b) (sym is) (lane_push old k b value l m within)
+one_push Agents old k b new within ((l, m), (value, copy, is)) = subst (OnePush Agents old k b) (sym is) (agent_push old k b value l m within)
 
 pub maps_count : (h : Holders) (old new : CopiesValue) → Counts old new → length (maps_of h new) ≡ length (maps_of h old)
-maps_count holders.Lanes old new c = c.lanes
-maps_count holders.Agents old new c = c.agents
+maps_count Lanes old new c = c.lanes
+maps_count Agents old new c = c.agents
 
 pub kept_same : (c : CopiesValue) → Within c → Kept c c
 kept_same c within = record { counts = record { memory = refl; agents = refl; lanes = refl; lane_agents = refl }; within = within }
@@ -152,8 +151,8 @@ peeled h cur k b new within low first push =
     ∙ ap (λ n. b ∷ filter (λ c. is_dirty (g k c)) (numbers n)) (sym push.kept.counts.memory)
 
 pub byte_below : (h : Holders) (cur : CopiesValue) (k b : ℕ) → Within cur → IsFirstDirty (held (maps_of h cur) k) b → b < length cur.memory
-byte_below holders.Lanes cur k b within first = within.lanes k b first.dirty
-byte_below holders.Agents cur k b within first = within.agents k b first.dirty
+byte_below Lanes cur k b within first = within.lanes k b first.dirty
+byte_below Agents cur k b within first = within.agents k b first.dirty
 
 pub cleaning_pushes : (h : Holders) (old : CopiesValue) (k b : ℕ) (cur new : CopiesValue) → Cleaning h old k cur → IsFirstDirty (held (maps_of h cur) k) b → PushedBy cur (push_of h k b) new → Cleaning h old k new
 cleaning_pushes h old k b cur new c first pushed =
@@ -177,15 +176,8 @@ cleaned h old k cur c none =
     let e : dirty_of h old k ≡ c.bytes = c.list ∙ ap (λ xs. c.bytes ++ xs) (none_pass (λ b. is_dirty (copies_of (maps_of h cur) k b)) (length cur.memory) (λ b l. none b)) ∙ append-nil c.bytes in
     record { run = subst (λ xs. AllPushed old (map (push_of h k) xs) cur) (sym e) c.run; kept = c.kept; others = c.others }
 
--- ---- a push of a dirty byte fails for want of memory alone
+-- ---- a dirty byte
 
 pub dirty_is : (copy : Option Copy) → is_dirty copy ≡ true → IsDirty copy
 dirty_is None e = absurd (true≢false (sym e))
 dirty_is (Some copy) e = (copy.value, ap (λ d. Some (a_copy copy.value d)) e)
-
-pub only_memory : {X : Type 0} (copy : Option Copy) (result : Result X CopiesFault) → IsDirty copy
-    → IfErr result (λ e. (e ≡ copies_fault.NotDirty) ⊎ ((e ≡ copies_fault.Memory) × IsDirty copy)) → IfErr result (λ e. e ≡ copies_fault.NotDirty → IsDirty copy → ⊥)
-    → IfErr result (λ e. e ≡ copies_fault.Memory)
-only_memory copy (Ok x) dirty faults not = tt
-only_memory copy (Err e) dirty (inl is) not = absurd (not is dirty)
-only_memory copy (Err e) dirty (inr is) not = is.0

@@ -8,9 +8,9 @@ use Rattle.hq_model.proofs.View.{copies_of_insert}
 use Rattle.hq_model.proofs.Sums.{put2_same, put2_other}
 use Rattle.hq_copies.specs.Copies.{CopiesValue, held, a_copy, lane_pushed, agent_pushed, cleaned, taken, written, fed, LanesReleased, AgentReleased}
 use Rattle.hq_copies.proofs.Gathered.{same_held}
-use Rattle.hq_machine.specs.declared.coarse.Holders.TheVariants as holders
-use Rattle.hq_machine.specs.Pushes.{push_of, dirty_of, AllPushed, Within, Swept}
-use Rattle.hq_machine.proofs.PushLists.{sweep_starts, sweep_more, can_clean}
+use Rattle.hq_machine.specs.Pushes.Holders.{Lanes, Agents}
+use Rattle.hq_machine.specs.Pushes.{push_of, pushes_of, dirty_of, AllPushed, Within, Swept}
+use Rattle.hq_machine.proofs.PushLists.{span_none, sweep_starts, sweep_more, sweep_on, can_clean}
 
 -- ---- one byte, which a push has touched or not
 
@@ -81,13 +81,13 @@ lane_on old mid new k a f g = record {
   agents = λ q b d. g.agents q b d ∙ f.agents q b d;
 }
 
-lane_effect : (old : CopiesValue) (k : ℕ) (bytes : List ℕ) (new : CopiesValue) → slice_index old.lane_agents k < length old.agents → AllPushed old (map (push_of holders.Lanes k) bytes) new → LaneEffect old k (slice_index old.lane_agents k) new
+lane_effect : (old : CopiesValue) (k : ℕ) (bytes : List ℕ) (new : CopiesValue) → slice_index old.lane_agents k < length old.agents → AllPushed old (map (push_of Lanes k) bytes) new → LaneEffect old k (slice_index old.lane_agents k) new
 lane_effect old k [] new there is = subst (LaneEffect old k (slice_index old.lane_agents k)) (sym is) (lane_none old k (slice_index old.lane_agents k))
 lane_effect old k (b ∷ bytes) new there (mid, ((l, m), (value, copy, is)), rest) =
     let a = slice_index old.lane_agents k in
     let next = lane_pushed old k b value in
     let count = length-set old.agents a (finite.insert (held old.agents a) b (a_copy value true)) in
-    lane_on old next new k a (lane_one old k b value l there copy) (lane_effect next k bytes new (omega (arith, count)) (subst (λ c. AllPushed c (map (push_of holders.Lanes k) bytes) new) is rest))
+    lane_on old next new k a (lane_one old k b value l there copy) (lane_effect next k bytes new (omega (arith, count)) (subst (λ c. AllPushed c (map (push_of Lanes k) bytes) new) is rest))
 
 -- ---- the pushes of one agent's bytes
 
@@ -121,11 +121,11 @@ agent_on old mid new a f g = record {
   agents = λ q b d. g.agents q b d ∙ f.agents q b d;
 }
 
-agent_effect : (old : CopiesValue) (a : ℕ) (bytes : List ℕ) (new : CopiesValue) → AllPushed old (map (push_of holders.Agents a) bytes) new → AgentEffect old a new
+agent_effect : (old : CopiesValue) (a : ℕ) (bytes : List ℕ) (new : CopiesValue) → AllPushed old (map (push_of Agents a) bytes) new → AgentEffect old a new
 agent_effect old a [] new is = subst (AgentEffect old a) (sym is) (agent_none old a)
 agent_effect old a (b ∷ bytes) new (mid, ((l, m), (value, copy, is)), rest) =
     let next = agent_pushed old a b value in
-    agent_on old next new a (agent_one old a b value l m copy) (agent_effect next a bytes new (subst (λ c. AllPushed c (map (push_of holders.Agents a) bytes) new) is rest))
+    agent_on old next new a (agent_one old a b value l m copy) (agent_effect next a bytes new (subst (λ c. AllPushed c (map (push_of Agents a) bytes) new) is rest))
 
 -- ---- values that give the same are one
 
@@ -174,7 +174,7 @@ agents_one old a c d f g = same_value c d
 
 record LanesSwept (old : CopiesValue) (start stop a : ℕ) : Type 0 where
   pub new : CopiesValue
-  pub swept : Swept holders.Lanes old start stop new
+  pub swept : Swept Lanes old start stop new
   pub released : LanesReleased old start stop a new
 
 lanes_none : (old : CopiesValue) (start a : ℕ) → Within old → LanesSwept old start start a
@@ -182,7 +182,7 @@ lanes_none old start a within =
     let z : start - start ≡ 0 = omega arith in
     record {
       new = old;
-      swept = sweep_starts holders.Lanes old start within;
+      swept = sweep_starts Lanes old start within;
       released = record {
         memory = refl;
         lane_agents = refl;
@@ -201,15 +201,15 @@ lanes_more old start stop a low high there on s =
     let r = s.released in
     let within = s.swept.kept.within in
     let here : slice_index mid.lane_agents stop ≡ a = ap (λ t. slice_index t stop) r.lane_agents ∙ on in
-    let (new, clean', none) = can_clean holders.Lanes mid stop (omega (arith, r.lane_count)) within in
-    let e = subst (λ k. LaneEffect mid stop k new) here (lane_effect mid stop (dirty_of holders.Lanes mid stop) new (omega (arith, here, r.agent_count)) clean'.run) in
+    let (new, clean', none) = can_clean Lanes mid stop (omega (arith, r.lane_count)) within in
+    let e = subst (λ k. LaneEffect mid stop k new) here (lane_effect mid stop (dirty_of Lanes mid stop) new (omega (arith, here, r.agent_count)) clean'.run) in
     let counts = clean'.kept.counts in
     let same : (b : ℕ) → copies_of mid.lanes stop b ≡ copies_of old.lanes stop b = λ b. r.outside stop b (inr (omega arith)) in
     let z : (stop + 1) - start ≡ suc (stop - start) = omega arith in
     let at : start + (stop - start) ≡ stop = omega arith in
     record {
       new = new;
-      swept = sweep_more holders.Lanes old start stop mid new low s.swept clean';
+      swept = sweep_more Lanes old start stop mid new low s.swept clean';
       released = record {
         memory = e.memory ∙ r.memory;
         lane_agents = e.lane_agents ∙ r.lane_agents;
@@ -237,16 +237,16 @@ lanes_all old start (suc n) a within high there on =
     let e : (start + n) + 1 ≡ start + suc n = omega arith in
     subst (λ k. LanesSwept old start k a) e (lanes_more old start (start + n) a (omega arith) (omega arith) there (on (start + n) (omega arith) (omega arith)) (lanes_all old start n a within (omega arith) there (λ l x y. on l x (omega arith))))
 
-pub lanes_swept : (old : CopiesValue) (start stop a : ℕ) (new : CopiesValue) → Within old → start ≤ stop → stop ≤ length old.lanes → a < length old.agents → ((l : ℕ) → start ≤ l → l < stop → slice_index old.lane_agents l ≡ a) → LanesReleased old start stop a new → Swept holders.Lanes old start stop new
+pub lanes_swept : (old : CopiesValue) (start stop a : ℕ) (new : CopiesValue) → Within old → start ≤ stop → stop ≤ length old.lanes → a < length old.agents → ((l : ℕ) → start ≤ l → l < stop → slice_index old.lane_agents l ≡ a) → LanesReleased old start stop a new → Swept Lanes old start stop new
 lanes_swept old start stop a new within low high there on r =
     let e : start + (stop - start) ≡ stop = omega arith in
     let s = subst (λ k. LanesSwept old start k a) e (lanes_all old start (stop - start) a within (omega arith) there (λ l x y. on l x (omega arith))) in
-    subst (Swept holders.Lanes old start stop) (lanes_one old start stop a s.new new s.released r) s.swept
+    subst (Swept Lanes old start stop) (lanes_one old start stop a s.new new s.released r) s.swept
 
-pub agent_swept : (old : CopiesValue) (a : ℕ) (new : CopiesValue) → Within old → a < length old.agents → AgentReleased old a new → Swept holders.Agents old a (a + 1) new
+pub agent_swept : (old : CopiesValue) (a : ℕ) (new : CopiesValue) → Within old → a < length old.agents → AgentReleased old a new → Swept Agents old a (a + 1) new
 agent_swept old a new within there r =
-    let (cur, clean', none) = can_clean holders.Agents old a there within in
-    let e = agent_effect old a (dirty_of holders.Agents old a) cur clean'.run in
+    let (cur, clean', none) = can_clean Agents old a there within in
+    let e = agent_effect old a (dirty_of Agents old a) cur clean'.run in
     let counts = clean'.kept.counts in
     let released : AgentReleased old a cur = record {
       lanes = e.lanes;
@@ -257,4 +257,22 @@ agent_swept old a new within there r =
       agent = λ b. touched_clean (copies_of old.agents a b) (copies_of cur.agents a b) (get_or old.memory b 0) (get_or cur.memory b 0) (λ value. value) (none b) (e.touched b);
       others = e.agents;
     } in
-    subst (Swept holders.Agents old a (a + 1)) (agents_one old a cur new released r) (sweep_more holders.Agents old a a old cur (omega arith) (sweep_starts holders.Agents old a within) clean')
+    subst (Swept Agents old a (a + 1)) (agents_one old a cur new released r) (sweep_more Agents old a a old cur (omega arith) (sweep_starts Agents old a within) clean')
+
+-- ---- the lanes of one queue behind those of others, and one agent behind others
+
+pub queue_swept : (old cur : CopiesValue) (lane stop a : ℕ) (new : CopiesValue) → Within old → lane ≤ stop → stop ≤ length old.lanes → a < length old.agents → ((l : ℕ) → lane ≤ l → l < stop → slice_index old.lane_agents l ≡ a) → Swept Lanes old 0 lane cur → LanesReleased cur lane stop a new → Swept Lanes old 0 stop new
+queue_swept old cur lane stop a new within low high there on s r =
+    let counts = s.kept.counts in
+    sweep_on Lanes old 0 lane stop cur new (omega arith) low s
+    (lanes_swept cur lane stop a new s.kept.within low (omega (arith, counts.lanes)) (omega (arith, counts.agents)) (λ l x y. ap (λ t. slice_index t l) counts.lane_agents ∙ on l x y) r)
+
+-- nothing is written back of no lanes
+none_released : (c : CopiesValue) (a : ℕ) (mid : CopiesValue) → Within c → a < length c.agents → LanesReleased c 0 0 a mid → mid ≡ c
+none_released c a mid within there r = subst (λ ks. AllPushed c (pushes_of Lanes c ks) mid) (span_none 0) (lanes_swept c 0 0 a mid within (omega arith) (omega arith) there (λ l x y. absurd (omega arith)) r).run
+
+pub agent_after : (old cur : CopiesValue) (a : ℕ) (new : CopiesValue) → Within old → a < length old.agents → Swept Agents old 0 a cur → (mid : CopiesValue) × LanesReleased cur 0 0 a mid × AgentReleased mid a new → Swept Agents old 0 (a + 1) new
+agent_after old cur a new within there s (mid, none, r) =
+    let counts = s.kept.counts in
+    let released = subst (λ c. AgentReleased c a new) (none_released cur a mid s.kept.within (omega (arith, counts.agents)) none) r in
+    sweep_on Agents old 0 a (a + 1) cur new (omega arith) (omega arith) s (agent_swept cur a new s.kept.within (omega (arith, counts.agents)) released)

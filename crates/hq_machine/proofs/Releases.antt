@@ -17,8 +17,8 @@ use Rattle.hq_model.specs.View.{copies_of}
 use Rattle.hq_model.proofs.Places.{in_first, in_filter, in_numbers}
 use Rattle.hq_model.proofs.Rested.{Each, is_lane_push, is_agent_push, lanes_pushed, agents_pushed, agent_phases, each_lane_push, each_agent_push, dirty_stands, not_dirty, stands_flat, stands_map}
 use Rattle.hq_copies.specs.Copies.{CopiesValue}
-use Rattle.hq_machine.specs.declared.coarse.Holders.TheVariants as holders
 use Rattle.hq_machine.specs.State.{StateValue}
+use Rattle.hq_machine.specs.Pushes.Holders.{Lanes, Agents}
 use Rattle.hq_machine.specs.Pushes.{AllPushed, Within, WrittenBack, IsWorked, LanesOf, AgentsOf, span, pushes_of}
 use Rattle.hq_machine.specs.View.{IsStateOf, DirtyWithin, Applied, Possible, MayFinish, recopied, phased, signalled, state_of}
 use Rattle.hq_machine.proofs.CopyMoves.{moved_push_lane, moved_push_agent}
@@ -124,10 +124,10 @@ carried job v (PushAgent a b ∷ events) c valid k (mid, ((l, m), pushed), rest)
     (is, (state_of job (recopied v mid), moved.step, steps))
 carried job v (event ∷ events) c valid k (mid, none, rest) = absurd none
 
-lane_list : (job : Job) (v : StateValue) (ks : List ℕ) → IsStateOf job v → pushes_of holders.Lanes v.copies ks ≡ lane_pushes job (state_of job v) ks
+lane_list : (job : Job) (v : StateValue) (ks : List ℕ) → IsStateOf job v → pushes_of Lanes v.copies ks ≡ lane_pushes job (state_of job v) ks
 lane_list job v ks k = ap (λ n. flat_map (λ p. map (PushLane p) (filter (λ b. is_dirty (copies_of v.copies.lanes p b)) (numbers n))) ks) k.lengths.memory
 
-agent_list : (job : Job) (v : StateValue) (ks : List ℕ) → IsStateOf job v → pushes_of holders.Agents v.copies ks ≡ agent_pushes job (state_of job v) ks
+agent_list : (job : Job) (v : StateValue) (ks : List ℕ) → IsStateOf job v → pushes_of Agents v.copies ks ≡ agent_pushes job (state_of job v) ks
 agent_list job v ks k = ap (λ n. flat_map (λ a. map (PushAgent a) (filter (λ b. is_dirty (copies_of v.copies.agents a b)) (numbers n))) ks) k.lengths.memory
 
 -- the pushes, as the model has them
@@ -137,9 +137,9 @@ record Written (job : Job) (v : StateValue) (lanes agents : List ℕ) (c : Copie
 
 written : (job : Job) (v : StateValue) (lane lanes agent agents : ℕ) (c : CopiesValue) → Valid job → IsStateOf job v → WrittenBack v.copies lane lanes agent agents c → Written job v (span lane lanes) (span agent agents) c
 written job v lane lanes agent agents c valid k w =
-    let (first, a) = carried job v (pushes_of holders.Lanes v.copies (span lane lanes)) w.mid valid k w.lanes_swept.run in
+    let (first, a) = carried job v (pushes_of Lanes v.copies (span lane lanes)) w.mid valid k w.lanes_swept.run in
     let between = recopied v w.mid in
-    let (last, b) = carried job between (pushes_of holders.Agents w.mid (span agent agents)) c valid first w.agents_swept.run in
+    let (last, b) = carried job between (pushes_of Agents w.mid (span agent agents)) c valid first w.agents_swept.run in
     record {
       is = last;
       pushes = (

@@ -4,8 +4,6 @@ use Rattle.hq_machine.specs.State.{StateValue}
 use Rattle.hq_machine.specs.View.{recopied}
 use Rattle.hq_copies.specs.Copies.{CopiesValue, Released, PushedLane, PushedAgent, IsLaneByte, IsAgentByte}
 use Rattle.hq_job.specs.Access.{AreOfQueue}
-use Rattle.hq_machine.specs.declared.coarse.Holders.{Holders}
-use Rattle.hq_machine.specs.declared.coarse.Holders.TheVariants as holders
 use Rattle.hq_model.specs.Job.{Job, packet, IsPacket, agent_of, reaches}
 use Rattle.hq_model.specs.Journal.{numbers}
 use Rattle.hq_model.specs.Machine as machine
@@ -14,14 +12,18 @@ use Rattle.hq_model.specs.Machine.Event.{PushLane, PushAgent}
 use Rattle.hq_model.specs.View.{Held, copies_of}
 use Rattle.hq_packet.specs.declared.packet.Scope.TheVariants as scope
 
+-- who holds copies
+pub data Holders : Type 0 where
+  Lanes Agents : Holders
+
 -- the maps of these holders, and the push of a byte of one of them
 abbrev pub maps_of : Holders → CopiesValue → List Held
-maps_of holders.Lanes c = c.lanes
-maps_of holders.Agents c = c.agents
+maps_of Lanes c = c.lanes
+maps_of Agents c = c.agents
 
 abbrev pub push_of : Holders → ℕ → ℕ → Event
-push_of holders.Lanes k b = PushLane k b
-push_of holders.Agents k b = PushAgent k b
+push_of Lanes k b = PushLane k b
+push_of Agents k b = PushAgent k b
 
 -- The copies after a push. Other events are none.
 abbrev pub PushedBy : CopiesValue → Event → CopiesValue → Type 0
@@ -78,8 +80,15 @@ pub record Swept (h : Holders) (old : CopiesValue) (start stop : ℕ) (new : Cop
 -- those of lanes, and then those of agents
 pub record WrittenBack (old : CopiesValue) (lane lanes agent agents : ℕ) (new : CopiesValue) : Type 0 where
   pub mid : CopiesValue
-  pub lanes_swept : Swept holders.Lanes old lane lanes mid
-  pub agents_swept : Swept holders.Agents mid agent agents new
+  pub lanes_swept : Swept Lanes old lane lanes mid
+  pub agents_swept : Swept Agents mid agent agents new
+
+-- the copies of a state of the job: a lane for each packet, on its agent
+pub record AreCopiesOf (job : Job) (c : CopiesValue) : Type 0 where
+  pub within : Within c
+  pub lanes : length c.lanes ≡ length job.packets
+  pub agents : length c.agents ≡ job.agents
+  pub lane_agents : (p : ℕ) → IsPacket job p → slice_index c.lane_agents p ≡ agent_of job p
 
 -- p is at its completion, but for its release fence
 pub record IsWorked (job : Job) (state : machine.State) (p : ℕ) : Type 0 where

@@ -1,9 +1,9 @@
 //! Completions with the pushes that they wait for, and the rest.
 
-ghost use Rattle.std.specs.Prelude.{◌≡◌, ◌<◌, ◌≤◌, ◌↔◌, IsTrue, length, MatchOption, IfOk, IfErr, OnOk, OnErr};
-ghost use Rattle.hq_copies.specs.Copies.{IsFirstDirty, NoneDirty, held};
+ghost use Rattle.std.specs.Prelude.{◌≡◌, ◌≤◌, ◌↔◌, IsTrue, length, IfOk, IfErr, OnOk, OnErr};
 ghost use Rattle.hq_job.specs.Plan.{plan};
-ghost use Rattle.hq_machine.specs.Pushes.{maps_of, push_of, PushedBy, Within, Cleaned, Swept, WrittenBack, WroteBack, IsWorked};
+ghost use Rattle.hq_machine.specs.Pushes.{AreCopiesOf, Within, Swept, WrittenBack, WroteBack, IsWorked};
+ghost use Rattle.hq_machine.specs.Pushes.Holders.{Lanes, Agents};
 ghost use Rattle.hq_machine.specs.View.{IsStateOf, Applied, NotApplied, recopied, state_of};
 ghost use Rattle.hq_model.specs.Job.{IsPacket};
 ghost use Rattle.hq_model.specs.Journal.Coarse.{Complete, Rest};
@@ -14,105 +14,48 @@ use crate::phase::Phase;
 use crate::state::State;
 use hq_copies::{Copies, CopiesFault};
 use hq_job::Job;
+use hq_packet::Scope;
 use std::ops::Range;
 
-/// Who holds copies.
-#[derive(Clone, Copy)]
-enum Holders {
-    Lanes,
-    Agents,
-}
-
-/// The first dirty byte of one holder.
-fn first_dirty(copies: &Copies, holders: Holders, number: usize) -> Option<u32>
-    requires { number < length (maps_of holders copies.now) }
-    ensures { MatchOption result (NoneDirty (held (maps_of holders copies.now) number)) (λ b. IsFirstDirty (held (maps_of holders copies.now) number) b) }
-{
-    match holders {
-        Holders::Lanes => copies.first_dirty_lane(number),
-        Holders::Agents => copies.first_dirty_agent(number),
-    }
-}
-
-/// Writes a holder's dirty byte back.
-fn push(copies: &mut Copies, holders: Holders, number: usize, byte: u32) -> Result<(), CopiesFault>
-    requires number { number < length (maps_of holders copies.old) }
-    requires within { Within copies.old }
-    requires dirty { IsFirstDirty (held (maps_of holders copies.old) number) byte }
-    ensures ok { OnOk result (PushedBy copies.old (push_of holders number byte) copies.new) }
+/// Writes all dirty bytes of all lanes back, queue by queue.
+fn push_lanes(job: &Job, copies: &mut Copies) -> Result<(), CopiesFault>
+    requires { AreCopiesOf (plan job.now) copies.old }
+    ensures ok { OnOk result (Swept Lanes copies.old 0 (length (plan job.now).packets) copies.new) }
     ensures memory { IfErr result (λ e. e ≡ CopiesFault.Memory) }
 {
-    match holders {
-        Holders::Lanes => copies.push_lane(number, byte as usize),
-        Holders::Agents => copies.push_agent(number, byte as usize),
-    }
-}
-
-/// Writes all dirty bytes of one holder back.
-#[tactic(auto, using(crate::proofs::PushedBytes::cleaning_starts, crate::proofs::PushedBytes::cleaning_pushes, crate::proofs::PushedBytes::fewer, crate::proofs::PushedBytes::maps_count))]
-fn push_bytes(copies: &mut Copies, holders: Holders, number: usize) -> Result<(), CopiesFault>
-    requires number { number < length (maps_of holders copies.old) }
-    requires within { Within copies.old }
-    ensures ok { OnOk result (Cleaned holders copies.old number copies.new) }
-    ensures memory { IfErr result (λ e. e ≡ CopiesFault.Memory) }
-{
-    'bytes: while let Some(byte) = first_dirty(copies, holders, number) {
-        push(copies, holders, number, byte)?;
+    let mut lane = 0;
+    'queues: while lane < job.packets().len() {
+        let end = queue_of(job, lane).end;
+        copies.release(lane..end, agent_of(job, lane), Scope::Agent)?;
+        lane = end;
     }
     Ok(())
 }
 
-/// Writes all dirty bytes of the holders of these numbers back, one holder after another.
-#[tactic(auto, using(crate::proofs::PushLists::sweep_starts, crate::proofs::PushLists::sweep_more, crate::proofs::PushedBytes::maps_count))]
-fn push_each(
-    copies: &mut Copies,
-    holders: Holders,
-    numbers: Range<usize>,
-) -> Result<(), CopiesFault>
-    requires rising { numbers.start ≤ numbers.end }
-    requires numbers { numbers.end ≤ length (maps_of holders copies.old) }
+/// Writes all dirty bytes of so many agents back, one agent after another.
+fn push_agents(copies: &mut Copies, agents: usize) -> Result<(), CopiesFault>
+    requires agents { agents ≤ length copies.old.agents }
     requires within { Within copies.old }
-    ensures ok { OnOk result (Swept holders copies.old numbers.start numbers.end copies.new) }
+    ensures ok { OnOk result (Swept Agents copies.old 0 agents copies.new) }
     ensures memory { IfErr result (λ e. e ≡ CopiesFault.Memory) }
 {
-    for number in numbers.start..numbers.end {
-        push_bytes(copies, holders, number)?;
+    for agent in 0..agents {
+        copies.release(0..0, agent, Scope::System)?;
     }
-    Ok(())
-}
-
-/// Writes all dirty bytes of these lanes back, and then those of these agents.
-fn write_back(
-    copies: &mut Copies,
-    lanes: Range<usize>,
-    agents: Range<usize>,
-) -> Result<(), CopiesFault>
-    requires lanes_rising { lanes.start ≤ lanes.end }
-    requires lanes_end { lanes.end ≤ length copies.old.lanes }
-    requires agents_rising { agents.start ≤ agents.end }
-    requires agents_end { agents.end ≤ length copies.old.agents }
-    requires within { Within copies.old }
-    ensures ok { OnOk result (WrittenBack copies.old lanes.start lanes.end agents.start agents.end copies.new) }
-    ensures memory { IfErr result (λ e. e ≡ CopiesFault.Memory) }
-{
-    push_each(copies, Holders::Lanes, lanes)?;
-    push_each(copies, Holders::Agents, agents)?;
     Ok(())
 }
 
 impl State {
-    /// Copies of which all dirty bytes of these lanes, and then of these agents, are written back.
-    fn written_back(&self, lanes: Range<usize>, agents: Range<usize>) -> Result<Copies, CopiesFault>
-        requires lanes_rising { lanes.start ≤ lanes.end }
-        requires lanes_end { lanes.end ≤ length self.now.copies.lanes }
-        requires agents_rising { agents.start ≤ agents.end }
-        requires agents_end { agents.end ≤ length self.now.copies.agents }
-        requires within { Within self.now.copies }
-        ensures ok { IfOk result (λ c. WrittenBack self.now.copies lanes.start lanes.end agents.start agents.end c) }
+    /// Copies of which all dirty bytes of all lanes, and then of all agents, are written back.
+    fn written_back(&self, job: &Job) -> Result<Copies, CopiesFault>
+        requires { IsStateOf (plan job.now) self.now }
+        ensures ok { IfOk result (λ c. WrittenBack self.now.copies 0 (length (plan job.now).packets) 0 (plan job.now).agents c) }
         ensures memory { IfErr result (λ e. e ≡ CopiesFault.Memory) }
     {
+        job.valid();
         let mut copies = self.copies.copy(self.alloc)?;
-        write_back(&mut copies, lanes, agents)?;
+        push_lanes(job, &mut copies)?;
+        push_agents(&mut copies, job.agents())?;
         Ok(copies)
     }
 
@@ -188,7 +131,7 @@ impl State {
         ensures fault { IfErr result (λ f. NotApplied (plan job.now) self.old Rest f) }
     {
         job.valid();
-        match self.written_back(0..job.packets().len(), 0..job.agents()) {
+        match self.written_back(job) {
             Ok(copies) => {
                 self.set_copies(copies);
                 Ok(())

@@ -52,6 +52,9 @@ impl State {
         ensures { MatchOption result ((p : ℕ) → MaySubmit (plan job.now) (state_of (plan job.now) self.now) p → ⊥) (λ p. MaySubmit (plan job.now) (state_of (plan job.now) self.now) p) }
     {
         job.valid();
+        if !job.rings() {
+            return None;
+        }
         let number = self.first_waiting(job)?;
         if !self.has_slot(job, number) {
             return None;

@@ -1,6 +1,7 @@
 -- What every packet has, whichever its format.
 use Rattle.std.specs.Prelude.{ℕ}
 use Rattle.hq_packet.specs.declared.packet.Head.{Head}
+use Rattle.hq_packet.specs.declared.packet.Kernel.{Kernel}
 use Rattle.hq_packet.specs.declared.packet.Packet.{Packet}
 use Rattle.hq_packet.specs.declared.packet.Packet.TheVariants as packet
 
@@ -9,6 +10,16 @@ head_of (packet.Kernel k) = k.head
 head_of (packet.Agent a) = a.head
 head_of (packet.And b) = b.head
 head_of (packet.Or b) = b.head
+
+-- the packet with this head, and all else as it was
+abbrev pub kernel_with_head : Kernel → Head → Kernel
+kernel_with_head k head = record k { head = head }
+
+abbrev pub with_head : Packet → Head → Packet
+with_head (packet.Kernel k) head = packet.Kernel (kernel_with_head k head)
+with_head (packet.Agent a) head = packet.Agent (record a { head = head })
+with_head (packet.And b) head = packet.And (record b { head = head })
+with_head (packet.Or b) head = packet.Or (record b { head = head })
 
 -- the handle of the completion signal, 0 for none
 abbrev pub completion_of : Packet → ℕ

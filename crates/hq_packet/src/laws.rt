@@ -1,7 +1,7 @@
 //! What holds between packets and their spellings.
 
 ghost use Rattle.std.specs.Prelude.{◌≡◌, Ok, Some, IfOk, IfErr};
-ghost use Rattle.hq_packet.specs.Laws.{OneSpelling, OnePacket, FaultlessWhereSpelled};
+ghost use Rattle.hq_packet.specs.Laws.{OneSpelling, OnePacket, FaultlessWhereSpelled, HeadStandsSecond, OneHead, AnotherHead};
 ghost use Rattle.hq_packet.specs.Faults.{first_fault};
 
 use crate::decoding::decode;
@@ -23,6 +23,21 @@ pub fn one_packet()
 /// Bytes that spell a packet have no fault.
 pub fn faultless_where_spelled()
     ensures { FaultlessWhereSpelled }
+{}
+
+/// In bytes that spell a packet the byte of its head stands second.
+pub fn head_stands_second()
+    ensures { HeadStandsSecond }
+{}
+
+/// A byte is that of one head.
+pub fn one_head()
+    ensures { OneHead }
+{}
+
+/// Where bytes spell a packet, with the byte of another head they spell the packet with that head.
+pub fn another_head()
+    ensures { AnotherHead }
 {}
 
 /// A packet that was encoded is decoded as itself.

@@ -1,6 +1,7 @@
 -- From what was compared to what a run leaves.
 use Rattle.std.proofs.Common.{◌≡◌, ℕ, zero, suc, ◌<◌, List, [], ◌∷◌, length, map, refl, sym, ◌∙◌, ap, ap₂, subst, arith, All, IsTrue, None, Result, Ok, Err, IfOk, OnOk}
 use Rattle.std.specs.Prelude.{slice_index, slice_index_or}
+use Rattle.std.proofs.lemmas.List.{length-map}
 use Rattle.std.specs.declared.dyn_box.DynBox.{DynBox}
 use Rattle.std.specs.declared.alloc.Global.{Global}
 use Rattle.hq_hall.specs.Histories.{RunSoFar}
@@ -22,10 +23,11 @@ use Rattle.hq_model.specs.Theorems.{Valid}
 use Rattle.hq_model.proofs.Rested.{rest_ends}
 use Rattle.hq_runner.specs.declared.host.Hosted.{Hosted}
 use Rattle.hq_runner.specs.declared.queue.Ended.{Ended}
-use Rattle.hq_runner.specs.Ended.{AllDone}
+use Rattle.hq_runner.specs.Ended.{AllDone, Done}
 use Rattle.hq_runner.specs.Hosted.{HostDone}
 use Rattle.hq_runner.specs.Journals.{ArePrograms, IsOneByOne, IsWhole, host_events, is_asked}
 use Rattle.hq_runner.specs.Kits.{AllRan, tasks_of}
+use Rattle.hq_runner.specs.Spread.{Gives}
 use Rattle.hq_runner.specs.Outcomes.{AreReceipts, KitsRan, ListsDone, NoFault, kits_in}
 
 -- a list has an entry in each of its places
@@ -145,7 +147,34 @@ pub outcome_ran : {X : Type 0} {Y : X → Type 0} {V : Type 0} {W : V → Type 0
 outcome_ran kernel service job kits all kits_of (Ok o) done is none = kits_ran kernel service job kits all (kits_of o) done none is
 outcome_ran kernel service job kits all kits_of (Err e) done is none = tt
 
--- What processors did for a job they did for one that is the same.
-pub done_for : {X : Type 0} {Y : X → Type 0} {V : Type 0} {W : V → Type 0} (kernel : DynBox X Global Y → BodyValue) (service : DynBox V Global W → BodyValue)
-    (one job : JobValue) (kits : List (Kit X V Y W)) (all : List (Ended X V Y W)) → one ≡ job → AllDone kernel service (plan one) kits all → AllDone kernel service (plan job) kits all
-done_for kernel service one job kits all same done = subst (λ j. AllDone kernel service (plan j) kits all) same done
+-- ---- places
+
+at_made : {A B : Type 0} (f : A → B) (xs : List A) (i : ℕ) (x : A) (d : B) → i < length xs → x ≡ slice_index_or xs i x → slice_index_or (map f xs) i d ≡ f x
+at_made f [] i x d l at = absurd (omega arith)
+at_made f (y ∷ ys) zero x d l at = ap f (sym at)
+at_made f (y ∷ ys) (suc i) x d l at = at_made f ys i x d (omega arith) at
+
+-- Processors that ended so in their places ended so with the kits of these.
+pub placed : {X : Type 0} {Y : X → Type 0} {V : Type 0} {W : V → Type 0} {P : Type 0} (kit_of : P → Kit X V Y W) (kernel : DynBox X Global Y → BodyValue) (service : DynBox V Global W → BodyValue)
+    (job : Job) (places : List P) (all : List (Ended X V Y W)) → Gives (λ q place ended. Done kernel service job q (kit_of place) ended) places all → AllDone kernel service job (map kit_of places) all
+placed kit_of kernel service job places all gives = record {
+  count = gives.count ∙ sym (length-map places kit_of);
+  each = λ q kit ended low kit_at at.
+      let there : q < length places = omega (arith, length-map places kit_of) in
+      let (place, place_at) = at_some places q there in
+      subst (λ k. Done kernel service job q k ended) (sym (kit_at ∙ at_made kit_of places q place kit there place_at)) (gives.each q place ended there place_at at);
+}
+
+-- the same of an answer
+pub answer_placed : {X : Type 0} {Y : X → Type 0} {V : Type 0} {W : V → Type 0} {P R E : Type 0} (kit_of : P → Kit X V Y W) (kernel : DynBox X Global Y → BodyValue) (service : DynBox V Global W → BodyValue)
+    (job : Job) (places : List P) (all : R → List (Ended X V Y W)) (result : Result R E) → IfOk result (λ r. Gives (λ q place ended. Done kernel service job q (kit_of place) ended) places (all r))
+    → IfOk result (λ r. AllDone kernel service job (map kit_of places) (all r))
+answer_placed kit_of kernel service job places all (Ok r) gives = placed kit_of kernel service job places (all r) gives
+answer_placed kit_of kernel service job places all (Err e) gives = tt
+
+-- What they did with kits they did with the same kits, for the same job.
+pub of_same : {X : Type 0} {Y : X → Type 0} {V : Type 0} {W : V → Type 0} {R E : Type 0} (kernel : DynBox X Global Y → BodyValue) (service : DynBox V Global W → BodyValue)
+    (one job : JobValue) (made kits : List (Kit X V Y W)) (all : R → List (Ended X V Y W)) (result : Result R E) → one ≡ job → made ≡ kits
+    → IfOk result (λ r. AllDone kernel service (plan one) made (all r)) → IfOk result (λ r. AllDone kernel service (plan job) kits (all r))
+of_same kernel service one job made kits all (Ok r) same is done = subst (λ j. AllDone kernel service (plan j) kits (all r)) same (subst (λ ks. AllDone kernel service (plan one) ks (all r)) is done)
+of_same kernel service one job made kits all (Err e) same is done = tt

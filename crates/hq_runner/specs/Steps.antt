@@ -1,8 +1,8 @@
 -- What each step is as an event.
 use Rattle.hq_machine.specs.declared.event.Event.{Event}
 use Rattle.hq_machine.specs.declared.event.Event.TheVariants as event
-use Rattle.hq_runner.specs.declared.floor.Step.{Step}
-use Rattle.hq_runner.specs.declared.floor.Step.TheVariants as step
+use Rattle.hq_runner.specs.declared.step.Step.{Step}
+use Rattle.hq_runner.specs.declared.step.Step.TheVariants as step
 
 -- the event of a step
 abbrev pub event_of : Step → Event

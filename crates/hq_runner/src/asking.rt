@@ -8,31 +8,19 @@ ghost use Rattle.hq_runner.specs.Pieces.{AreFor, IsWorked};
 ghost use Rattle.hq_runner.specs.Steps.{event_of};
 
 use crate::fault::Fault;
-use crate::floor::{Floor, Step, hand_back, wait_for, wait_for_one, wait_to_fetch};
+use crate::seated::Seated;
+use crate::shared::Shared;
+use crate::step::{Step, event_of};
 use hq_footprint::Work;
 use hq_ledger::Piece;
 use hq_machine::Event;
-use std::sync::{Condvar, Mutex, Wait};
+use std::sync::Wait;
 
-fn event_of(step: Step) -> Event
-    ensures { result ≡ event_of step }
-{
-    match step {
-        Step::Submit => Event::Submit,
-        Step::Launch(queue) => Event::Launch {
-            queue: queue as u32,
-        },
-        Step::Observe(packet, slot) => Event::Observe {
-            packet: packet as u32,
-            slot: slot as u32,
-        },
-        Step::Enter(packet) => Event::Enter {
-            packet: packet as u32,
-        },
-        Step::Complete(packet) => Event::Complete {
-            packet: packet as u32,
-        },
-    }
+/// From where a processor asks: its seat at the board, where it has one, and the list of the events that were answered to it.
+#[derive(Drop)]
+pub struct Desk<'b> {
+    pub seated: Option<Seated<'b>>,
+    pub events: Vec<Event>,
 }
 
 /// Makes room for one event more, so that none that was answered is left out.
@@ -55,78 +43,99 @@ fn note(list: &mut Vec<Event>, event: Event) -> Result<(), Fault>
     }
 }
 
-/// Makes the step happen once it is enabled, and notes its event.
-pub fn ask<R: Wait>(
+/// Makes the step happen once it is enabled: at the board by a seat, else in the hall alone.
+fn make<R: Wait>(
     rt: &R,
-    floor: &Mutex<Floor>,
-    bell: &Condvar,
+    shared: &Shared,
+    seated: &mut Option<Seated>,
     step: Step,
-    list: &mut Vec<Event>,
-) -> Result<(), Fault>
-    ensures { OnOk result (list.new.items ≡ list.old.items ++ event_of step ∷ []) }
+) -> Result<(), Fault> {
+    match seated {
+        Some(seated) => seated.make(rt, shared, step),
+        None => shared.wait_for(rt, step),
+    }
+}
+
+/// Observes the first slot that is found at 0, once there is one, and answers which.
+fn make_one<R: Wait>(
+    rt: &R,
+    shared: &Shared,
+    seated: &mut Option<Seated>,
+    packet: u16,
+    slots: &[Option<u16>],
+) -> Result<u16, Fault>
+    requires { length slots.now < 65536 }
+    ensures { IfOk result (λ slot. (s : ℕ) × (slice_get slots.now slot ≡ Some (Some s))) }
 {
-    make_room(list)?;
-    wait_for(rt, floor, bell, step)?;
-    note(list, event_of(step))
+    match seated {
+        Some(seated) => seated.make_one(rt, shared, packet, slots),
+        None => shared.wait_for_one(rt, packet, slots),
+    }
+}
+
+/// Makes the step happen once it is enabled, and notes its event.
+pub fn ask<R: Wait>(rt: &R, shared: &Shared, desk: &mut Desk, step: Step) -> Result<(), Fault>
+    ensures { OnOk result (desk.new.events.items ≡ desk.old.events.items ++ event_of step ∷ []) }
+{
+    make_room(&mut desk.events)?;
+    make(rt, shared, &mut desk.seated, step)?;
+    note(&mut desk.events, event_of(step))
 }
 
 /// Observes one slot, once one is found at 0, and notes it.
 pub fn ask_one<R: Wait>(
     rt: &R,
-    floor: &Mutex<Floor>,
-    bell: &Condvar,
+    shared: &Shared,
+    desk: &mut Desk,
     packet: u16,
     slots: &[Option<u16>],
-    list: &mut Vec<Event>,
 ) -> Result<u16, Fault>
     requires { length slots.now < 65536 }
     ensures slot { IfOk result (λ slot. (s : ℕ) × (slice_get slots.now slot ≡ Some (Some s))) }
-    ensures list { IfOk result (λ slot. list.new.items ≡ list.old.items ++ event.Observe packet slot ∷ []) }
+    ensures list { IfOk result (λ slot. desk.new.events.items ≡ desk.old.events.items ++ event.Observe packet slot ∷ []) }
 {
-    make_room(list)?;
-    let slot = wait_for_one(rt, floor, bell, packet, slots)?;
-    note(list, event_of(Step::Observe(packet, slot)))?;
+    make_room(&mut desk.events)?;
+    let slot = make_one(rt, shared, &mut desk.seated, packet, slots)?;
+    note(&mut desk.events, event_of(Step::Observe(packet, slot)))?;
     Ok(slot)
 }
 
 /// Observes all slots that aren't null, in their order, and notes it.
 pub fn ask_all<R: Wait>(
     rt: &R,
-    floor: &Mutex<Floor>,
-    bell: &Condvar,
+    shared: &Shared,
+    desk: &mut Desk,
     packet: u16,
     slots: &[Option<u16>],
-    list: &mut Vec<Event>,
 ) -> Result<(), Fault>
     requires { length slots.now < 65536 }
-    ensures { OnOk result (map coarse_of list.new.items ≡ map coarse_of list.old.items ++ observations packet 0 slots.now) }
+    ensures { OnOk result (map coarse_of desk.new.events.items ≡ map coarse_of desk.old.events.items ++ observations packet 0 slots.now) }
 {
     let mut slot = 0u16;
     while (slot as usize) < slots.len() {
         if slots[slot as usize].is_some() {
-            ask(rt, floor, bell, Step::Observe(packet, slot), list)?;
+            ask(rt, shared, desk, Step::Observe(packet, slot))?;
         }
         slot += 1;
     }
     Ok(())
 }
 
-/// Fetches the packet once that is enabled, and notes it.
+/// Fetches the packet, and notes it.
 pub fn ask_fetch<R: Wait>(
     rt: &R,
-    floor: &Mutex<Floor>,
-    bell: &Condvar,
+    shared: &Shared,
+    desk: &mut Desk,
     packet: u16,
     work: Work,
-    list: &mut Vec<Event>,
 ) -> Result<Vec<Piece>, Fault>
     ensures pieces { IfOk result (λ pieces. AreFor work pieces.items) }
-    ensures list { OnOk result (list.new.items ≡ list.old.items ++ event.Fetch packet ∷ []) }
+    ensures list { OnOk result (desk.new.events.items ≡ desk.old.events.items ++ event.Fetch packet ∷ []) }
 {
-    make_room(list)?;
-    let pieces = wait_to_fetch(rt, floor, bell, packet, work)?;
+    make_room(&mut desk.events)?;
+    let pieces = shared.fetch(rt, packet, work)?;
     note(
-        list,
+        &mut desk.events,
         Event::Fetch {
             packet: packet as u32,
         },
@@ -137,19 +146,19 @@ pub fn ask_fetch<R: Wait>(
 /// Delivers the packet from the pieces that its body gave back, and notes it.
 pub fn ask_deliver<R: Wait>(
     rt: &R,
-    floor: &Mutex<Floor>,
+    shared: &Shared,
+    desk: &mut Desk,
     packet: u16,
     work: Work,
     pieces: Vec<Piece>,
-    list: &mut Vec<Event>,
 ) -> Result<(), Fault>
     requires { IsWorked work pieces.items }
-    ensures { OnOk result (list.new.items ≡ list.old.items ++ event.Deliver packet ∷ []) }
+    ensures { OnOk result (desk.new.events.items ≡ desk.old.events.items ++ event.Deliver packet ∷ []) }
 {
-    make_room(list)?;
-    hand_back(rt, floor, packet, work, pieces)?;
+    make_room(&mut desk.events)?;
+    shared.hand_back(rt, packet, work, pieces)?;
     note(
-        list,
+        &mut desk.events,
         Event::Deliver {
             packet: packet as u32,
         },

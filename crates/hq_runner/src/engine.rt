@@ -7,15 +7,15 @@ ghost use Rattle.hq_runner.specs.Journals.{IsOneByOne, IsWhole};
 ghost use Rattle.hq_runner.specs.Outcomes.{IsCounted, KitsRan};
 
 use crate::finish::finish;
-use crate::floor::Floor;
 use crate::gate::Gate;
 use crate::outcome::{Outcome, RunFault};
+use crate::shared::Shared;
 use crate::threads::run_all;
 use hq_certcheck::Accepted;
 use hq_hall::Hall;
 use hq_kernels::Kit;
 use std::alloc::Global;
-use std::sync::{Condvar, Mutex, Wait};
+use std::sync::Wait;
 use std::thread::Threads;
 
 /// Runs the accepted job with these kits, one thread for each queue, and where queues are rings one more for the host.
@@ -27,7 +27,8 @@ use std::thread::Threads;
 /// # Errors
 ///
 /// `Memory`; `Kernel` where a body refused a piece, faulted, or gave other pieces back: the others are stopped, and all pieces that
-/// came home by being dropped are counted; `Receipts` and `Unfinished` where what the processors say they did isn't what was done.
+/// came home by being dropped are counted; `Split` where the board, by whose words the processors wait, tells another run than the
+/// hall; `Receipts` and `Unfinished` where what the processors say they did isn't what was done.
 #[tactic(auto, using(crate::proofs::Endings::lists_done, crate::proofs::Endings::kits_ran))]
 pub fn run<R: Threads + Wait + Sync, G: Gate>(
     rt: &R,
@@ -45,14 +46,9 @@ pub fn run<R: Threads + Wait + Sync, G: Gate>(
     let Ok(hall) = Hall::open(alloc, accepted) else {
         return Err(RunFault::Memory);
     };
-    let bell = Condvar::new();
-    let floor = Mutex::new(Floor {
-        hall,
-        failed: false,
-    });
-    let Ok((host, all)) = run_all(rt, alloc, accepted.job(), &floor, &bell, gate, kits) else {
+    let shared = Shared::new(hall);
+    let Ok((host, all)) = run_all(rt, alloc, accepted, &shared, gate, kits) else {
         return Err(RunFault::Memory);
     };
-    let Floor { hall, failed: _ } = floor.into_inner();
-    finish(alloc, accepted, hall, host, all)
+    finish(alloc, accepted, shared.into_hall(), host, all)
 }

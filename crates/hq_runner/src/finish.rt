@@ -21,14 +21,22 @@ use hq_kernels::Kit;
 use hq_machine::Event;
 use std::alloc::{AllocError, Global};
 
-/// The one that is told of two faults: want of memory, then the least packet's.
+/// In which place a fault is told among others: want of memory, then bodies by their packets, then that board and hall differ.
+fn rank(fault: Fault) -> u32 {
+    match fault {
+        Fault::Memory => 0,
+        Fault::Kernel(packet) => 1 + packet as u32,
+        Fault::Split => 65_537,
+        Fault::Stopped => 65_538,
+    }
+}
+
+/// The one of two faults that is told.
 fn worse(first: Fault, second: Fault) -> Fault {
-    match (first, second) {
-        (Fault::Memory, _) => Fault::Memory,
-        (_, Fault::Memory) => Fault::Memory,
-        (Fault::Kernel(p), Fault::Kernel(q)) => Fault::Kernel(if p < q { p } else { q }),
-        (Fault::Stopped, other) => other,
-        (other, Fault::Stopped) => other,
+    if rank(second) < rank(first) {
+        second
+    } else {
+        first
     }
 }
 
@@ -168,6 +176,7 @@ pub fn finish(
         return Err(match fault {
             Fault::Memory => RunFault::Memory,
             Fault::Kernel(packet) => kernel_fault(job, hall, packet),
+            Fault::Split => RunFault::Split,
             Fault::Stopped => RunFault::Unfinished,
         });
     }

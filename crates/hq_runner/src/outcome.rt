@@ -33,6 +33,8 @@ pub enum RunFault {
         lost: u8,
         found: Vec<Home>,
     },
+    /// The board and the hall, which are asked for each event of a queue, don't tell the same run.
+    Split,
     /// The list of this queue's processor isn't what the journal has of the queue. The number of queues stands for the host.
     Receipts(u16),
     /// The run stopped before all was done.

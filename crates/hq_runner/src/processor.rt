@@ -12,18 +12,18 @@ ghost use Rattle.hq_runner.specs.Kits.{AllRan, tasks_of};
 ghost use Rattle.hq_runner.specs.Lists.{ByOne, Did, work_events};
 ghost use Rattle.hq_runner.specs.Pieces.{AreFor, IsWorked};
 
-use crate::asking::{ask, ask_all, ask_deliver, ask_fetch, ask_one};
+use crate::asking::{Desk, ask, ask_all, ask_deliver, ask_fetch, ask_one};
 use crate::fault::Fault;
-use crate::floor::{Floor, Step};
 use crate::gate::Gate;
 use crate::same::same_task;
+use crate::shared::Shared;
+use crate::step::Step;
 use hq_footprint::Work;
 use hq_job::{Job, Placed};
 use hq_kernels::Body;
 use hq_ledger::Piece;
-use hq_machine::Event;
 use hq_packet::Packet;
-use std::sync::{Condvar, Mutex, Wait};
+use std::sync::Wait;
 
 /// Runs the packet's body with its pieces.
 #[tactic(auto, using(crate::proofs::Working::worked))]
@@ -50,26 +50,25 @@ fn run_body(
 /// Takes a kernel or agent packet through its events.
 pub fn do_work<R: Wait, G: Gate>(
     rt: &R,
-    floor: &Mutex<Floor>,
-    bell: &Condvar,
+    shared: &Shared,
     gate: &G,
     packet: u16,
     placed: &Placed,
     body: &mut Body,
-    list: &mut Vec<Event>,
+    desk: &mut Desk,
 ) -> Result<(), Fault>
-    ensures list { OnOk result (list.new.items ≡ list.old.items ++ work_events placed.now.queue packet) }
+    ensures list { OnOk result (desk.new.events.items ≡ desk.old.events.items ++ work_events placed.now.queue packet) }
     ensures task { (value_of (λ b. kernel (b.vtable, b.value)) (λ b. service (b.vtable, b.value)) body.new).task ≡ (value_of (λ b. kernel (b.vtable, b.value)) (λ b. service (b.vtable, b.value)) body.old).task }
     ensures ran { OnOk result ((value_of (λ b. kernel (b.vtable, b.value)) (λ b. service (b.vtable, b.value)) body.new).ran ≡ true) }
 {
     let work = placed.work;
-    ask(rt, floor, bell, Step::Launch(placed.queue), list)?;
-    ask(rt, floor, bell, Step::Enter(packet), list)?;
+    ask(rt, shared, desk, Step::Launch(placed.queue))?;
+    ask(rt, shared, desk, Step::Enter(packet))?;
     gate.hold(packet);
-    let pieces = ask_fetch(rt, floor, bell, packet, work, list)?;
+    let pieces = ask_fetch(rt, shared, desk, packet, work)?;
     let pieces = run_body(packet, work, body, pieces)?;
-    ask_deliver(rt, floor, packet, work, pieces, list)?;
-    ask(rt, floor, bell, Step::Complete(packet), list)?;
+    ask_deliver(rt, shared, desk, packet, work, pieces)?;
+    ask(rt, shared, desk, Step::Complete(packet))?;
     gate.passed(packet);
     Ok(())
 }
@@ -77,19 +76,18 @@ pub fn do_work<R: Wait, G: Gate>(
 /// Takes a barrier-AND packet through its events.
 pub fn do_and<R: Wait, G: Gate>(
     rt: &R,
-    floor: &Mutex<Floor>,
-    bell: &Condvar,
+    shared: &Shared,
     gate: &G,
     packet: u16,
     placed: &Placed,
-    list: &mut Vec<Event>,
+    desk: &mut Desk,
 ) -> Result<(), Fault>
-    ensures { OnOk result (map coarse_of list.new.items ≡ map coarse_of list.old.items ++ (One (machine.Event.Launch placed.now.queue) ∷ observations packet 0 placed.now.slots ++ One (machine.Event.Enter packet) ∷ Complete packet ∷ [])) }
+    ensures { OnOk result (map coarse_of desk.new.events.items ≡ map coarse_of desk.old.events.items ++ (One (machine.Event.Launch placed.now.queue) ∷ observations packet 0 placed.now.slots ++ One (machine.Event.Enter packet) ∷ Complete packet ∷ [])) }
 {
-    ask(rt, floor, bell, Step::Launch(placed.queue), list)?;
-    ask_all(rt, floor, bell, packet, &placed.slots, list)?;
-    ask(rt, floor, bell, Step::Enter(packet), list)?;
-    ask(rt, floor, bell, Step::Complete(packet), list)?;
+    ask(rt, shared, desk, Step::Launch(placed.queue))?;
+    ask_all(rt, shared, desk, packet, &placed.slots)?;
+    ask(rt, shared, desk, Step::Enter(packet))?;
+    ask(rt, shared, desk, Step::Complete(packet))?;
     gate.passed(packet);
     Ok(())
 }
@@ -97,19 +95,18 @@ pub fn do_and<R: Wait, G: Gate>(
 /// Takes a barrier-OR packet through its events.
 pub fn do_or<R: Wait, G: Gate>(
     rt: &R,
-    floor: &Mutex<Floor>,
-    bell: &Condvar,
+    shared: &Shared,
     gate: &G,
     packet: u16,
     placed: &Placed,
-    list: &mut Vec<Event>,
+    desk: &mut Desk,
 ) -> Result<(), Fault>
-    ensures { OnOk result (ByOne placed.now packet list.old.items list.new.items) }
+    ensures { OnOk result (ByOne placed.now packet desk.old.events.items desk.new.events.items) }
 {
-    ask(rt, floor, bell, Step::Launch(placed.queue), list)?;
-    let _slot = ask_one(rt, floor, bell, packet, &placed.slots, list)?;
-    ask(rt, floor, bell, Step::Enter(packet), list)?;
-    ask(rt, floor, bell, Step::Complete(packet), list)?;
+    ask(rt, shared, desk, Step::Launch(placed.queue))?;
+    let _slot = ask_one(rt, shared, desk, packet, &placed.slots)?;
+    ask(rt, shared, desk, Step::Enter(packet))?;
+    ask(rt, shared, desk, Step::Complete(packet))?;
     gate.passed(packet);
     Ok(())
 }

@@ -6,16 +6,18 @@ ghost use Rattle.hq_runner.specs.Ended.{Done};
 ghost use Rattle.hq_runner.specs.Kits.{AllRan, tasks_of};
 ghost use Rattle.hq_runner.specs.Lists.{Did, IsProgram};
 
+use crate::asking::Desk;
 use crate::fault::Fault;
-use crate::floor::{Floor, fail};
 use crate::gate::Gate;
+use crate::places::Place;
 use crate::processor::{do_and, do_or, do_work};
+use crate::shared::Shared;
 use hq_job::Job;
 use hq_kernels::{Body, Kit};
 use hq_machine::Event;
 use hq_packet::Packet;
 use std::alloc::Global;
-use std::sync::{Condvar, Mutex, Wait};
+use std::sync::Wait;
 
 /// What a processor gives back.
 #[derive(Drop)]
@@ -29,19 +31,18 @@ pub struct Ended {
 /// Takes a packet through its events, if it is a kernel or agent packet with the next of the bodies. Answers how many bodies have run.
 fn do_packet<R: Wait, G: Gate>(
     rt: &R,
-    floor: &Mutex<Floor>,
-    bell: &Condvar,
+    shared: &Shared,
     gate: &G,
     job: &Job,
     packet: u16,
     bodies: &mut Vec<Body>,
     next: usize,
-    list: &mut Vec<Event>,
+    desk: &mut Desk,
 ) -> Result<usize, Fault>
     requires packet { packet < length job.now.packets }
     requires next { next ≤ length bodies.old.items }
     requires ran { AllRan (λ b. kernel (b.vtable, b.value)) (λ b. service (b.vtable, b.value)) (take next bodies.old.items) }
-    ensures list { OnOk result (Did (plan job.now) packet list.old.items list.new.items) }
+    ensures list { OnOk result (Did (plan job.now) packet desk.old.events.items desk.new.events.items) }
     ensures tasks { tasks_of (λ b. kernel (b.vtable, b.value)) (λ b. service (b.vtable, b.value)) bodies.new.items ≡ tasks_of (λ b. kernel (b.vtable, b.value)) (λ b. service (b.vtable, b.value)) bodies.old.items }
     ensures next { IfOk result (λ n. n ≤ length bodies.new.items) }
     ensures ran { IfOk result (λ n. AllRan (λ b. kernel (b.vtable, b.value)) (λ b. service (b.vtable, b.value)) (take n bodies.new.items)) }
@@ -52,24 +53,15 @@ fn do_packet<R: Wait, G: Gate>(
             if next >= bodies.len() {
                 return Err(Fault::Stopped);
             }
-            do_work(
-                rt,
-                floor,
-                bell,
-                gate,
-                packet,
-                placed,
-                &mut bodies[next],
-                list,
-            )?;
+            do_work(rt, shared, gate, packet, placed, &mut bodies[next], desk)?;
             Ok(next + 1)
         }
         Packet::And(_) => {
-            do_and(rt, floor, bell, gate, packet, placed, list)?;
+            do_and(rt, shared, gate, packet, placed, desk)?;
             Ok(next)
         }
         Packet::Or(_) => {
-            do_or(rt, floor, bell, gate, packet, placed, list)?;
+            do_or(rt, shared, gate, packet, placed, desk)?;
             Ok(next)
         }
     }
@@ -78,17 +70,16 @@ fn do_packet<R: Wait, G: Gate>(
 /// Takes the packets of a queue in turn.
 fn do_all<R: Wait, G: Gate>(
     rt: &R,
-    floor: &Mutex<Floor>,
-    bell: &Condvar,
+    shared: &Shared,
     gate: &G,
     job: &Job,
     queue: usize,
     bodies: &mut Vec<Body>,
-    list: &mut Vec<Event>,
+    desk: &mut Desk,
 ) -> Result<(), Fault>
     requires queue { queue < length job.now.queues }
-    requires list { list.old.items ≡ [] }
-    ensures list { OnOk result (IsProgram (plan job.now) queue list.new.items) }
+    requires list { desk.old.events.items ≡ [] }
+    ensures list { OnOk result (IsProgram (plan job.now) queue desk.new.events.items) }
     ensures tasks { tasks_of (λ b. kernel (b.vtable, b.value)) (λ b. service (b.vtable, b.value)) bodies.new.items ≡ tasks_of (λ b. kernel (b.vtable, b.value)) (λ b. service (b.vtable, b.value)) bodies.old.items }
     ensures ran { OnOk result (AllRan (λ b. kernel (b.vtable, b.value)) (λ b. service (b.vtable, b.value)) bodies.new.items) }
 {
@@ -99,17 +90,7 @@ fn do_all<R: Wait, G: Gate>(
     let mut next = 0;
     let mut packet = start;
     while packet < stop {
-        next = do_packet(
-            rt,
-            floor,
-            bell,
-            gate,
-            job,
-            packet as u16,
-            bodies,
-            next,
-            list,
-        )?;
+        next = do_packet(rt, shared, gate, job, packet as u16, bodies, next, desk)?;
         packet += 1;
     }
     if next < bodies.len() {
@@ -123,31 +104,24 @@ pub fn process<R: Wait, G: Gate>(
     rt: &R,
     alloc: Global,
     job: &Job,
-    floor: &Mutex<Floor>,
-    bell: &Condvar,
+    shared: &Shared,
     gate: &G,
     queue: usize,
-    mut kit: Kit,
+    place: Place,
 ) -> Ended
     requires { queue < length job.now.queues }
-    ensures { Done (λ b. kernel (b.vtable, b.value)) (λ b. service (b.vtable, b.value)) (plan job.now) queue kit result }
+    ensures { Done (λ b. kernel (b.vtable, b.value)) (λ b. service (b.vtable, b.value)) (plan job.now) queue place.entry.kit result }
 {
-    let mut events = Vec::new(alloc);
-    let fault = match do_all(
-        rt,
-        floor,
-        bell,
-        gate,
-        job,
-        queue,
-        &mut kit.bodies,
-        &mut events,
-    ) {
+    let Place { mut kit, seated } = place;
+    let events = Vec::new(alloc);
+    let mut desk = Desk { seated, events };
+    let fault = match do_all(rt, shared, gate, job, queue, &mut kit.bodies, &mut desk) {
         Ok(()) => None,
         Err(fault) => Some(fault),
     };
     if fault.is_some() {
-        fail(rt, floor, bell);
+        shared.fail(rt);
     }
+    let Desk { seated: _, events } = desk;
     Ended { kit, events, fault }
 }

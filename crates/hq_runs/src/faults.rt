@@ -1,7 +1,8 @@
 //! Runs in which bodies fail.
 
 use crate::bodies::{Faulting, Opening, Refusing};
-use crate::jobs::{EITHER, FILL_COPY_COPY, TWO_FILLS, accepted, run_with};
+use crate::jobs::{accepted, run_with};
+use crate::texts::{EITHER, FILL_COPY_COPY};
 use hq_certcheck::Accepted;
 use hq_footprint::Task;
 use hq_kernels::{Body, KernelBody, Stock, stock_kits};
@@ -50,7 +51,7 @@ fn fault_of<R: Threads + Wait + Sync>(
 
 #[test]
 fn a_body_that_faults(rt: HostRuntime) -> Result<(), Fail> {
-    let accepted = accepted(&rt, rt.alloc(), FILL_COPY_COPY)?;
+    let accepted = accepted(rt.alloc(), FILL_COPY_COPY)?;
     let mut bodies: Vec<(Place, Box<dyn KernelBody + Send>)> = Vec::new(rt.alloc());
     bodies.push(((0, 2), Box::new(rt.alloc(), Faulting::new(Task::Copy))?))?;
     assert_eq!(rt; fault_of(&rt, rt.alloc(), &accepted, bodies)?, (2, 2, 0, 2));
@@ -59,7 +60,7 @@ fn a_body_that_faults(rt: HostRuntime) -> Result<(), Fail> {
 
 #[test]
 fn a_body_that_refuses_a_piece(rt: HostRuntime) -> Result<(), Fail> {
-    let accepted = accepted(&rt, rt.alloc(), FILL_COPY_COPY)?;
+    let accepted = accepted(rt.alloc(), FILL_COPY_COPY)?;
     let mut bodies: Vec<(Place, Box<dyn KernelBody + Send>)> = Vec::new(rt.alloc());
     bodies.push(((0, 2), Box::new(rt.alloc(), Refusing::new(Task::Copy))?))?;
     assert_eq!(rt; fault_of(&rt, rt.alloc(), &accepted, bodies)?, (2, 2, 0, 2));
@@ -68,7 +69,7 @@ fn a_body_that_refuses_a_piece(rt: HostRuntime) -> Result<(), Fail> {
 
 #[test]
 fn a_fault_ends_the_wait_of_others(rt: HostRuntime) -> Result<(), Fail> {
-    let accepted = accepted(&rt, rt.alloc(), EITHER)?;
+    let accepted = accepted(rt.alloc(), EITHER)?;
     let mut bodies: Vec<(Place, Box<dyn KernelBody + Send>)> = Vec::new(rt.alloc());
     bodies.push(((0, 0), Box::new(rt.alloc(), Faulting::new(Task::Fill(7)))?))?;
     assert_eq!(rt; fault_of(&rt, rt.alloc(), &accepted, bodies)?, (0, 1, 0, 1));
@@ -77,7 +78,7 @@ fn a_fault_ends_the_wait_of_others(rt: HostRuntime) -> Result<(), Fail> {
 
 #[test]
 fn the_last_packet_faults(rt: HostRuntime) -> Result<(), Fail> {
-    let accepted = accepted(&rt, rt.alloc(), EITHER)?;
+    let accepted = accepted(rt.alloc(), EITHER)?;
     let mut bodies: Vec<(Place, Box<dyn KernelBody + Send>)> = Vec::new(rt.alloc());
     bodies.push(((3, 0), Box::new(rt.alloc(), Faulting::new(Task::Copy))?))?;
     assert_eq!(rt; fault_of(&rt, rt.alloc(), &accepted, bodies)?, (4, 2, 0, 2));
@@ -86,7 +87,7 @@ fn the_last_packet_faults(rt: HostRuntime) -> Result<(), Fail> {
 
 #[test]
 fn a_piece_that_is_opened_is_lost(rt: HostRuntime) -> Result<(), Fail> {
-    let accepted = accepted(&rt, rt.alloc(), FILL_COPY_COPY)?;
+    let accepted = accepted(rt.alloc(), FILL_COPY_COPY)?;
     let mut bodies: Vec<(Place, Box<dyn KernelBody + Send>)> = Vec::new(rt.alloc());
     bodies.push(((0, 2), Box::new(rt.alloc(), Opening::new(Task::Copy))?))?;
     assert_eq!(rt; fault_of(&rt, rt.alloc(), &accepted, bodies)?, (2, 1, 1, 1));
@@ -95,7 +96,7 @@ fn a_piece_that_is_opened_is_lost(rt: HostRuntime) -> Result<(), Fail> {
 
 #[test]
 fn a_body_that_holds_a_piece_of_another_tray(rt: HostRuntime) -> Result<(), Fail> {
-    let accepted = accepted(&rt, rt.alloc(), FILL_COPY_COPY)?;
+    let accepted = accepted(rt.alloc(), FILL_COPY_COPY)?;
     let mut tray = Tray::open(rt.alloc(), 1)?;
     let mut stock = Stock::new(Task::Copy);
     let piece = Piece::new(

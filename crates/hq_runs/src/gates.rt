@@ -1,6 +1,7 @@
 //! Gates that hold packets back.
 
-use crate::jobs::{TWO_FILLS, accepted, run_with};
+use crate::jobs::{accepted, run_with};
+use crate::texts::TWO_FILLS;
 use hq_kernels::stock_kits;
 use hq_runner::Gate;
 use std::sync::atomic::{AtomicBool, Ordering};
@@ -37,7 +38,7 @@ impl Gate for SecondFirst {
 
 #[test]
 fn a_queue_that_is_held_back_holds_back_no_other(rt: HostRuntime) -> Result<(), Fail> {
-    let accepted = accepted(&rt, rt.alloc(), TWO_FILLS)?;
+    let accepted = accepted(rt.alloc(), TWO_FILLS)?;
     let kits = stock_kits(rt.alloc(), accepted.job())?;
     let gate = SecondFirst {
         passed: AtomicBool::new(false),

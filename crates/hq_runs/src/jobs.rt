@@ -1,7 +1,8 @@
-//! Worked jobs, and what is asked of their runs.
+//! Jobs of texts, and what is asked of their runs.
 
-use hq_certcheck::Accepted;
-use hq_engines::accept;
+use crate::texts::joined;
+use hq_audit::audit;
+use hq_certcheck::{Accepted, check};
 use hq_kernels::{Kit, kits_fit};
 use hq_runner::{Gate, Outcome, RunFault, run};
 use std::alloc::Global;
@@ -9,68 +10,38 @@ use std::sync::Wait;
 use std::test::*;
 use std::thread::Threads;
 
-/// A fill of the first four bytes with 7, and behind it, each with its barrier bit, two copies of them to the next four.
-pub const FILL_COPY_COPY: &[u8] = b"hsaq 1
-agent a
-buffer b 4096 8
-args k0 256 00100000000000000700000000000000
-args k1 512 00100000000000000410000000000000
-kernel f 1 fill
-kernel c 2 copy
-queue q a 4
-packet 02150100010001000100000004000000010000000100000000000000000000000100000000000000000100000000000000000000000000000000000000000000
-packet 02150100010001000100000004000000010000000100000000000000000000000200000000000000000200000000000000000000000000000000000000000000
-packet 02150100010001000100000004000000010000000100000000000000000000000200000000000000000200000000000000000000000000000000000000000000
-end
-";
-
-/// Two fills of other bytes, each in a queue of its own, with nothing to wait for.
-pub const TWO_FILLS: &[u8] = b"hsaq 1
-agent a
-buffer b 4096 8
-args k0 256 00100000000000000700000000000000
-args k1 512 00100000000000000410000000000000
-kernel f 1 fill
-kernel c 2 copy
-args k3 768 04100000000000000500000000000000
-queue q a 4
-packet 02000100010001000100000004000000010000000100000000000000000000000100000000000000000100000000000000000000000000000000000000000000
-queue r a 4
-packet 02000100010001000100000004000000010000000100000000000000000000000100000000000000000300000000000000000000000000000000000000000000
-end
-";
-
-/// A fill, two barrier-AND packets that wait for it, a barrier-OR that waits for either, and a copy, in four queues.
-pub const EITHER: &[u8] = b"hsaq 1
-agent a
-buffer b 4096 8
-args k0 256 00100000000000000700000000000000
-args k1 512 00100000000000000410000000000000
-kernel f 1 fill
-kernel c 2 copy
-signal s 9 1
-signal t 10 1
-signal u 11 1
-queue q0 a 4
-packet 020a0100010001000100000004000000010000000100000000000000000000000100000000000000000100000000000000000000000000000900000000000000
-queue q1 a 4
-packet 03000000000000000900000000000000000000000000000000000000000000000000000000000000000000000000000000000000000000000a00000000000000
-queue q2 a 4
-packet 03000000000000000900000000000000000000000000000000000000000000000000000000000000000000000000000000000000000000000b00000000000000
-queue q3 a 4
-packet 05000000000000000a000000000000000b0000000000000000000000000000000000000000000000000000000000000000000000000000000000000000000000
-packet 020a0100010001000100000004000000010000000100000000000000000000000200000000000000000200000000000000000000000000000000000000000000
-end
-";
-
 /// The job of a text, accepted by the certificate that its audit gives.
-pub fn accepted<R: Threads + Sync>(rt: &R, alloc: Global, text: &[u8]) -> Result<Accepted, Fail> {
+pub fn accept_text(alloc: Global, text: &[u8]) -> Option<Accepted> {
     let Ok(job) = hq_job::read_text(alloc, text) else {
-        return Err("the text is a job".into());
+        return None;
     };
-    match accept(rt, alloc, job) {
-        Ok(accepted) => Ok(accepted),
-        Err(_) => Err("the job is ordered".into()),
+    let Ok(certificate) = audit(alloc, &job) else {
+        return None;
+    };
+    check(alloc, job, &certificate).ok()
+}
+
+/// The job of the text that these make.
+fn accept_parts(alloc: Global, parts: &[&[u8]]) -> Option<Accepted> {
+    let Ok(text) = joined(alloc, parts) else {
+        return None;
+    };
+    accept_text(alloc, &text)
+}
+
+/// The same, which is asked for once more where there is no memory.
+pub fn accepted_again(alloc: Global, parts: &[&[u8]]) -> Option<Accepted> {
+    match accept_parts(alloc, parts) {
+        Some(accepted) => Some(accepted),
+        None => accept_parts(alloc, parts),
+    }
+}
+
+/// The same, in a test.
+pub fn accepted(alloc: Global, parts: &[&[u8]]) -> Result<Accepted, Fail> {
+    match accept_parts(alloc, parts) {
+        Some(accepted) => Ok(accepted),
+        None => Err("the text is an ordered job".into()),
     }
 }
 

@@ -1,6 +1,6 @@
 //! The table of a job's signals.
 
-ghost use Rattle.std.specs.Prelude.{◌≡◌, ◌≢◌, ◌+◌, ◌<◌, ◌^◌, ◌↔◌, ℕ, [], ◌∷◌, ◌++◌, length, nat_lt, ◌&&◌, slice_get, All, AllPairs, IsTrue, IsOk, IsNone, OnOk, OnErr};
+ghost use Rattle.std.specs.Prelude.{◌≡◌, ◌≢◌, ◌+◌, ◌<◌, ◌^◌, ◌↔◌, ℕ, [], ◌∷◌, ◌++◌, length, nat_lt, ◌&&◌, slice_get, All, AllPairs, IsTrue, IfOk, IsOk, IsNone, OnOk, OnErr};
 
 use crate::fault::SignalFault;
 use indexmap::IndexMap;
@@ -8,7 +8,7 @@ use std::alloc::{AllocError, Global};
 use std::marker::Model;
 
 // What the table keeps of a signal beside its handle.
-#[derive(Debug, Drop)]
+#[derive(Clone, Copy, Debug)]
 struct Entry {
     start: u64,
     decrementers: u64,
@@ -68,6 +68,15 @@ impl SignalTable {
         SignalTable {
             signals: IndexMap::new(alloc),
         }
+    }
+
+    /// An equal table.
+    pub fn copy(&self) -> Result<SignalTable, AllocError>
+        ensures { IfOk result (λ t. t ≡ self.now) }
+    {
+        Ok(SignalTable {
+            signals: self.signals.clone()?,
+        })
     }
 
     /// The number of signals.

@@ -96,3 +96,21 @@ fn runs_of_pushed_bytes_merge(rt: HostRuntime) -> Result<(), Fail> {
     assert_eq!(rt; copies.agent_runs(0), 1);
     Ok(())
 }
+
+#[test]
+fn ranges_are_stored_and_released(rt: HostRuntime) -> Result<(), Fail> {
+    let alloc = rt.alloc();
+    let mut copies = Copies::new(alloc, vec![in alloc; 0; 4]?, 1, vec![in alloc; 0]?)?;
+    assert!(rt; has(&copies, 4));
+    copies.fill_agent(0, 3)?;
+    assert!(rt; has(&copies, 4));
+    assert_eq!(rt; copies.agent_runs(0), 1);
+    copies.drop_agent(0, 3)?;
+    assert!(rt; has(&copies, 4));
+    assert_eq!(rt; copies.agent_runs(0), 0);
+    copies.store_run(0, 1, &[7, 8])?;
+    assert!(rt; has(&copies, 4));
+    copies.release(0..1, 0, Scope::System)?;
+    assert_eq!(rt; copies.memory(), [0, 7, 8, 0].as_slice());
+    Ok(())
+}

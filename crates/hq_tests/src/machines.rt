@@ -4,7 +4,7 @@ ghost use Rattle.hq_machine.specs.View.{IsStateOf};
 use hq_footprint::evaluate;
 use hq_footprint::laws::{bytes_counted, entries_counted};
 use hq_job::{Job, read_text};
-use hq_machine::{Event, Journal, State, StepFault};
+use hq_machine::{Event, Journal, Phase, State, StepFault};
 use std::alloc::{AllocError, Global};
 use std::test::*;
 
@@ -50,7 +50,7 @@ fn walk(state: &mut State, job: &Job, events: &[Event]) -> bool
 fn ends(alloc: Global, job: &Job, journal: &Journal) -> Result<bool, StepFault> {
     let mut state = State::start(alloc, job)?;
     let whole = walk(&mut state, job, journal.events());
-    let rested = state.work_left(job).is_none();
+    let rested = state.work_left(job).is_none() && state.all_complete(0..state.packets());
     Ok(whole && rested && state.memory() == b"\x07\x07\x07\x07\x07\x07\x07\x07".as_slice())
 }
 
@@ -62,6 +62,59 @@ fn work_is_left_until_the_end(rt: HostRuntime) -> Result<(), Fail> {
     add_steps(&mut journal, 1, 4, 4)?;
     assert_eq!(rt; journal.events().len(), 34);
     assert!(rt; ends(rt.alloc(), &job, &journal)?);
+    Ok(())
+}
+
+/// Whether the packet of two, which write eight bytes, is in this phase, and has read this byte; and what it sees in the first place.
+fn shows(state: &State, job: &Job, packet: usize, phase: Phase, read: Option<u8>, seen: u8) -> bool
+    requires { IsStateOf (plan job.now) state.now }
+{
+    if state.packets() <= packet || state.memory().len() != 8 {
+        return false;
+    }
+    state.phase(packet) == phase
+        && state.read_byte(packet, 0) == read
+        && state.seen(packet, 0) == seen
+}
+
+/// Takes the fill to its first store by single steps.
+fn stores_a_byte(alloc: Global, job: &Job) -> Result<bool, StepFault> {
+    let mut state = State::start(alloc, job)?;
+    let queued = shows(&state, job, 0, Phase::InQueue, None, 0);
+    state.step(job, Event::Launch { queue: 0 })?;
+    let launched = shows(&state, job, 0, Phase::Launched, None, 0);
+    state.step(job, Event::Enter { packet: 0 })?;
+    let entry = 0;
+    state.step(job, Event::Store { packet: 0, entry })?;
+    let stored = shows(&state, job, 0, Phase::Active, None, 7);
+    Ok(queued && launched && stored && shows(&state, job, 1, Phase::InQueue, None, 0))
+}
+
+/// Takes the fill to its end and the copy to its first read.
+fn reads_a_byte(alloc: Global, job: &Job) -> Result<bool, StepFault> {
+    let mut state = State::start(alloc, job)?;
+    state.apply(job, Event::Launch { queue: 0 })?;
+    state.apply(job, Event::Enter { packet: 0 })?;
+    state.apply(job, Event::Fetch { packet: 0 })?;
+    state.apply(job, Event::Deliver { packet: 0 })?;
+    state.apply(job, Event::Complete { packet: 0 })?;
+    state.apply(job, Event::Launch { queue: 0 })?;
+    state.apply(job, Event::Enter { packet: 1 })?;
+    state.step(
+        job,
+        Event::Read {
+            packet: 1,
+            entry: 0,
+        },
+    )?;
+    Ok(shows(&state, job, 1, Phase::Active, Some(7), 7))
+}
+
+#[test]
+fn single_steps_show(rt: HostRuntime) -> Result<(), Fail> {
+    let job = read_text(rt.alloc(), JOB)?;
+    assert!(rt; stores_a_byte(rt.alloc(), &job)?);
+    assert!(rt; reads_a_byte(rt.alloc(), &job)?);
     Ok(())
 }
 

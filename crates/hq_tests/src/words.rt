@@ -34,6 +34,16 @@ fn each_command_is_taken(rt: HostRuntime) -> Result<(), Fail> {
             }
         )
     );
+    let asked = command_of(rt.alloc(), &["chart", "a", "b"])?;
+    assert!(rt;
+        matches!(
+            asked,
+            Asked::Chart {
+                job: "a",
+                timeline: "b"
+            }
+        )
+    );
     let asked = command_of(rt.alloc(), &["pack", "and", "0"])?;
     assert!(rt; matches!(asked, Asked::Pack { .. }));
     Ok(())

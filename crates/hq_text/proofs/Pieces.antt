@@ -1,11 +1,12 @@
 -- A text that is taken in piece by piece.
 use Rattle.std.proofs.Common.{◌≡◌, ℕ, ◌⊎◌, inl, inr, Bool, true, false, cond, List, [], ◌∷◌, ◌++◌, take, drop, refl, sym, ap, subst, ◌∙◌, append_assoc, append-nil}
-use Rattle.std.specs.Prelude.{IfErr, MatchOption, OnOk, Option, Some, None, Result, Ok, Err}
+use Rattle.std.specs.Prelude.{IfErr, OnOk, Result, Ok, Err}
 use Rattle.std.specs.List.{slice_split, onto_first}
 use Rattle.std.proofs.lemmas.List.{take-append-drop}
 use Rattle.hq_text.specs.Lines.{lines_of, is_line_feed, without_empty_last}
 use Rattle.hq_text.specs.declared.intake.Progress.{Progress}
 use Rattle.hq_text.specs.declared.intake.Reading.{Reading}
+use Rattle.hq_text.specs.declared.intake.Reading.TheVariants.{Faulty}
 use Rattle.hq_text.specs.Intake.{Said, EndsLine, HasRead, Holds, Stays}
 use Rattle.hq_text.proofs.Cuts.{Parts, parts_of, without}
 
@@ -109,8 +110,5 @@ stays_at_end : (P : List (List ℕ) → Type 0) (text : List ℕ) → Stays P te
 stays_at_end P text h = subst (λ (t : List ℕ). P (lines_of t)) (append-nil text) (h [])
 
 -- the fault of what was read, at the end of the text
-pub last_fault : {L F : Type 0} (Took : Said L) (Refuses : Said F) (r : Reading L F) (f : F) (text : List ℕ) → r.fault ≡ Some f → HasRead Took Refuses r text → Refuses (lines_of text) f
-last_fault {F = F} Took Refuses r f text is h = by r.fault is h where
-  by : (fault : Option F) → fault ≡ Some f → MatchOption fault (Holds Took r.progress text) (λ g. Stays (λ lines. Refuses lines g) text) → Refuses (lines_of text) f
-  by None e h = absurd cc
-  by (Some g) e h = let same : g ≡ f = cc in subst (λ k. Refuses (lines_of text) k) same (stays_at_end (λ lines. Refuses lines g) text h)
+pub last_fault : {L F : Type 0} (Took : Said L) (Refuses : Said F) (r : Reading L F) (f : F) (text : List ℕ) → r ≡ Faulty f → HasRead Took Refuses r text → Refuses (lines_of text) f
+last_fault {L} {F} Took Refuses r f text is h = stays_at_end (λ lines. Refuses lines f) text (subst (λ (q : Reading L F). HasRead Took Refuses q text) is h)

@@ -1,11 +1,12 @@
 -- A text that is taken in line by line, while it comes.
-use Rattle.std.specs.Prelude.{◌≡◌, ℕ, ◌⊎◌, List, [], ◌∷◌, ◌++◌, MatchOption, Result, Ok, Err}
+use Rattle.std.specs.Prelude.{◌≡◌, ℕ, ◌⊎◌, List, [], ◌∷◌, ◌++◌, Result, Ok, Err}
 use Rattle.hq_text.specs.Lines.{lines_of}
 use Rattle.hq_text.specs.Turns.{Turn, Ends}
 use Rattle.hq_text.specs.declared.intake.ReadFault.{ReadFault}
 use Rattle.hq_text.specs.declared.intake.ReadFault.TheVariants.{Reader, Text}
 use Rattle.hq_text.specs.declared.intake.Progress.{Progress}
 use Rattle.hq_text.specs.declared.intake.Reading.{Reading}
+use Rattle.hq_text.specs.declared.intake.Reading.TheVariants.{Taking, Faulty}
 
 -- which lines leave which value, and what is wrong with which lines
 abbrev pub Said : Type 0 → Type 1
@@ -29,7 +30,8 @@ Stays P text = (more : List ℕ) → P (lines_of (text ++ more))
 
 -- what was read of the text so far: its lines were taken in but for what waits, or it has a fault, whatever follows it
 abbrev pub HasRead : {L F : Type 0} → Said L → Said F → Reading L F → List ℕ → Type 0
-HasRead Took Refuses r text = MatchOption r.fault (Holds Took r.progress text) (λ f. Stays (λ lines. Refuses lines f) text)
+HasRead Took Refuses (Taking p) text = Holds Took p text
+HasRead Took Refuses (Faulty f) text = Stays (λ lines. Refuses lines f) text
 
 -- what took in all of these lines, or what is wrong with them
 abbrev pub TakenOf : {L F : Type 0} → Said L → Said F → Result L F → List (List ℕ) → Type 0

@@ -147,11 +147,11 @@ impl<L: TakesLines> Progress<L> {
     }
 }
 
-/// What was read so far. Behind the first fault the text is read to its end, and no more than that.
+/// What was read so far: a text without a fault, or its first fault. Behind that nothing of the text is held, nor what took it in.
 #[derive(Drop)]
-struct Reading<L, F> {
-    progress: Progress<L>,
-    fault: Option<F>,
+enum Reading<L, F> {
+    Taking(Progress<L>),
+    Faulty(F),
 }
 
 impl<L: TakesLines> Reading<L, L::Fault> {
@@ -160,21 +160,18 @@ impl<L: TakesLines> Reading<L, L::Fault> {
         requires { L.Took [] taker }
         ensures { HasRead L.Took L.Refuses result [] }
     {
-        Reading {
-            progress: Progress::new(alloc, taker),
-            fault: None,
-        }
+        Reading::Taking(Progress::new(alloc, taker))
     }
 
-    /// Takes in the next piece of the text.
+    /// Takes in the next piece of the text. Where it is faulty, what took in the lines before it is let go.
     fn take(&mut self, alloc: Global, piece: &[u8])
         ensures { (text : List ℕ) → HasRead L.Took L.Refuses self.old text → HasRead L.Took L.Refuses self.new (text ++ piece.now) }
     {
-        if self.fault.is_some() {
+        let Reading::Taking(progress) = self else {
             return;
-        }
-        if let Err(fault) = self.progress.take(alloc, piece) {
-            self.fault = Some(fault);
+        };
+        if let Err(fault) = progress.take(alloc, piece) {
+            *self = Reading::Faulty(fault);
         }
     }
 
@@ -182,16 +179,16 @@ impl<L: TakesLines> Reading<L, L::Fault> {
     fn finish(self, alloc: Global) -> Result<L, L::Fault>
         ensures { (text : List ℕ) → HasRead L.Took L.Refuses self text → TakenOf L.Took L.Refuses result (lines_of text) }
     {
-        let Reading { progress, fault } = self;
-        match fault {
-            Some(fault) => Err(fault),
-            None => progress.finish(alloc),
+        match self {
+            Reading::Taking(progress) => progress.finish(alloc),
+            Reading::Faulty(fault) => Err(fault),
         }
     }
 }
 
 /// What took in all lines that a source gives up to its end. Of the text no more is held than what waits for the end of its line,
-/// and some 64 KiB.
+/// and some 64 KiB; behind the first faulty line nothing is, and what took in the lines before it is let go: the source is only
+/// asked on to its end.
 ///
 /// # Errors
 ///

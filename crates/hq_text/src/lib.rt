@@ -11,8 +11,8 @@ mod words;
 pub use intake::{ReadFault, TakesLines, read_lines};
 pub use name::Name;
 pub use number::number_of;
-pub use take::{Source, TURN_LEN, TURNS, TextFault, take_text, take_turns};
-pub use words::{first_line, lines_of, words_of};
+pub use take::{Source, TURN_LEN, TURNS, TextFault, take_text};
+pub use words::{first_line, line_end, lines_of, words_of};
 
 #[cfg(test)]
 mod tests;

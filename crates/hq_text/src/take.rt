@@ -42,8 +42,8 @@ impl<R: Read> Source for R {
     }
 }
 
-/// All that a source gives up to its end, as `take_text` takes it of readers.
-pub fn take_turns<S: Source>(alloc: Global, source: &mut S) -> Result<Vec<u8>, TextFault>
+/// All that a source gives up to its end.
+fn take_turns<S: Source>(alloc: Global, source: &mut S) -> Result<Vec<u8>, TextFault>
     ensures taken { IfOk result (λ text. Ends S S.Turned TURNS source.old text.items source.new) }
     ensures failed { IfErr result (λ e. e ≡ TextFault.Read → Fails S S.Turned TURNS source.old source.new ⊎ Passes S S.Turned TURNS source.old source.new) }
 {

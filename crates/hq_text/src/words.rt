@@ -15,7 +15,7 @@ pub fn words_of(alloc: Global, line: &[u8]) -> Result<Vec<&[u8]>, AllocError>
 
 /// Where the first line feed stands.
 #[tactic(auto, using(crate::proofs::Cuts::position_is))]
-fn line_end(text: &[u8]) -> Option<usize>
+pub fn line_end(text: &[u8]) -> Option<usize>
     ensures { result ≡ position is_line_feed text.now }
 {
     memchr(b'\n', text)

@@ -2,7 +2,7 @@
 use Rattle.std.specs.Prelude.{◌≡◌, List, [], ◌∷◌, Option, Some, None, codes, map, option_map}
 use Rattle.clap.specs.Words.{Row, Text, first_of, all_of}
 use Rattle.hq_words.specs.declared.words.Asked.{Asked}
-use Rattle.hq_words.specs.declared.words.Asked.TheVariants.{Show, Pack, Audit, Check, Run, Replay}
+use Rattle.hq_words.specs.declared.words.Asked.TheVariants.{Show, Pack, Audit, Check, Run, Replay, Chart}
 use Rattle.hq_words.specs.declared.words.WordsFault.{WordsFault}
 use Rattle.hq_words.specs.declared.words.WordsFault.TheVariants.{Words, Memory}
 
@@ -19,6 +19,7 @@ AsksWith name job certificate timeline out (Audit a) = (name ≡ codes "audit") 
 AsksWith name job certificate timeline out (Check a b) = (name ≡ codes "check") × (job ≡ Some a.now) × (certificate ≡ Some b.now)
 AsksWith name job certificate timeline out (Run a b) = (name ≡ codes "run") × (job ≡ Some a.now) × (out ≡ option_map (λ o. o.now) b)
 AsksWith name job certificate timeline out (Replay a b) = (name ≡ codes "replay") × (job ≡ Some a.now) × (timeline ≡ Some b.now)
+AsksWith name job certificate timeline out (Chart a b) = (name ≡ codes "chart") × (job ≡ Some a.now) × (timeline ≡ Some b.now)
 
 -- the command of this name, with these arguments, is what is asked for
 abbrev pub AsksFor : Text → List Row → Asked → Type 0
@@ -28,6 +29,7 @@ AsksFor name rows (Audit a) = AsksWith name (first_of (codes "JOB") rows) (first
 AsksFor name rows (Check a b) = AsksWith name (first_of (codes "JOB") rows) (first_of (codes "CERT") rows) (first_of (codes "TIMELINE") rows) (first_of (codes "OUT") rows) (Check a b)
 AsksFor name rows (Run a b) = AsksWith name (first_of (codes "JOB") rows) (first_of (codes "CERT") rows) (first_of (codes "TIMELINE") rows) (first_of (codes "OUT") rows) (Run a b)
 AsksFor name rows (Replay a b) = AsksWith name (first_of (codes "JOB") rows) (first_of (codes "CERT") rows) (first_of (codes "TIMELINE") rows) (first_of (codes "OUT") rows) (Replay a b)
+AsksFor name rows (Chart a b) = AsksWith name (first_of (codes "JOB") rows) (first_of (codes "CERT") rows) (first_of (codes "TIMELINE") rows) (first_of (codes "OUT") rows) (Chart a b)
 
 -- of what `clap` finds: the command's name, and its arguments
 abbrev pub Asks : Option (Text × List Row) → Asked → Type 0

@@ -24,6 +24,9 @@ check_app = with_rule (with_rule (new_app (codes "check")) job_rule) file_rule
 abbrev pub replay_app : App
 replay_app = with_rule (with_rule (new_app (codes "replay")) job_rule) timeline_rule
 
+abbrev pub chart_app : App
+chart_app = with_rule (with_rule (new_app (codes "chart")) job_rule) timeline_rule
+
 -- not a word by its place, but the one behind `--timeline`
 abbrev pub out_rule : Rule
 out_rule = record (new_rule (codes "OUT")) { long = Some (codes "timeline"); action = Some Set }
@@ -45,4 +48,6 @@ program_app =
 
 abbrev pub hsaq_app : App
 hsaq_app =
-    with_subcommand (with_subcommand (with_subcommand (with_subcommand (with_subcommand (with_subcommand program_app audit_app.top) check_app.top) run_app.top) replay_app.top) show_app.top) pack_app.top
+    let judging = with_subcommand (with_subcommand program_app audit_app.top) check_app.top in
+    let running = with_subcommand (with_subcommand (with_subcommand judging run_app.top) replay_app.top) chart_app.top in
+    with_subcommand (with_subcommand running show_app.top) pack_app.top

@@ -3,7 +3,7 @@
 ghost use Rattle.std.specs.Prelude.{◌≡◌, IfOk, false};
 ghost use Rattle.clap.specs.Words.{app_of, rule_of};
 ghost use Rattle.clap.specs.declared.builder.command.Command.TheViews.{out-Command as fields_of};
-ghost use Rattle.hq_words.specs.Commands.{job_rule, file_rule, timeline_rule, show_app, audit_app, check_app, out_rule, pack_app, replay_app, run_app, program_app, hsaq_app};
+ghost use Rattle.hq_words.specs.Commands.{job_rule, file_rule, timeline_rule, show_app, audit_app, check_app, out_rule, pack_app, replay_app, chart_app, run_app, program_app, hsaq_app};
 
 use clap::{Arg, ArgAction, Command};
 use std::alloc::{AllocError, Global};
@@ -24,6 +24,9 @@ const RUN_STATUS: &str =
 
 const REPLAY_STATUS: &str =
     "Exit status: 0; 7 where the timeline is none, or an event isn't enabled; 3 where the text is no job.";
+
+const CHART_STATUS: &str =
+    "Exit status: 0; 7 where the timeline is none, or an event isn't enabled, up to which it is drawn; 3 where the text is no job.";
 
 /// The words of each kind of packet.
 const PACK_WORDS: &str = "The words of a packet, DONE being its completion signal:
@@ -146,6 +149,19 @@ fn replay<'a>(alloc: Global) -> Result<Command<'a>, AllocError>
         .arg(timeline(alloc))
 }
 
+/// `chart JOB TIMELINE`
+fn chart<'a>(alloc: Global) -> Result<Command<'a>, AllocError>
+    ensures app { IfOk result (λ c. app_of c ≡ chart_app) }
+    ensures local { IfOk result (λ c. (fields_of c).has_globals ≡ false) }
+{
+    Command::new(alloc, "chart")
+        .about("Draws a timeline as an SVG picture: what each packet did when")
+        .override_usage("hsaq chart <JOB> <TIMELINE>")
+        .after_help(CHART_STATUS)
+        .arg(job(alloc))?
+        .arg(timeline(alloc))
+}
+
 /// `pack WORDS..`
 fn pack<'a>(alloc: Global) -> Result<Command<'a>, AllocError>
     ensures app { IfOk result (λ c. app_of c ≡ pack_app) }
@@ -184,6 +200,7 @@ pub fn hsaq<'a>(alloc: Global) -> Result<Command<'a>, AllocError>
     let check = check(alloc)?;
     let run = run(alloc)?;
     let replay = replay(alloc)?;
+    let chart = chart(alloc)?;
     let show = show(alloc)?;
     let pack = pack(alloc)?;
     program(alloc)
@@ -191,6 +208,7 @@ pub fn hsaq<'a>(alloc: Global) -> Result<Command<'a>, AllocError>
         .subcommand(check)?
         .subcommand(run)?
         .subcommand(replay)?
+        .subcommand(chart)?
         .subcommand(show)?
         .subcommand(pack)
 }

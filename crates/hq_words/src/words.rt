@@ -40,6 +40,11 @@ pub enum Asked<'a> {
         job: &'a str,
         timeline: &'a str,
     },
+    /// A picture of a timeline.
+    Chart {
+        job: &'a str,
+        timeline: &'a str,
+    },
 }
 
 /// Why nothing is asked for. `Words` has what `clap` says of the words: a fault, or the help or version that they ask for.
@@ -134,6 +139,10 @@ fn asked_of_files<'a>(
     if name == "replay" {
         let timeline = timeline?;
         return Some(Asked::Replay { job, timeline });
+    }
+    if name == "chart" {
+        let timeline = timeline?;
+        return Some(Asked::Chart { job, timeline });
     }
     None
 }

@@ -1,26 +1,19 @@
-use Rattle.std.proofs.Common.{arith}
-use Rattle.hq_copies.proofs.Finds.{passed_none, passed_one, found_before, found_end}
+use Rattle.std.proofs.Common.{◌≡◌, ◌/◌, arith, subst}
+use Rattle.hq_copies.proofs.Finds.{RunsPassed, runs_none, runs_one, found_outside, found_inside}
 use Rattle.hq_copies.proofs.runs.find.Goals as goal
 
-pub loop-edge-init : goal.loop-edge-init
-loop-edge-init c = passed_none c.args.edges.now c.args.number c.requires
+pub loop-run-init : goal.loop-run-init
+loop-run-init c = runs_none c.args.edges.now c.args.number c.requires
 
-pub loop-edge-preserved : goal.loop-edge-preserved
-loop-edge-preserved c =
-    passed_one c.args.edges.now c.args.number c.loop-edge.edge-index c.loop-edge.inside c.loop-edge.from c.loop-edge.count c.span-count.result c.loop-edge-test.true c.if-number-edge.false c.span-count.ensures.exact c.span-count.ensures.small c.loop-edge.invariant
+pub loop-run-preserved : goal.loop-run-preserved
+loop-run-preserved c = (runs_one c.args.edges.now c.args.number c.place-at.result c.loop-run.run c.loop-run.count c.place-at.ensures.within c.place-at.ensures.below c.loop-run-test.true c.loop-run.invariant).2
 
-pub returns-then-number-edge-clause-held : goal.returns-then-number-edge-clause-held
-returns-then-number-edge-clause-held c =
-    (found_before c.args.edges.now c.args.number c.loop-edge.edge-index c.loop-edge.inside c.loop-edge.from c.loop-edge.count c.span.result c.loop-edge-test.true c.if-number-edge.true c.span.ensures.exact c.loop-edge.invariant).0
-
-pub returns-then-number-edge-clause-index : goal.returns-then-number-edge-clause-index
-returns-then-number-edge-clause-index c =
-    (found_before c.args.edges.now c.args.number c.loop-edge.edge-index c.loop-edge.inside c.loop-edge.from c.loop-edge.count c.span.result c.loop-edge-test.true c.if-number-edge.true c.span.ensures.exact c.loop-edge.invariant).1
+pub returns-then-at-eq0-clause-held : goal.returns-then-at-eq0-clause-held
+returns-then-at-eq0-clause-held c =
+    let all = subst (λ n. RunsPassed c.args.edges.now c.args.number n c.loop-run.count) (omega arith) c.loop-run.invariant in
+    (found_outside c.args.edges.now c.args.number c.place-at.result c.loop-run.count c.place-at.ensures.within c.place-at.ensures.above c.if-at-eq0.true all).0
 
 pub returns-clause-held : goal.returns-clause-held
 returns-clause-held c =
-    (found_end c.args.edges.now c.args.number c.loop-edge.edge-index c.loop-edge.inside c.loop-edge.from c.loop-edge.count c.span-2.result (omega arith) c.span-2.ensures.exact c.loop-edge.invariant).0
-
-pub returns-clause-index : goal.returns-clause-index
-returns-clause-index c =
-    (found_end c.args.edges.now c.args.number c.loop-edge.edge-index c.loop-edge.inside c.loop-edge.from c.loop-edge.count c.span-2.result (omega arith) c.span-2.ensures.exact c.loop-edge.invariant).1
+    let all = subst (λ n. RunsPassed c.args.edges.now c.args.number n c.loop-run.count) (omega arith) c.loop-run.invariant in
+    (found_inside c.args.edges.now c.args.number c.place-at.result c.loop-run.count c.place-at.ensures.within c.place-at.ensures.below c.place-at.ensures.above (omega (arith, c.if-at-eq0.false)) all).2

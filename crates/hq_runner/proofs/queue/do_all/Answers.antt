@@ -19,7 +19,7 @@ pub loop-packet-preserved : goal.loop-packet-preserved
 loop-packet-preserved g c = record {
   low = omega arith;
   high = λ _. omega arith;
-  parts = did_more (plan c.args.job.now) c.of_queue-span.result.start c.loop-packet.packet c.loop-packet.list.items c.do_packet.new.list.items c.loop-packet.invariant.low c.loop-packet.invariant.parts c.in_ok-next.ensures.list;
+  parts = did_more (plan c.args.job.now) c.of_queue-span.result.start c.loop-packet.packet c.loop-packet.desk.events.items c.do_packet.new.desk.events.items c.loop-packet.invariant.low c.loop-packet.invariant.parts c.in_ok-next.ensures.list;
   room = c.in_ok-next.ensures.next;
   tasks = c.in_ok-next.ensures.tasks ∙ c.loop-packet.invariant.tasks;
   ran = c.in_ok-next.ensures.ran;
@@ -27,7 +27,7 @@ loop-packet-preserved g c = record {
 
 pub returns-clause-list : goal.returns-clause-list
 returns-clause-list g c =
-    did_all (plan c.args.job.now) c.args.queue c.of_queue-span.result.start c.of_queue-span.result.end c.loop-packet.packet c.loop-packet.list.items
+    did_all (plan c.args.job.now) c.args.queue c.of_queue-span.result.start c.of_queue-span.result.end c.loop-packet.packet c.loop-packet.desk.events.items
     c.of_queue-span.ensures c.loop-packet.invariant.low c.loop-packet-test.false c.loop-packet.invariant.high c.loop-packet.invariant.parts
 
 pub returns-clause-ran : goal.returns-clause-ran

@@ -11,7 +11,7 @@ invariant-loop-packet g l =
     record {
       low : l.start ≤ l.packet;
       high : l.start < l.packet → l.packet ≤ l.stop;
-      parts : Parts (plan l.job) (rising l.start l.packet) (map coarse_of l.list.items);
+      parts : Parts (plan l.job) (rising l.start l.packet) (map coarse_of l.desk.events.items);
       room : l.next ≤ length l.bodies.items;
       tasks : tasks_of (λ b. (goal.KernelBody-dyn g (b.vtable, b.value)).kernel b.value) (λ b. (goal.ServiceBody-dyn g (b.vtable, b.value)).service b.value) l.bodies.items ≡ tasks_of (λ b. (goal.KernelBody-dyn g (b.vtable, b.value)).kernel b.value) (λ b. (goal.ServiceBody-dyn g (b.vtable, b.value)).service b.value) l.initial.bodies.items;
       ran : AllRan (λ b. (goal.KernelBody-dyn g (b.vtable, b.value)).kernel b.value) (λ b. (goal.ServiceBody-dyn g (b.vtable, b.value)).service b.value) (take l.next l.bodies.items);

@@ -22,10 +22,10 @@ returns-in_ok-do_work-in-Kernel-clause-ran g c =
 pub returns-in_ok-do_work-in-Kernel-clause-list : goal.returns-in_ok-do_work-in-Kernel-clause-list
 returns-in_ok-do_work-in-Kernel-clause-list g c =
     let kind : kind_of c.packet-placed.result.now.packet ≡ Work = search rules in
-    did_work (plan c.args.job.now) c.args.packet c.packet-placed.result.now c.args.list.now.items c.do_work.new.list.items c.packet-placed.ensures kind c.in_ok-do_work-in-Kernel.ensures.list
+    did_work (plan c.args.job.now) c.args.packet c.packet-placed.result.now c.args.desk.now.events.items c.do_work.new.desk.events.items c.packet-placed.ensures kind c.in_ok-do_work-in-Kernel.ensures.list
 
 pub returns-in_ok-do_or-in-Or-clause-list : goal.returns-in_ok-do_or-in-Or-clause-list
 returns-in_ok-do_or-in-Or-clause-list g c =
     let kind : kind_of c.packet-placed.result.now.packet ≡ BarrierOr = search rules in
     let there : IsPacket (plan c.args.job.now) c.args.packet = omega (arith, length-map c.args.job.now.packets planned) in
-    did_or (plan c.args.job.now) c.args.packet c.packet-placed.result.now c.args.list.now.items c.do_or.new.list.items there c.packet-placed.ensures kind c.in_ok-do_or-in-Or.ensures
+    did_or (plan c.args.job.now) c.args.packet c.packet-placed.result.now c.args.desk.now.events.items c.do_or.new.desk.events.items there c.packet-placed.ensures kind c.in_ok-do_or-in-Or.ensures

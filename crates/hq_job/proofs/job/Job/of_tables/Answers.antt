@@ -1,6 +1,7 @@
 use Rattle.std.proofs.Common.{rules, ◌≡◌, ◌∙◌, ap, length, map}
 use Rattle.hq_model.specs.Journal.{numbers}
 use Rattle.hq_job.specs.Numbering.{by_number, submissions_of}
+use Rattle.hq_job.specs.declared.rows.Placed.{Placed}
 use Rattle.hq_job.specs.TablesView.{tables_of}
 use Rattle.hq_job.proofs.Kept.{fits_read}
 use Rattle.hq_job.proofs.job.Job.of_tables.Goals as goal
@@ -15,6 +16,6 @@ invariant_of-result c =
     let sent : c.in_ok-submissions.submissions.items ≡ submissions_of c.args.tables.placed.items = c.in_ok-submissions.ensures ∙ ap submissions_of c.deref-2.ensures.value in
     record {
       is_read = rw (packets, sent) (fits_read (tables_of c.args.tables) c.requires.fit c.requires.enough c.requires.exact);
-      by_number_is = packets;
+      queues_are = ap (map (λ (p : Placed). p.queue)) packets;
       firsts_are = firsts;
     }

@@ -1,5 +1,5 @@
 use Rattle.hq_text.proofs.Pieces.{last_fault}
 use Rattle.hq_text.proofs.intake.Reading+L+L+Fault.finish.Goals as goal
 
-pub returns-in-Some : goal.returns-in-Some
-returns-in-Some g c text h = last_fault g.L.TakesLines.Took g.L.TakesLines.Refuses c.args.self c.in-Some.fault text c.in-Some.is h
+pub returns-in-Faulty : goal.returns-in-Faulty
+returns-in-Faulty g c text h = last_fault g.L.TakesLines.Took g.L.TakesLines.Refuses c.args.self c.in-Faulty.fault text c.in-Faulty.is h

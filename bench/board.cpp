@@ -1,0 +1,38 @@
+// The steps of a board as plain atomic words: how many queues, how many packets in each, whether all complete on one signal (1) or on none (0), at
+// most how many packets of each queue, and how many boards. For bench/board.
+#include <algorithm>
+#include <atomic>
+#include <cstdint>
+#include <cstdlib>
+#include <memory>
+#include <thread>
+#include <vector>
+
+using Word = std::atomic<uint64_t>;
+
+static void take(Word &queue, Word *signal, size_t packets) {
+    for (size_t p = 0; p < packets; p++) {
+        queue.fetch_add(1);  // launch
+        queue.fetch_add(1);  // enter
+        if (signal)
+            signal->fetch_sub(1);  // complete
+        else
+            queue.fetch_add(1);
+    }
+}
+
+int main(int count, char **words) {
+    if (count != 6) return 1;
+    size_t queues = strtoul(words[1], nullptr, 10), packets = strtoul(words[2], nullptr, 10), turns = strtoul(words[5], nullptr, 10);
+    bool counted = strtoul(words[3], nullptr, 10);
+    packets = std::min<size_t>(packets, strtoul(words[4], nullptr, 10));
+    for (size_t turn = 0; turn < turns; turn++) {
+        auto board = std::make_unique<Word[]>(queues + 1);
+        board[queues] = queues * 1024;
+        Word *signal = counted ? &board[queues] : nullptr;
+        std::vector<std::thread> threads;
+        for (size_t q = 1; q < queues; q++) threads.emplace_back(take, std::ref(board[q]), signal, packets);
+        take(board[0], signal, packets);
+        for (auto &thread : threads) thread.join();
+    }
+}

@@ -1,0 +1,11 @@
+use Rattle.std.proofs.Common.{refl}
+use Rattle.hq_job.specs.Plan.{plan}
+use Rattle.hq_engines.specs.Audit.{JobReport}
+use Rattle.hq_engines.specs.Reports.{JobTextReport}
+use Rattle.hq_c.proofs.Given.{answers_one}
+use Rattle.hq_c.proofs.hsaq_audit.Goals as goal
+
+pub returns : goal.returns
+returns c =
+    answers_one _ _ _ _ c.args.job.now (JobTextReport (λ value. JobReport (plan value))) c.new-written.result.items c.audit_engine-status.new.writer.items c.deref.result.now c.args.report.now c.hand_out.new.report c.hand_out.new.whole c.audit_engine-status.result c.hand_out.result
+    refl c.new-written.ensures.items c.deref.ensures.value c.audit_engine-status.ensures c.hand_out.ensures.handed c.hand_out.ensures.code

@@ -1,0 +1,103 @@
+//! `hsaq chart`: a picture of a timeline.
+
+ghost use Rattle.std.specs.Prelude.{◌⊎◌, Bool, codes};
+ghost use Rattle.hq_chart.specs.Chart.{chart_text};
+ghost use Rattle.hq_job.specs.Plan.{plan};
+ghost use Rattle.hq_timeline.specs.Replays.{NotReplayed};
+ghost use Rattle.hq_engines.specs.Chart.{ChartReport};
+ghost use Rattle.hq_engines.specs.Replay.{TimelineReport};
+ghost use Rattle.hq_engines.specs.Reports.{JobTextReport, ReaderReport, Reported, Said, with_feed};
+
+use crate::replay::take_journal;
+use crate::saying::say_memory;
+use crate::status::Status;
+use crate::taking::take_job;
+use hq_chart::{ChartFault, chart};
+use hq_job::Job;
+use hq_machine::{Event, Journal};
+use hq_timeline::{ReplayFault, replay};
+use std::alloc::Global;
+use std::io::{Read, Write};
+
+/// Writes the picture of events that happen, and answers the status.
+fn say_chart<W: Write>(
+    alloc: Global,
+    writer: &mut W,
+    job: &Job,
+    events: &[Event],
+    is_refused: bool,
+    status: Status,
+) -> Status
+    ensures { Said (W.contents writer.old) (W.contents writer.new) (chart_text job.now events.now is_refused) status result
+        ⊎ Said (W.contents writer.old) (W.contents writer.new) (with_feed (codes "out of memory")) Status.Memory result }
+{
+    match chart(alloc, writer, job, events, is_refused) {
+        Ok(()) => status,
+        Err(ChartFault::Memory) => say_memory(writer),
+        Err(ChartFault::Writer) => Status::File,
+    }
+}
+
+/// Draws a journal on a job where its events don't all happen: up to the first that isn't enabled.
+fn chart_stopped<W: Write>(
+    alloc: Global,
+    writer: &mut W,
+    job: &Job,
+    journal: &Journal,
+    fault: ReplayFault,
+) -> Status
+    requires { NotReplayed (plan job.now) journal.now fault }
+    ensures { Reported (ChartReport job.now journal.now) (W.contents writer.old) (W.contents writer.new) result }
+{
+    match fault {
+        ReplayFault::NotEnabled(place) => {
+            let (happened, _) = journal.events().split_at(place);
+            say_chart(alloc, writer, job, happened, true, Status::RunRefused)
+        }
+        ReplayFault::Memory => say_memory(writer),
+    }
+}
+
+/// Draws a journal on a job, up to the first event that isn't enabled.
+fn chart_found<W: Write>(alloc: Global, writer: &mut W, job: &Job, journal: &Journal) -> Status
+    ensures { Reported (ChartReport job.now journal.now) (W.contents writer.old) (W.contents writer.new) result }
+{
+    match replay(alloc, job, journal) {
+        Ok(memory) => {
+            drop(memory);
+            say_chart(alloc, writer, job, journal.events(), false, Status::Done)
+        }
+        Err(fault) => chart_stopped(alloc, writer, job, journal, fault),
+    }
+}
+
+/// Reads a timeline, and draws it on a job.
+fn chart_read<S: Read, W: Write>(
+    alloc: Global,
+    timeline: &mut S,
+    writer: &mut W,
+    job: &Job,
+) -> Status
+    ensures { Reported (ReaderReport S S.remaining timeline.old timeline.new (TimelineReport (ChartReport job.now))) (W.contents writer.old) (W.contents writer.new) result }
+{
+    match take_journal(alloc, timeline, writer) {
+        Ok(journal) => chart_found(alloc, writer, job, &journal),
+        Err(status) => status,
+    }
+}
+
+/// Reads a job and then a timeline, and writes a picture of the timeline's events in SVG, up to the first that isn't enabled. A fault of the
+/// job is written first. Nothing is written before the last growth of memory.
+pub fn chart_engine<R: Read, S: Read, W: Write>(
+    alloc: Global,
+    reader: &mut R,
+    timeline: &mut S,
+    writer: &mut W,
+) -> Status
+    ensures { Reported (ReaderReport R R.remaining reader.old reader.new (JobTextReport (λ job. ReaderReport S S.remaining timeline.old timeline.new (TimelineReport (ChartReport job))))) (W.contents writer.old) (W.contents writer.new) result }
+{
+    match take_job(alloc, reader, writer) {
+        Ok(job) => chart_read(alloc, timeline, writer, &job),
+        Err(status) => status,
+    }
+}

@@ -1,0 +1,5 @@
+use Rattle.hq_model.proofs.settings.raising_orders.Goals as goal
+use Rattle.hq_model.proofs.SettingsRaised as laws
+
+pub returns : goal.returns
+returns c = laws.raising_orders
