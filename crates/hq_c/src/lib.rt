@@ -1,4 +1,4 @@
-//! `libhsaq`: `audit`, `check`, `replay` and `show` as calls from C and C++, declared in `capture/hsaq.h`.
+//! `libhsaq`: `audit`, `check`, `replay` and `show` as calls from C and C++, declared in `library/hsaq.h`.
 //!
 //! Texts come as a pointer and a length, and a report goes into a room of the caller's, as far as it fits; its whole length is told, so
 //! that the caller can ask again with more room. The answer is the program's exit status. Nothing is kept between calls, no thread is
