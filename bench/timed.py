@@ -1,4 +1,5 @@
 """Builds a small program on some of the crates, in a copy of them, and times its runs."""
+import glob
 import os
 import shutil
 import subprocess
@@ -22,6 +23,17 @@ def crate_lines(libraries):
     return [line for name, line in lines.items() if name in needed]
 
 
+def copy_source(crate, name):
+    """Copies a program's source, which stands beside this file, and the invariants of its loops, NAME.FUNCTION.invariants."""
+    stem = os.path.join(HERE, name.replace('_', '-'))
+    os.makedirs(os.path.join(crate, 'src'))
+    shutil.copy(stem + '.rattle', os.path.join(crate, 'src', 'main.rt'))
+    for file in glob.glob(stem + '.*.invariants'):
+        folder = os.path.join(crate, 'proofs', file.split('.')[-2])
+        os.makedirs(folder)
+        shutil.copy(file, os.path.join(folder, 'Invariants.antt'))
+
+
 def build(scratch, name, libraries):
     """The path of the built program, whose source stands beside this file."""
     lines = crate_lines(libraries)
@@ -29,8 +41,7 @@ def build(scratch, name, libraries):
         crate = line.split(':')[0]
         shutil.copytree(os.path.join(ROOT, 'crates', crate), os.path.join(scratch, 'crates', crate))
     crate = os.path.join(scratch, 'crates', name)
-    os.makedirs(os.path.join(crate, 'src'))
-    shutil.copy(os.path.join(HERE, name.replace('_', '-') + '.rattle'), os.path.join(crate, 'src', 'main.rt'))
+    copy_source(crate, name)
     shutil.copy(os.path.join(ROOT, 'HANDLES'), scratch)
     with open(os.path.join(scratch, 'crates.txt'), 'w') as file:
         file.write('\n'.join(lines + ['%s: %s' % (name, ' '.join(libraries)), '']))

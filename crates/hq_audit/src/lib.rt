@@ -18,5 +18,6 @@ mod parts;
 mod slots;
 
 pub use auditing::audit;
+pub use directed::{Directed, Unshown, direct};
 pub use fault::AuditNo;
 pub use hq_fence::{Kind, Why};

@@ -1,5 +1,5 @@
 -- What is drawn of one more event.
-use Rattle.std.proofs.Common.{◌≡◌, ◌<◌, ◌+◌, ℕ, zero, suc, List, [], ◌∷◌, ◌++◌, Option, None, Some, length, take, slice_index_or, ap, refl, sym, subst, ◌∙◌, arith, append_assoc, append-nil, add-one, Result, Ok, Err, OnOk}
+use Rattle.std.proofs.Common.{◌≡◌, ◌<◌, ◌+◌, ℕ, zero, suc, Bool, List, [], ◌∷◌, ◌++◌, Option, None, Some, length, take, slice_index_or, ap, refl, sym, subst, ◌∙◌, arith, append_assoc, append-nil, add-one, Result, Ok, Err, OnOk}
 use Rattle.std.specs.Io.KnownBytes.{Appends}
 use Rattle.hq_job.specs.Value.{JobValue}
 use Rattle.hq_machine.specs.declared.event.Event.{Event}
@@ -27,18 +27,18 @@ rows_next rows n (x ∷ es) (suc i) d l =
     rows_next (moved rows n x) (n + 1) es i d (omega arith) ∙ ap (λ m. moved (rows_after (moved rows n x) (n + 1) (take i es)) m (slice_index_or es i d)) place
 
 -- what is drawn of it
-text_next : (job : JobValue) (rows : List Row) (n : ℕ) (es : List Event) (i : ℕ) (d : Event) → i < length es
-    → events_text job rows n (take (suc i) es) ≡ events_text job rows n (take i es) ++ part_text job (shape_of (rows_after rows n (take i es)) (n + i) (slice_index_or es i d))
-text_next job rows n [] i d l = absurd (omega arith)
-text_next job rows n (x ∷ es) zero d l = append-nil (part_text job (shape_of rows n x)) ∙ ap (λ m. part_text job (shape_of rows m x)) (omega arith)
-text_next job rows n (x ∷ es) (suc i) d l =
+text_next : (job : JobValue) (copies : Bool) (rows : List Row) (n : ℕ) (es : List Event) (i : ℕ) (d : Event) → i < length es
+    → events_text job copies rows n (take (suc i) es) ≡ events_text job copies rows n (take i es) ++ part_text job (shape_of copies (rows_after rows n (take i es)) (n + i) (slice_index_or es i d))
+text_next job copies rows n [] i d l = absurd (omega arith)
+text_next job copies rows n (x ∷ es) zero d l = append-nil (part_text job (shape_of copies rows n x)) ∙ ap (λ m. part_text job (shape_of copies rows m x)) (omega arith)
+text_next job copies rows n (x ∷ es) (suc i) d l =
     let place : n + 1 + i ≡ n + suc i = omega arith in
-    let first = part_text job (shape_of rows n x) in
+    let first = part_text job (shape_of copies rows n x) in
     let after = rows_after (moved rows n x) (n + 1) (take i es) in
     let e = slice_index_or es i d in
-    ap (λ t. first ++ t) (text_next job (moved rows n x) (n + 1) es i d (omega arith))
-    ∙ sym (append_assoc first (events_text job (moved rows n x) (n + 1) (take i es)) (part_text job (shape_of after (n + 1 + i) e)))
-    ∙ ap (λ m. (first ++ events_text job (moved rows n x) (n + 1) (take i es)) ++ part_text job (shape_of after m e)) place
+    ap (λ t. first ++ t) (text_next job copies (moved rows n x) (n + 1) es i d (omega arith))
+    ∙ sym (append_assoc first (events_text job copies (moved rows n x) (n + 1) (take i es)) (part_text job (shape_of copies after (n + 1 + i) e)))
+    ∙ ap (λ m. (first ++ events_text job copies (moved rows n x) (n + 1) (take i es)) ++ part_text job (shape_of copies after m e)) place
 
 pub rows_more : (rows now : List Row) (es : List Event) (i : ℕ) (d : Event) → i < length es → now ≡ rows_after rows 0 (take i es) → moved now i (slice_index_or es i d) ≡ rows_after rows 0 (take (i + 1) es)
 rows_more rows now es i d l is =
@@ -46,15 +46,15 @@ rows_more rows now es i d l is =
     let e = slice_index_or es i d in
     ap (λ r. moved r i e) is ∙ ap (λ m. moved (rows_after rows 0 (take i es)) m e) (sym start) ∙ sym (rows_next rows 0 es i d l) ∙ ap (λ k. rows_after rows 0 (take k es)) (sym (add-one i))
 
-pub text_more : (old mid new : Option (List ℕ)) (job : JobValue) (rows now : List Row) (es : List Event) (i : ℕ) (d : Event) → i < length es → now ≡ rows_after rows 0 (take i es)
-    → Appends old mid (events_text job rows 0 (take i es)) → Appends mid new (part_text job (shape_of now i (slice_index_or es i d))) → Appends old new (events_text job rows 0 (take (i + 1) es))
-text_more old mid new job rows now es i d l is so_far part =
+pub text_more : (old mid new : Option (List ℕ)) (job : JobValue) (copies : Bool) (rows now : List Row) (es : List Event) (i : ℕ) (d : Event) → i < length es → now ≡ rows_after rows 0 (take i es)
+    → Appends old mid (events_text job copies rows 0 (take i es)) → Appends mid new (part_text job (shape_of copies now i (slice_index_or es i d))) → Appends old new (events_text job copies rows 0 (take (i + 1) es))
+text_more old mid new job copies rows now es i d l is so_far part =
     let start : 0 + i ≡ i = omega arith in
     let e = slice_index_or es i d in
-    let same : part_text job (shape_of now i e) ≡ part_text job (shape_of (rows_after rows 0 (take i es)) (0 + i) e) =
-    ap (λ r. part_text job (shape_of r i e)) is ∙ ap (λ m. part_text job (shape_of (rows_after rows 0 (take i es)) m e)) (sym start) in
-    subst (Appends old new) (ap (λ t. events_text job rows 0 (take i es) ++ t) same ∙ sym (text_next job rows 0 es i d l) ∙ ap (λ k. events_text job rows 0 (take k es)) (sym (add-one i)))
-    (appends_more old mid new (events_text job rows 0 (take i es)) (part_text job (shape_of now i e)) so_far part)
+    let same : part_text job (shape_of copies now i e) ≡ part_text job (shape_of copies (rows_after rows 0 (take i es)) (0 + i) e) =
+    ap (λ r. part_text job (shape_of copies r i e)) is ∙ ap (λ m. part_text job (shape_of copies (rows_after rows 0 (take i es)) m e)) (sym start) in
+    subst (Appends old new) (ap (λ t. events_text job copies rows 0 (take i es) ++ t) same ∙ sym (text_next job copies rows 0 es i d l) ∙ ap (λ k. events_text job copies rows 0 (take k es)) (sym (add-one i)))
+    (appends_more old mid new (events_text job copies rows 0 (take i es)) (part_text job (shape_of copies now i e)) so_far part)
 
 -- five texts behind one another
 pub five_parts : (a b c d e : List ℕ) → a ++ (b ++ (c ++ (d ++ e))) ≡ a ++ b ++ c ++ d ++ e

@@ -28,8 +28,12 @@ line_of packets queue = 74 + 16 * packets + 8 * queue
 abbrev pub agent_line : JobValue → ℕ → ℕ
 agent_line job agent = line_of (length job.packets) (length job.queues) + 16 * agent
 
-abbrev pub height_of : JobValue → ℕ
-height_of job = agent_line job (length job.agents)
+-- agents have rows where copies are asked for
+abbrev pub agents_drawn : JobValue → Bool → ℕ
+agents_drawn job copies = if copies then length job.agents else 0
+
+abbrev pub height_of : JobValue → Bool → ℕ
+height_of job copies = agent_line job (agents_drawn job copies)
 
 -- a packet as it is told of, and where its row lies
 abbrev pub spot_in : ℕ → Placed → Option Queue → Option Spot
@@ -111,8 +115,8 @@ abbrev pub opening_text : ℕ → ℕ → List ℕ
 opening_text width height = codes "<svg xmlns='http://www.w3.org/2000/svg' " ++ size_text width height ++ codes ">\n"
 
 -- its size, by how many events it has, and the row of the host where queues are rings
-abbrev pub head_text : JobValue → ℕ → List ℕ
-head_text job events = opening_text (events + 40) (height_of job) ++ legend_text job.rings
+abbrev pub head_text : JobValue → Bool → ℕ → List ℕ
+head_text job copies events = opening_text (events + 40) (height_of job copies) ++ legend_text job.rings
 
 -- a row's number and its queue's name
 abbrev pub label_of : Spot → List ℕ
@@ -146,9 +150,9 @@ agents_text job zero = []
 agents_text job (suc n) = agents_text job n ++ agent_label job n
 
 -- what is drawn of events, the first of which has this place
-abbrev pub events_text : JobValue → List Row → ℕ → List Event → List ℕ
-events_text job rows place [] = []
-events_text job rows place (e ∷ es) = part_text job (shape_of rows place e) ++ events_text job (moved rows place e) (place + 1) es
+abbrev pub events_text : JobValue → Bool → List Row → ℕ → List Event → List ℕ
+events_text job copies rows place [] = []
+events_text job copies rows place (e ∷ es) = part_text job (shape_of copies rows place e) ++ events_text job copies (moved rows place e) (place + 1) es
 
 -- the bars of the first packets, up to the end, as far as they aren't complete
 abbrev pub open_text : JobValue → List Row → ℕ → ℕ → List ℕ
@@ -166,20 +170,21 @@ end_line place height = codes "<path class='x' d='M" ++ decimal place ++ codes "
 abbrev pub end_note : ℕ → List ℕ
 end_note place = codes "<text x='" ++ decimal place ++ codes "0' y='58' dx='4'>event " ++ decimal place ++ codes " is not enabled</text>\n"
 
-abbrev pub refusal_text : JobValue → ℕ → List ℕ
-refusal_text job place = end_line place (height_of job) ++ end_note place
+abbrev pub refusal_text : JobValue → Bool → ℕ → List ℕ
+refusal_text job copies place = end_line place (height_of job copies) ++ end_note place
 
-abbrev pub end_text : JobValue → ℕ → Bool → List ℕ
-end_text job place refused = if refused then refusal_text job place else []
+abbrev pub end_text : JobValue → Bool → ℕ → Bool → List ℕ
+end_text job copies place refused = if refused then refusal_text job copies place else []
 
 -- ---- the whole
 
-abbrev pub drawn_text : JobValue → List Row → List Event → Bool → List ℕ
-drawn_text job rows events refused =
-    head_text job (length events) ++ rows_text job (length job.packets) ++ agents_text job (length job.agents) ++ events_text job rows 0 events
+abbrev pub drawn_text : JobValue → Bool → List Row → List Event → Bool → List ℕ
+drawn_text job copies rows events refused =
+    head_text job copies (length events) ++ rows_text job (length job.packets) ++ agents_text job (agents_drawn job copies) ++ events_text job copies rows 0 events
     ++ left_text job (rows_after rows 0 events) (length events)
-    ++ end_text job (length events) refused ++ codes "</svg>\n"
+    ++ end_text job copies (length events) refused ++ codes "</svg>\n"
 
--- The picture of events that happened, with the refusal of the next one behind them where there is one.
-abbrev pub chart_text : JobValue → List Event → Bool → List ℕ
-chart_text job events refused = drawn_text job (rows_of job.packets) events refused
+-- The picture of events that happened, those of copies only where these are asked for, with the refusal of the next one behind them where
+-- there is one.
+abbrev pub chart_text : JobValue → Bool → List Event → Bool → List ℕ
+chart_text job copies events refused = drawn_text job copies (rows_of job.packets) events refused

@@ -1,5 +1,5 @@
 -- What packets do while events happen, and what is drawn of each event.
-use Rattle.std.specs.Prelude.{ℕ, ◌+◌, Bool, true, false, ◌&&◌, ◌==◌, List, [], ◌∷◌, Option, Some, None, map, slice_get, slice_set}
+use Rattle.std.specs.Prelude.{ℕ, ◌+◌, Bool, true, false, ◌&&◌, ◌==◌, if◌then◌else◌, List, [], ◌∷◌, Option, Some, None, map, slice_get, slice_set}
 use Rattle.std.specs.List.{position}
 use Rattle.hq_job.specs.declared.rows.Placed.{Placed}
 use Rattle.hq_machine.specs.declared.event.Event.{Event}
@@ -105,22 +105,25 @@ copies_shape_of place (event.FillAgent agent byte) = Some (shape.AgentMark mark.
 copies_shape_of place (event.DropLane p byte) = Some (shape.Mark mark.Drops p place)
 copies_shape_of place (event.DropAgent agent byte) = Some (shape.AgentMark mark.Drops agent place)
 
--- what is drawn of the event of a place: a mark, or the bar of the phase that it ends
-abbrev pub shape_of : List Row → ℕ → Event → Option Shape
-shape_of rows place event.Submit = Some (shape.Submission place)
-shape_of rows place (event.Launch queue) = None
-shape_of rows place (event.Observe p slot) = Some (shape.Mark mark.Sees p place)
-shape_of rows place (event.Enter p) = bar_of rows p place
-shape_of rows place (event.Fetch p) = Some (shape.Mark mark.Reads p place)
-shape_of rows place (event.Deliver p) = Some (shape.Mark mark.Stores p place)
-shape_of rows place (event.Complete p) = bar_of rows p place
-shape_of rows place event.Rest = None
-shape_of rows place (event.Read p entry) = Some (shape.Mark mark.Reads p place)
-shape_of rows place (event.Store p entry) = Some (shape.Mark mark.Stores p place)
-shape_of rows place (event.Finish p) = bar_of rows p place
-shape_of rows place (event.PushLane p byte) = copies_shape_of place (event.PushLane p byte)
-shape_of rows place (event.PushAgent agent byte) = copies_shape_of place (event.PushAgent agent byte)
-shape_of rows place (event.FillLane p byte) = copies_shape_of place (event.FillLane p byte)
-shape_of rows place (event.FillAgent agent byte) = copies_shape_of place (event.FillAgent agent byte)
-shape_of rows place (event.DropLane p byte) = copies_shape_of place (event.DropLane p byte)
-shape_of rows place (event.DropAgent agent byte) = copies_shape_of place (event.DropAgent agent byte)
+abbrev pub copies_shape_if : Bool → ℕ → Event → Option Shape
+copies_shape_if copies place e = if copies then copies_shape_of place e else None
+
+-- what is drawn of the event of a place: a mark, or the bar of the phase that it ends; of events of copies only where these are asked for
+abbrev pub shape_of : Bool → List Row → ℕ → Event → Option Shape
+shape_of copies rows place event.Submit = Some (shape.Submission place)
+shape_of copies rows place (event.Launch queue) = None
+shape_of copies rows place (event.Observe p slot) = Some (shape.Mark mark.Sees p place)
+shape_of copies rows place (event.Enter p) = bar_of rows p place
+shape_of copies rows place (event.Fetch p) = Some (shape.Mark mark.Reads p place)
+shape_of copies rows place (event.Deliver p) = Some (shape.Mark mark.Stores p place)
+shape_of copies rows place (event.Complete p) = bar_of rows p place
+shape_of copies rows place event.Rest = None
+shape_of copies rows place (event.Read p entry) = Some (shape.Mark mark.Reads p place)
+shape_of copies rows place (event.Store p entry) = Some (shape.Mark mark.Stores p place)
+shape_of copies rows place (event.Finish p) = bar_of rows p place
+shape_of copies rows place (event.PushLane p byte) = copies_shape_if copies place (event.PushLane p byte)
+shape_of copies rows place (event.PushAgent agent byte) = copies_shape_if copies place (event.PushAgent agent byte)
+shape_of copies rows place (event.FillLane p byte) = copies_shape_if copies place (event.FillLane p byte)
+shape_of copies rows place (event.FillAgent agent byte) = copies_shape_if copies place (event.FillAgent agent byte)
+shape_of copies rows place (event.DropLane p byte) = copies_shape_if copies place (event.DropLane p byte)
+shape_of copies rows place (event.DropAgent agent byte) = copies_shape_if copies place (event.DropAgent agent byte)

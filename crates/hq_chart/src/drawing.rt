@@ -21,23 +21,24 @@ use std::io::Write;
 fn write_all<W: Write>(
     writer: &mut W,
     job: &Job,
+    copies: bool,
     rows: &mut [Row],
     events: &[Event],
     is_refused: bool,
 ) -> io::Result<()>
-    ensures { OnOk result (Appends (W.contents writer.old) (W.contents writer.new) (drawn_text job.now rows.old events.now is_refused)) }
+    ensures { OnOk result (Appends (W.contents writer.old) (W.contents writer.new) (drawn_text job.now copies rows.old events.now is_refused)) }
 {
-    write_head(writer, job, events)?;
+    write_head(writer, job, copies, events)?;
     write_rows(writer, job)?;
-    write_agents(writer, job)?;
-    write_events(writer, job, rows, events)?;
+    write_agents(writer, job, copies)?;
+    write_events(writer, job, copies, rows, events)?;
     write_open(writer, job, rows, events)?;
-    write_end(writer, job, events, is_refused)?;
+    write_end(writer, job, copies, events, is_refused)?;
     write_closing(writer)
 }
 
-/// Writes the picture of events on a job, and where another that isn't enabled comes behind them says so. Nothing is written before the
-/// last growth of memory.
+/// Writes the picture of events on a job, those of copies only where these are asked for, and where another that isn't enabled comes behind
+/// them says so. Nothing is written before the last growth of memory.
 ///
 /// # Errors
 ///
@@ -46,13 +47,14 @@ pub fn chart<W: Write>(
     alloc: Global,
     writer: &mut W,
     job: &Job,
+    copies: bool,
     events: &[Event],
     is_refused: bool,
 ) -> Result<(), ChartFault>
-    ensures drawn { OnOk result (Appends (W.contents writer.old) (W.contents writer.new) (chart_text job.now events.now is_refused)) }
+    ensures drawn { OnOk result (Appends (W.contents writer.old) (W.contents writer.new) (chart_text job.now copies events.now is_refused)) }
     ensures unwritten { IfErr result (λ e. e ≡ Memory → writer.new ≡ writer.old) }
 {
     let mut rows = rows_of(alloc, job.packets())?;
-    write_all(writer, job, &mut rows, events, is_refused)?;
+    write_all(writer, job, copies, &mut rows, events, is_refused)?;
     Ok(())
 }

@@ -1,7 +1,7 @@
 //! What packets do, event by event.
 
 ghost use Rattle.std.specs.Prelude.{◌≡◌, Some, IfOk};
-ghost use Rattle.hq_chart.specs.Rows.{bar_of, bar_of_stage, copies_shape_of, first_ahead, is_ahead, moved, rows_of, shape_of, with_stage};
+ghost use Rattle.hq_chart.specs.Rows.{bar_of, bar_of_stage, copies_shape_if, copies_shape_of, first_ahead, is_ahead, moved, rows_of, shape_of, with_stage};
 
 use crate::shape::{Mark, Phase, Shape};
 use hq_job::Placed;
@@ -149,9 +149,20 @@ fn copies_shape_of(place: usize, event: Event) -> Option<Shape>
     }
 }
 
-/// What is drawn of the event of a place.
-pub fn shape_of(rows: &[Row], place: usize, event: Event) -> Option<Shape>
-    ensures { result ≡ shape_of rows.now place event }
+/// What is drawn of an event of copies where these are asked for.
+fn copies_shape_if(copies: bool, place: usize, event: Event) -> Option<Shape>
+    ensures { result ≡ copies_shape_if copies place event }
+{
+    if copies {
+        copies_shape_of(place, event)
+    } else {
+        None
+    }
+}
+
+/// What is drawn of the event of a place; of one of copies only where these are asked for.
+pub fn shape_of(copies: bool, rows: &[Row], place: usize, event: Event) -> Option<Shape>
+    ensures { result ≡ shape_of copies rows.now place event }
 {
     match event {
         Event::Submit => Some(Shape::Submission { at: place }),
@@ -168,7 +179,7 @@ pub fn shape_of(rows: &[Row], place: usize, event: Event) -> Option<Shape>
         | Event::DropLane { .. }
         | Event::FillAgent { .. }
         | Event::PushAgent { .. }
-        | Event::DropAgent { .. } => copies_shape_of(place, event),
+        | Event::DropAgent { .. } => copies_shape_if(copies, place, event),
         Event::Launch { .. } | Event::Rest => None,
     }
 }

@@ -1,7 +1,7 @@
 //! Where a packet's row lies, and what is told of it.
 
 ghost use Rattle.std.specs.Prelude.{◌≡◌, ◌≤◌, ◌<◌, ◌^◌};
-ghost use Rattle.hq_chart.specs.Chart.{agent_line, height_of, line_of, spot_of};
+ghost use Rattle.hq_chart.specs.Chart.{agent_line, agents_drawn, height_of, line_of, spot_of};
 
 use hq_job::Job;
 use hq_report::ShownPacket;
@@ -49,10 +49,18 @@ pub fn agent_line(job: &Job, agent: usize) -> usize
     line_of(job.packets().len(), job.queues().len()) + 16 * agent
 }
 
-/// How high the picture is.
-pub fn height_of(job: &Job) -> usize
-    ensures { result ≡ height_of job.now }
+/// How many agents have rows: all where copies are asked for, else none.
+pub fn agents_drawn(job: &Job, copies: bool) -> usize
+    ensures drawn { result ≡ agents_drawn job.now copies }
+    ensures few { result < 2 ^ 32 }
 {
     job.valid();
-    agent_line(job, job.agents())
+    if copies { job.agents() } else { 0 }
+}
+
+/// How high the picture is.
+pub fn height_of(job: &Job, copies: bool) -> usize
+    ensures { result ≡ height_of job.now copies }
+{
+    agent_line(job, agents_drawn(job, copies))
 }

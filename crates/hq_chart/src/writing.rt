@@ -2,12 +2,12 @@
 
 ghost use Rattle.std.specs.Prelude.{◌≡◌, ◌+◌, ◌<◌, ◌^◌, OnOk, Some, option_map, slice_get, length, codes};
 ghost use Rattle.std.specs.Io.KnownBytes.{Appends};
-ghost use Rattle.hq_chart.specs.Chart.{agent_label, agent_line, agent_text, height_of, host_text, outline_text, size_text, legend_text, opening_text, end_line, end_note, end_text, agents_text, bar_text, label_of, label_text, mark_text, left_text, part_text, head_text, phase_word, rows_text, refusal_text, shape_text, events_text};
+ghost use Rattle.hq_chart.specs.Chart.{agent_label, agent_line, agents_drawn, agent_text, height_of, host_text, outline_text, size_text, legend_text, opening_text, end_line, end_note, end_text, agents_text, bar_text, label_of, label_text, mark_text, left_text, part_text, head_text, phase_word, rows_text, refusal_text, shape_text, events_text};
 ghost use Rattle.hq_chart.specs.Rows.{rows_after};
 
 use crate::rows::{Row, advance, bar_of, shape_of};
 use crate::shape::{Mark, Phase, Shape};
-use crate::spots::{Spot, agent_line, height_of, spot_of};
+use crate::spots::{Spot, agent_line, agents_drawn, height_of, spot_of};
 use hq_job::Job;
 use hq_machine::Event;
 use hq_report::ShownPacket;
@@ -211,21 +211,31 @@ impl fmt::Display for Opening {
 }
 
 /// Writes the tag that opens the picture.
-fn write_opening<W: Write>(writer: &mut W, job: &Job, events: &[Event]) -> io::Result<()>
-    ensures { OnOk result (Appends (W.contents writer.old) (W.contents writer.new) (opening_text (length events.now + 40) (height_of job.now))) }
+fn write_opening<W: Write>(
+    writer: &mut W,
+    job: &Job,
+    copies: bool,
+    events: &[Event],
+) -> io::Result<()>
+    ensures { OnOk result (Appends (W.contents writer.old) (W.contents writer.new) (opening_text (length events.now + 40) (height_of job.now copies))) }
 {
     let opening = Opening(SizeText {
         width: width_of(events),
-        height: height_of(job),
+        height: height_of(job, copies),
     });
     write!(writer, "{opening}")
 }
 
 /// Writes how the picture begins: its size, by how many events it has, and what its signs mean.
-pub fn write_head<W: Write>(writer: &mut W, job: &Job, events: &[Event]) -> io::Result<()>
-    ensures { OnOk result (Appends (W.contents writer.old) (W.contents writer.new) (head_text job.now (length events.now))) }
+pub fn write_head<W: Write>(
+    writer: &mut W,
+    job: &Job,
+    copies: bool,
+    events: &[Event],
+) -> io::Result<()>
+    ensures { OnOk result (Appends (W.contents writer.old) (W.contents writer.new) (head_text job.now copies (length events.now))) }
 {
-    write_opening(writer, job, events)?;
+    write_opening(writer, job, copies, events)?;
     write_legend(writer, job.rings())
 }
 
@@ -311,29 +321,29 @@ fn write_agent<W: Write>(writer: &mut W, job: &Job, agent: usize) -> io::Result<
     }
 }
 
-/// Writes the labels of agents' rows.
-pub fn write_agents<W: Write>(writer: &mut W, job: &Job) -> io::Result<()>
-    ensures { OnOk result (Appends (W.contents writer.old) (W.contents writer.new) (agents_text job.now (length job.now.agents))) }
+/// Writes the labels of agents' rows, which are there where copies are asked for.
+pub fn write_agents<W: Write>(writer: &mut W, job: &Job, copies: bool) -> io::Result<()>
+    ensures { OnOk result (Appends (W.contents writer.old) (W.contents writer.new) (agents_text job.now (agents_drawn job.now copies))) }
 {
-    job.valid();
-    for agent in 0..job.agents() {
+    for agent in 0..agents_drawn(job, copies) {
         write_agent(writer, job, agent)?;
     }
     Ok(())
 }
 
-/// Writes the shapes of events.
+/// Writes the shapes of events, of those of copies only where these are asked for.
 pub fn write_events<W: Write>(
     writer: &mut W,
     job: &Job,
+    copies: bool,
     rows: &mut [Row],
     events: &[Event],
 ) -> io::Result<()>
-    ensures written { OnOk result (Appends (W.contents writer.old) (W.contents writer.new) (events_text job.now rows.old 0 events.now)) }
+    ensures written { OnOk result (Appends (W.contents writer.old) (W.contents writer.new) (events_text job.now copies rows.old 0 events.now)) }
     ensures rows { OnOk result (rows.new ≡ rows_after rows.old 0 events.now) }
 {
     for (place, event) in events.iter().enumerate() {
-        let shape = shape_of(rows, place, *event);
+        let shape = shape_of(copies, rows, place, *event);
         write_part(writer, job, shape)?;
         advance(rows, place, *event);
     }
@@ -358,11 +368,16 @@ pub fn write_open<W: Write>(
 }
 
 /// Writes the line down the picture at which it ends.
-fn write_end_line<W: Write>(writer: &mut W, job: &Job, events: &[Event]) -> io::Result<()>
-    ensures { OnOk result (Appends (W.contents writer.old) (W.contents writer.new) (end_line (length events.now) (height_of job.now))) }
+fn write_end_line<W: Write>(
+    writer: &mut W,
+    job: &Job,
+    copies: bool,
+    events: &[Event],
+) -> io::Result<()>
+    ensures { OnOk result (Appends (W.contents writer.old) (W.contents writer.new) (end_line (length events.now) (height_of job.now copies))) }
 {
     let place = events.len();
-    let height = height_of(job);
+    let height = height_of(job, copies);
     write!(writer, "<path class='x' d='M{place}0 46V{height}'/>\n")
 }
 
@@ -391,10 +406,15 @@ fn write_end_note<W: Write>(writer: &mut W, events: &[Event]) -> io::Result<()>
 }
 
 /// Writes that the event behind these isn't enabled.
-fn write_refusal<W: Write>(writer: &mut W, job: &Job, events: &[Event]) -> io::Result<()>
-    ensures { OnOk result (Appends (W.contents writer.old) (W.contents writer.new) (refusal_text job.now (length events.now))) }
+fn write_refusal<W: Write>(
+    writer: &mut W,
+    job: &Job,
+    copies: bool,
+    events: &[Event],
+) -> io::Result<()>
+    ensures { OnOk result (Appends (W.contents writer.old) (W.contents writer.new) (refusal_text job.now copies (length events.now))) }
 {
-    write_end_line(writer, job, events)?;
+    write_end_line(writer, job, copies, events)?;
     write_end_note(writer, events)
 }
 
@@ -402,13 +422,14 @@ fn write_refusal<W: Write>(writer: &mut W, job: &Job, events: &[Event]) -> io::R
 pub fn write_end<W: Write>(
     writer: &mut W,
     job: &Job,
+    copies: bool,
     events: &[Event],
     is_refused: bool,
 ) -> io::Result<()>
-    ensures { OnOk result (Appends (W.contents writer.old) (W.contents writer.new) (end_text job.now (length events.now) is_refused)) }
+    ensures { OnOk result (Appends (W.contents writer.old) (W.contents writer.new) (end_text job.now copies (length events.now) is_refused)) }
 {
     if is_refused {
-        write_refusal(writer, job, events)
+        write_refusal(writer, job, copies, events)
     } else {
         Ok(())
     }

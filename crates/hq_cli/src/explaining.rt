@@ -9,6 +9,10 @@ const NOT_ENABLED: &str = "an event isn't enabled after those before it";
 
 const STUCK: &str = "these packets can never complete, in any run";
 
+const DRAWN_STUCK: &str = "the packets drawn in red can never complete, in any run";
+
+const DRAWN_CONFLICT: &str = "nothing orders the conflicts that are drawn in red";
+
 /// What the codes of refusals mean. A number that stands behind a code goes behind its meaning.
 const MEANINGS: [(&str, &str); 44] = [
     (
@@ -179,12 +183,20 @@ impl<'a> fmt::Display for Conflict<'a> {
     }
 }
 
-/// Says what a conflict is.
+/// Says what a conflict is, or that conflicts are drawn.
 fn explain_conflict(rt: &HostRuntime, answer: &str) -> io::Result<()> {
     match Conflict::of_answer(answer) {
         Some(conflict) => eprintln!(rt; "hsaq: {conflict}"),
-        None => Ok(()),
+        None => eprintln!(rt; "hsaq: {DRAWN_CONFLICT}"),
     }
+}
+
+/// Says what stuck packets are, told of or drawn.
+fn explain_stuck(rt: &HostRuntime, answer: &str) -> io::Result<()> {
+    if answer.starts_with("digraph") {
+        return eprintln!(rt; "hsaq: {DRAWN_STUCK}");
+    }
+    eprintln!(rt; "hsaq: {STUCK}")
 }
 
 /// Says what is wrong with a text.
@@ -223,7 +235,7 @@ pub fn explain(rt: &HostRuntime, status: Status, answer: &str) {
         Status::Words => eprintln!(rt; "hsaq: {WORDS}"),
         Status::JobRefused => explain_refusal(rt, "job", answer),
         Status::Conflict => explain_conflict(rt, answer),
-        Status::Stuck => eprintln!(rt; "hsaq: {STUCK}"),
+        Status::Stuck => explain_stuck(rt, answer),
         Status::CertificateRefused => explain_refusal(rt, "certificate", answer),
         Status::RunRefused => explain_run(rt, answer),
     };

@@ -10,7 +10,8 @@ mod progress;
 use explaining::{explain, explain_unopened};
 use heard::Heard;
 use hq_engines::{
-    Status, audit_engine, chart_engine, check_engine, job_engine, pack_engine, replay_engine,
+    Status, audit_engine, chart_engine, check_engine, graph_engine, job_engine, pack_engine,
+    replay_engine,
     run_engine, say_file, say_memory, show_engine,
 };
 use hq_job::Job;
@@ -89,11 +90,26 @@ fn replay<W: Write>(rt: &HostRuntime, job: &str, timeline: &str, writer: &mut W)
 }
 
 /// Opens both files before it reads either.
-fn chart<W: Write>(rt: &HostRuntime, job: &str, timeline: &str, writer: &mut W) -> Status {
+fn chart<W: Write>(
+    rt: &HostRuntime,
+    job: &str,
+    timeline: &str,
+    copies: bool,
+    writer: &mut W,
+) -> Status {
     match (open(rt, job), open_file(rt, timeline)) {
-        (Ok(mut input), Ok(mut file)) => chart_engine(rt.alloc(), &mut input, &mut file, writer),
+        (Ok(mut input), Ok(mut file)) => {
+            chart_engine(rt.alloc(), &mut input, &mut file, copies, writer)
+        }
         (Err(error), _) => say_unopened(rt, job, &error, writer),
         (_, Err(error)) => say_unopened(rt, timeline, &error, writer),
+    }
+}
+
+fn graph<W: Write>(rt: &HostRuntime, job: &str, writer: &mut W) -> Status {
+    match open(rt, job) {
+        Ok(mut input) => graph_engine(rt.alloc(), &mut input, writer),
+        Err(error) => say_unopened(rt, job, &error, writer),
     }
 }
 
@@ -158,7 +174,12 @@ fn answer<W: Write>(
         Asked::Check { job, certificate } => check(rt, threads, job, certificate, writer),
         Asked::Run { job, timeline } => run(rt, threads, job, *timeline, writer),
         Asked::Replay { job, timeline } => replay(rt, job, timeline, writer),
-        Asked::Chart { job, timeline } => chart(rt, job, timeline, writer),
+        Asked::Chart {
+            job,
+            timeline,
+            copies,
+        } => chart(rt, job, timeline, *copies, writer),
+        Asked::Graph { job } => graph(rt, job, writer),
     }
 }
 

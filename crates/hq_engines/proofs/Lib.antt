@@ -8,3 +8,4 @@ pub mod Replays
 pub mod Runs
 pub mod ReadTexts
 pub mod Charts
+pub mod Graphs

@@ -9,3 +9,4 @@ pub mod Buffers
 pub mod Replay
 pub mod Run
 pub mod Chart
+pub mod Graph

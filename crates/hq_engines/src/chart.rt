@@ -24,14 +24,15 @@ fn say_chart<W: Write>(
     alloc: Global,
     writer: &mut W,
     job: &Job,
+    copies: bool,
     events: &[Event],
     is_refused: bool,
     status: Status,
 ) -> Status
-    ensures { Said (W.contents writer.old) (W.contents writer.new) (chart_text job.now events.now is_refused) status result
+    ensures { Said (W.contents writer.old) (W.contents writer.new) (chart_text job.now copies events.now is_refused) status result
         ⊎ Said (W.contents writer.old) (W.contents writer.new) (with_feed (codes "out of memory")) Status.Memory result }
 {
-    match chart(alloc, writer, job, events, is_refused) {
+    match chart(alloc, writer, job, copies, events, is_refused) {
         Ok(()) => status,
         Err(ChartFault::Memory) => say_memory(writer),
         Err(ChartFault::Writer) => Status::File,
@@ -43,31 +44,54 @@ fn chart_stopped<W: Write>(
     alloc: Global,
     writer: &mut W,
     job: &Job,
+    copies: bool,
     journal: &Journal,
     fault: ReplayFault,
 ) -> Status
     requires { NotReplayed (plan job.now) journal.now fault }
-    ensures { Reported (ChartReport job.now journal.now) (W.contents writer.old) (W.contents writer.new) result }
+    ensures { Reported (ChartReport job.now copies journal.now) (W.contents writer.old) (W.contents writer.new) result }
 {
     match fault {
         ReplayFault::NotEnabled(place) => {
             let (happened, _) = journal.events().split_at(place);
-            say_chart(alloc, writer, job, happened, true, Status::RunRefused)
+            say_chart(
+                alloc,
+                writer,
+                job,
+                copies,
+                happened,
+                true,
+                Status::RunRefused,
+            )
         }
         ReplayFault::Memory => say_memory(writer),
     }
 }
 
 /// Draws a journal on a job, up to the first event that isn't enabled.
-fn chart_found<W: Write>(alloc: Global, writer: &mut W, job: &Job, journal: &Journal) -> Status
-    ensures { Reported (ChartReport job.now journal.now) (W.contents writer.old) (W.contents writer.new) result }
+fn chart_found<W: Write>(
+    alloc: Global,
+    writer: &mut W,
+    job: &Job,
+    copies: bool,
+    journal: &Journal,
+) -> Status
+    ensures { Reported (ChartReport job.now copies journal.now) (W.contents writer.old) (W.contents writer.new) result }
 {
     match replay(alloc, job, journal) {
         Ok(memory) => {
             drop(memory);
-            say_chart(alloc, writer, job, journal.events(), false, Status::Done)
+            say_chart(
+                alloc,
+                writer,
+                job,
+                copies,
+                journal.events(),
+                false,
+                Status::Done,
+            )
         }
-        Err(fault) => chart_stopped(alloc, writer, job, journal, fault),
+        Err(fault) => chart_stopped(alloc, writer, job, copies, journal, fault),
     }
 }
 
@@ -77,27 +101,29 @@ fn chart_read<S: Read, W: Write>(
     timeline: &mut S,
     writer: &mut W,
     job: &Job,
+    copies: bool,
 ) -> Status
-    ensures { Reported (ReaderReport S S.remaining timeline.old timeline.new (TimelineReport (ChartReport job.now))) (W.contents writer.old) (W.contents writer.new) result }
+    ensures { Reported (ReaderReport S S.remaining timeline.old timeline.new (TimelineReport (ChartReport job.now copies))) (W.contents writer.old) (W.contents writer.new) result }
 {
     match take_journal(alloc, timeline, writer) {
-        Ok(journal) => chart_found(alloc, writer, job, &journal),
+        Ok(journal) => chart_found(alloc, writer, job, copies, &journal),
         Err(status) => status,
     }
 }
 
-/// Reads a job and then a timeline, and writes a picture of the timeline's events in SVG, up to the first that isn't enabled. A fault of the
-/// job is written first. Nothing is written before the last growth of memory.
+/// Reads a job and then a timeline, and writes a picture of the timeline's events in SVG, those of copies only where they are asked for, up to
+/// the first that isn't enabled. A fault of the job is written first. Nothing is written before the last growth of memory.
 pub fn chart_engine<R: Read, S: Read, W: Write>(
     alloc: Global,
     reader: &mut R,
     timeline: &mut S,
+    copies: bool,
     writer: &mut W,
 ) -> Status
-    ensures { Reported (ReaderReport R R.remaining reader.old reader.new (JobTextReport (λ job. ReaderReport S S.remaining timeline.old timeline.new (TimelineReport (ChartReport job))))) (W.contents writer.old) (W.contents writer.new) result }
+    ensures { Reported (ReaderReport R R.remaining reader.old reader.new (JobTextReport (λ job. ReaderReport S S.remaining timeline.old timeline.new (TimelineReport (ChartReport job copies))))) (W.contents writer.old) (W.contents writer.new) result }
 {
     match take_job(alloc, reader, writer) {
-        Ok(job) => chart_read(alloc, timeline, writer, &job),
+        Ok(job) => chart_read(alloc, timeline, writer, &job, copies),
         Err(status) => status,
     }
 }

@@ -7,4 +7,4 @@ mod refusals;
 mod shown;
 
 pub use refusals::{FootCode, JobRefusal, PacketCode, PacketRefusal, ReasonCode};
-pub use shown::ShownPacket;
+pub use shown::{KindWord, ScopeWord, ShownPacket};

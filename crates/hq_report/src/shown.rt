@@ -10,7 +10,7 @@ use std::fmt;
 
 /// A scope's word: none, agent or system.
 #[derive(Clone, Copy, Debug)]
-struct ScopeWord(Scope);
+pub struct ScopeWord(pub Scope);
 
 impl fmt::Display for ScopeWord {
     ghost use Rattle.hq_report.specs.Shown.{scope_word};
@@ -167,7 +167,7 @@ impl fmt::Display for Doing {
 
 /// A packet's kind: kernel, agent, and, or.
 #[derive(Clone, Copy, Debug)]
-struct KindWord(Packet);
+pub struct KindWord(pub Packet);
 
 impl fmt::Display for KindWord {
     ghost use Rattle.hq_report.specs.Shown.{kind_word};

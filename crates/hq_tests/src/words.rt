@@ -40,10 +40,24 @@ fn each_command_is_taken(rt: HostRuntime) -> Result<(), Fail> {
             asked,
             Asked::Chart {
                 job: "a",
-                timeline: "b"
+                timeline: "b",
+                copies: false
             }
         )
     );
+    let asked = command_of(rt.alloc(), &["chart", "a", "b", "--copies"])?;
+    assert!(rt;
+        matches!(
+            asked,
+            Asked::Chart {
+                job: "a",
+                timeline: "b",
+                copies: true
+            }
+        )
+    );
+    let asked = command_of(rt.alloc(), &["graph", "a"])?;
+    assert!(rt; matches!(asked, Asked::Graph { job: "a" }));
     let asked = command_of(rt.alloc(), &["pack", "and", "0"])?;
     assert!(rt; matches!(asked, Asked::Pack { .. }));
     Ok(())

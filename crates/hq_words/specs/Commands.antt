@@ -1,7 +1,7 @@
 -- The program's commands, as `clap`'s own definitions speak of them.
 use Rattle.std.specs.Prelude.{true, Some, codes}
 use Rattle.clap.specs.Words.{App, Rule, new_app, new_rule, with_rule, with_subcommand}
-use Rattle.clap.specs.declared.builder.action.ArgAction.TheVariants.{Set, Append}
+use Rattle.clap.specs.declared.builder.action.ArgAction.TheVariants.{Set, SetTrue, Append}
 
 abbrev pub job_rule : Rule
 job_rule = record (new_rule (codes "JOB")) { required = true; action = Some Set }
@@ -24,8 +24,15 @@ check_app = with_rule (with_rule (new_app (codes "check")) job_rule) file_rule
 abbrev pub replay_app : App
 replay_app = with_rule (with_rule (new_app (codes "replay")) job_rule) timeline_rule
 
+-- the flag `--copies`
+abbrev pub copies_rule : Rule
+copies_rule = record (new_rule (codes "COPIES")) { long = Some (codes "copies"); action = Some SetTrue }
+
 abbrev pub chart_app : App
-chart_app = with_rule (with_rule (new_app (codes "chart")) job_rule) timeline_rule
+chart_app = with_rule (with_rule (with_rule (new_app (codes "chart")) job_rule) timeline_rule) copies_rule
+
+abbrev pub graph_app : App
+graph_app = with_rule (new_app (codes "graph")) job_rule
 
 -- not a word by its place, but the one behind `--timeline`
 abbrev pub out_rule : Rule
@@ -50,4 +57,4 @@ abbrev pub hsaq_app : App
 hsaq_app =
     let judging = with_subcommand (with_subcommand program_app audit_app.top) check_app.top in
     let running = with_subcommand (with_subcommand (with_subcommand judging run_app.top) replay_app.top) chart_app.top in
-    with_subcommand (with_subcommand running show_app.top) pack_app.top
+    with_subcommand (with_subcommand (with_subcommand running graph_app.top) show_app.top) pack_app.top

@@ -3,7 +3,7 @@
 ghost use Rattle.std.specs.Prelude.{◌≡◌, IfOk, false};
 ghost use Rattle.clap.specs.Words.{app_of, rule_of};
 ghost use Rattle.clap.specs.declared.builder.command.Command.TheViews.{out-Command as fields_of};
-ghost use Rattle.hq_words.specs.Commands.{job_rule, file_rule, timeline_rule, show_app, audit_app, check_app, out_rule, pack_app, replay_app, chart_app, run_app, program_app, hsaq_app};
+ghost use Rattle.hq_words.specs.Commands.{job_rule, file_rule, timeline_rule, show_app, audit_app, check_app, out_rule, pack_app, replay_app, copies_rule, chart_app, graph_app, run_app, program_app, hsaq_app};
 
 use clap::{Arg, ArgAction, Command};
 use std::alloc::{AllocError, Global};
@@ -27,6 +27,9 @@ const REPLAY_STATUS: &str =
 
 const CHART_STATUS: &str =
     "Exit status: 0; 7 where the timeline is none, or an event isn't enabled, up to which it is drawn; 3 where the text is no job.";
+
+const GRAPH_STATUS: &str =
+    "Exit status: 0 where every conflict is ordered, 4 with a conflict that nothing orders, 5 with packets that can never complete; 3 where the text is no job.";
 
 /// The words of each kind of packet.
 const PACK_WORDS: &str = "The words of a packet, DONE being its completion signal:
@@ -80,6 +83,17 @@ fn out<'a>(alloc: Global) -> Arg<'a>
         .long("timeline")
         .action(ArgAction::Set)
         .help("Writes the timeline to the file OUT, as `replay` reads it")
+}
+
+/// The flag `--copies`.
+fn copies<'a>(alloc: Global) -> Arg<'a>
+    ensures rule { rule_of result ≡ copies_rule }
+    ensures local { result.global ≡ false }
+{
+    Arg::new(alloc, "COPIES")
+        .long("copies")
+        .action(ArgAction::SetTrue)
+        .help("Draws what happens to copies of bytes too: taken, written back, dropped")
 }
 
 /// `show JOB`
@@ -149,17 +163,30 @@ fn replay<'a>(alloc: Global) -> Result<Command<'a>, AllocError>
         .arg(timeline(alloc))
 }
 
-/// `chart JOB TIMELINE`
+/// `chart JOB TIMELINE [--copies]`
 fn chart<'a>(alloc: Global) -> Result<Command<'a>, AllocError>
     ensures app { IfOk result (λ c. app_of c ≡ chart_app) }
     ensures local { IfOk result (λ c. (fields_of c).has_globals ≡ false) }
 {
     Command::new(alloc, "chart")
         .about("Draws a timeline as an SVG picture: what each packet did when")
-        .override_usage("hsaq chart <JOB> <TIMELINE>")
+        .override_usage("hsaq chart <JOB> <TIMELINE> [--copies]")
         .after_help(CHART_STATUS)
         .arg(job(alloc))?
-        .arg(timeline(alloc))
+        .arg(timeline(alloc))?
+        .arg(copies(alloc))
+}
+
+/// `graph JOB`
+fn graph<'a>(alloc: Global) -> Result<Command<'a>, AllocError>
+    ensures app { IfOk result (λ c. app_of c ≡ graph_app) }
+    ensures local { IfOk result (λ c. (fields_of c).has_globals ≡ false) }
+{
+    Command::new(alloc, "graph")
+        .about("Draws a job's order as a DOT graph: what is before what, and each conflict")
+        .override_usage("hsaq graph <JOB>")
+        .after_help(GRAPH_STATUS)
+        .arg(job(alloc))
 }
 
 /// `pack WORDS..`
@@ -201,6 +228,7 @@ pub fn hsaq<'a>(alloc: Global) -> Result<Command<'a>, AllocError>
     let run = run(alloc)?;
     let replay = replay(alloc)?;
     let chart = chart(alloc)?;
+    let graph = graph(alloc)?;
     let show = show(alloc)?;
     let pack = pack(alloc)?;
     program(alloc)
@@ -209,6 +237,7 @@ pub fn hsaq<'a>(alloc: Global) -> Result<Command<'a>, AllocError>
         .subcommand(run)?
         .subcommand(replay)?
         .subcommand(chart)?
+        .subcommand(graph)?
         .subcommand(show)?
         .subcommand(pack)
 }

@@ -3,7 +3,7 @@
 ghost use Rattle.std.specs.Prelude.{◌≡◌, ◌≢◌, [], Some, true, codes, map, option_map, IfOk, IfErr, IfSome};
 ghost use Rattle.clap.specs.Words.{all_of, found_of, rows_of, subcommand_of, subcommand_rows_of, takes};
 ghost use Rattle.hq_words.specs.Commands.{hsaq_app};
-ghost use Rattle.hq_words.specs.Asking.{Asks, AsksFor, AsksWith, words_or_audit, IsWords};
+ghost use Rattle.hq_words.specs.Asking.{Asks, AsksFor, AsksWith, is_set, words_or_audit, IsWords};
 
 use crate::command::hsaq;
 use clap::error::ErrorKind;
@@ -40,10 +40,15 @@ pub enum Asked<'a> {
         job: &'a str,
         timeline: &'a str,
     },
-    /// A picture of a timeline.
+    /// A picture of a timeline, with what happens to copies or without.
     Chart {
         job: &'a str,
         timeline: &'a str,
+        copies: bool,
+    },
+    /// A picture of a job's order.
+    Graph {
+        job: &'a str,
     },
 }
 
@@ -106,21 +111,33 @@ fn asked_for<'a>(alloc: Global, name: &str, own: &ArgMatches<'a>) -> Result<Aske
         own.get_str("CERT"),
         own.get_str("TIMELINE"),
         own.get_str("OUT"),
+        own.get_str("COPIES"),
     ) {
         Some(asked) => Ok(asked),
         None => Err(AllocError),
     }
 }
 
-/// What the command of a name asks for with these files.
+/// Whether a flag is set.
+fn is_set(flag: Option<&str>) -> bool
+    ensures { result ≡ is_set (option_map (λ f. f.now) flag.entry) }
+{
+    match flag {
+        Some(word) => word == "true",
+        None => false,
+    }
+}
+
+/// What the command of a name asks for with these files and this flag.
 fn asked_of_files<'a>(
     name: &str,
     job: Option<&'a str>,
     certificate: Option<&'a str>,
     timeline: Option<&'a str>,
     out: Option<&'a str>,
+    copies: Option<&'a str>,
 ) -> Option<Asked<'a>>
-    ensures { IfSome result (AsksWith name.now (option_map (λ j. j.now) job.entry) (option_map (λ c. c.now) certificate.entry) (option_map (λ t. t.now) timeline.entry) (option_map (λ o. o.now) out.entry)) }
+    ensures { IfSome result (AsksWith name.now (option_map (λ j. j.now) job.entry) (option_map (λ c. c.now) certificate.entry) (option_map (λ t. t.now) timeline.entry) (option_map (λ o. o.now) out.entry) (option_map (λ f. f.now) copies.entry)) }
 {
     let job = job?;
     if name == "show" {
@@ -128,6 +145,9 @@ fn asked_of_files<'a>(
     }
     if name == "audit" {
         return Some(Asked::Audit { job });
+    }
+    if name == "graph" {
+        return Some(Asked::Graph { job });
     }
     if name == "run" {
         return Some(Asked::Run { job, timeline: out });
@@ -142,7 +162,12 @@ fn asked_of_files<'a>(
     }
     if name == "chart" {
         let timeline = timeline?;
-        return Some(Asked::Chart { job, timeline });
+        let copies = is_set(copies);
+        return Some(Asked::Chart {
+            job,
+            timeline,
+            copies,
+        });
     }
     None
 }

@@ -6,4 +6,4 @@ use Rattle.hq_chart.proofs.writing.write_events.Given as goal
 
 abbrev pub invariant-loop-place : goal.invariant-loop-place
 invariant-loop-place g l =
-    Appends (g.W.Write.contents l.initial.writer) (g.W.Write.contents l.writer) (events_text l.job l.initial.rows 0 (take l.place l.events)) × (l.rows ≡ rows_after l.initial.rows 0 (take l.place l.events))
+    Appends (g.W.Write.contents l.initial.writer) (g.W.Write.contents l.writer) (events_text l.job l.copies l.initial.rows 0 (take l.place l.events)) × (l.rows ≡ rows_after l.initial.rows 0 (take l.place l.events))

@@ -7,9 +7,9 @@ use Rattle.hq_engines.proofs.chart.chart_engine.Goals as goal
 
 pub returns-in-Err : goal.returns-in-Err
 returns-in-Err g c =
-    job_missing _ g.R.Read.remaining c.args.reader.now c.take_job.new.reader (λ job. ReaderReport _ g.S.Read.remaining c.args.timeline.now c.args.timeline.now (TimelineReport (ChartReport job))) _ _ c.in-Err.status c.in-Err.ensures.refused
+    job_missing _ g.R.Read.remaining c.args.reader.now c.take_job.new.reader (λ job. ReaderReport _ g.S.Read.remaining c.args.timeline.now c.args.timeline.now (TimelineReport (ChartReport job c.args.copies))) _ _ c.in-Err.status c.in-Err.ensures.refused
 
 pub returns-in-Ok : goal.returns-in-Ok
 returns-in-Ok g c =
-    job_found _ g.R.Read.remaining c.args.reader.now c.take_job.new.reader c.in-Ok.job (λ job. ReaderReport _ g.S.Read.remaining c.args.timeline.now c.chart_read.new.timeline (TimelineReport (ChartReport job))) _ _ _ c.chart_read.result
+    job_found _ g.R.Read.remaining c.args.reader.now c.take_job.new.reader c.in-Ok.job (λ job. ReaderReport _ g.S.Read.remaining c.args.timeline.now c.chart_read.new.timeline (TimelineReport (ChartReport job c.args.copies))) _ _ _ c.chart_read.result
     c.in-Ok.ensures.found (ap g.W.Write.contents c.in-Ok.ensures.unwritten) c.chart_read.ensures

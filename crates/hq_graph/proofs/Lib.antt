@@ -1,0 +1,4 @@
+pub mod Joining
+pub mod Betweens
+pub mod Reasons
+pub mod Texts

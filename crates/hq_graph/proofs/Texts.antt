@@ -1,0 +1,52 @@
+-- What was written says what it is to say.
+use Rattle.std.proofs.Common.{◌≡◌, ◌↔◌, ◌<◌, ℕ, List, Bool, IsTrue, Option, ap, refl, sym, subst, inl, inr, Result, OnOk}
+use Rattle.std.specs.Io.KnownBytes.{Appends}
+use Rattle.hq_job.specs.Value.{JobValue}
+use Rattle.hq_model.specs.Job.{Job}
+use Rattle.hq_model.specs.Order.{Stuck}
+use Rattle.hq_order.specs.Bits.{has}
+use Rattle.hq_audit.specs.declared.directed.Directed.{Directed}
+use Rattle.hq_audit.specs.declared.directed.Unshown.{Unshown}
+use Rattle.hq_audit.specs.Refused.{IsDirected, IsUnshown}
+use Rattle.hq_graph.specs.declared.nodes.Node.{Node}
+use Rattle.hq_graph.specs.declared.rule.Rule.{Rule}
+use Rattle.hq_graph.specs.declared.wait.Wait.{Wait}
+use Rattle.hq_graph.specs.declared.part.Part.TheVariants as part
+use Rattle.hq_graph.specs.Order.{IsStep, IsRule, HaveConflict, Awaits}
+use Rattle.hq_graph.specs.Graph.{Where, Wrote, NodeText, ConflictText, PairText, RowText, PairsText, node_of, node_there, step_text, ordered_text, open_text, wait_text}
+use Rattle.hq_graph.proofs.Joining.{so_on, hence_on, unwritten, each_empty}
+
+pub node_on : {A E : Type 0} (result : Result A E) (a b : Option (List ℕ)) (job : JobValue) (order : Job) (set : List ℕ) (queue p : ℕ) (node : Option Node) (stuck : Bool) → ((p : ℕ) → IsTrue (has set p) ↔ Stuck order p) → node ≡ node_of job queue p → stuck ≡ has set p
+    → OnOk result (Appends a b (node_there node stuck)) → OnOk result (Wrote a b (NodeText job order queue p))
+node_on result a b job order set queue p node stuck each n s h =
+    so_on result a b (NodeText job order queue p) (node_there node stuck) (stuck, subst (λ t. IsTrue t ↔ Stuck order p) (sym s) (each p), ap (λ m. node_there m stuck) n) h
+
+pub step_on : {A E : Type 0} (result : Result A E) (a b : Option (List ℕ)) (job : JobValue) (order : Job) (r p : ℕ) (by : Rule) → IsStep order p r → IsRule order p r by
+    → OnOk result (Appends a b (step_text job p r by)) → OnOk result (Wrote a b (PairText job order part.Steps r p))
+step_on result a b job order r p by step is h = so_on result a b (PairText job order part.Steps r p) (step_text job p r by) (inl (step, (by, is, refl))) h
+
+pub ordered_on : {A E : Type 0} (result : Result A E) (a b : Option (List ℕ)) (order : Job) (x y : ℕ) (d : Directed) → IsDirected order x y d
+    → OnOk result (Appends a b (ordered_text d)) → OnOk result (Wrote a b (ConflictText order x y))
+ordered_on result a b order x y d is h = so_on result a b (ConflictText order x y) (ordered_text d) (inl (d, is, refl)) h
+
+pub open_on : {A E : Type 0} (result : Result A E) (a b : Option (List ℕ)) (order : Job) (x y : ℕ) (u : Unshown) → IsUnshown order x y u
+    → OnOk result (Appends a b (open_text u)) → OnOk result (Wrote a b (ConflictText order x y))
+open_on result a b order x y u is h = so_on result a b (ConflictText order x y) (open_text u) (inr (u, is, refl)) h
+
+pub conflict_on : {A E : Type 0} (result : Result A E) (a b : Option (List ℕ)) (job : JobValue) (order : Job) (x y : ℕ) → (x < y) × HaveConflict order x y
+    → OnOk result (Wrote a b (ConflictText order x y)) → OnOk result (Wrote a b (PairText job order part.Conflicts x y))
+conflict_on result a b job order x y there h = hence_on result a b (ConflictText order x y) (PairText job order part.Conflicts x y) (λ t c. inl (there, c)) h
+
+pub wait_on : {A E : Type 0} (result : Result A E) (a b : Option (List ℕ)) (job : JobValue) (order : Job) (r p : ℕ) (by : Wait) → Awaits order p r by
+    → OnOk result (Appends a b (wait_text job p r by)) → OnOk result (Wrote a b (PairText job order part.Waits r p))
+wait_on result a b job order r p by is h = so_on result a b (PairText job order part.Waits r p) (wait_text job p r by) (inl ((by, is), (by, is, refl))) h
+
+-- where something doesn't hold, nothing is written
+pub none_there : (a : Option (List ℕ)) (Holds : Type 0) (Line : List ℕ → Type 0) → (¬ Holds) → Wrote a a (Where Holds Line)
+none_there a Holds Line never = unwritten a (Where Holds Line) (inr (never, refl))
+
+-- where nothing is stuck, nothing waits
+pub no_waits : (a : Option (List ℕ)) (job : JobValue) (order : Job) → ((p : ℕ) → Stuck order p → ⊥) → Wrote a a (PairsText job order part.Waits)
+no_waits a job order free =
+    unwritten a (PairsText job order part.Waits)
+    (each_empty (RowText job order part.Waits) _ (λ r. each_empty (PairText job order part.Waits r) _ (λ p. inr ((λ w. free p w.1.first), refl))))

@@ -1,0 +1,7 @@
+use Rattle.hq_graph.proofs.Texts.{node_on}
+use Rattle.hq_graph.proofs.nodes.write_node.Goals as goal
+
+pub returns : goal.returns
+returns g c =
+    node_on c.write_there.result (g.W.Write.contents c.args.writer.now) (g.W.Write.contents c.write_there.new.writer) c.args.job.now c.args.sight.now.before.now c.args.sight.now.stuck.now c.args.queue c.args.p c.node_of-node.result c.has-stuck.result
+    c.requires.sees.stuck c.node_of-node.ensures c.has-stuck.ensures c.write_there.ensures

@@ -1,0 +1,12 @@
+use Rattle.hq_graph.proofs.Reasons.{some_in}
+use Rattle.hq_graph.proofs.stuck.some_of.Goals as goal
+
+pub returns-clause-tells : goal.returns-clause-tells
+returns-clause-tells c =
+    let row = c.in_ok-row.ensures in
+    record {
+      each = λ p. (λ t. (c.requires.stuck p).0 ((row.same p).0 t), λ s. (row.same p).1 ((c.requires.stuck p).1 s));
+      some = λ _. let x = some_in c.args.list.now c.requires.some in (x.0, (c.requires.stuck x.0).0 x.1);
+      ordered = λ f. let never : ⊥ = cc in absurd never;
+      free = λ f p s. let never : ⊥ = cc in absurd never;
+    }

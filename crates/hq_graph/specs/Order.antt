@@ -1,0 +1,48 @@
+-- What a graph shows: steps of the order, conflicts, and what stuck packets wait for.
+use Rattle.std.specs.Prelude.{◌≡◌, ℕ, suc, ◌⊎◌, IsTrue, List}
+use Rattle.hq_model.specs.Job.{Job, packet, Earlier, IsBarrier, Dependency, Decrements, Frees}
+use Rattle.hq_model.specs.Job.Kind.{BarrierAnd, BarrierOr}
+use Rattle.hq_model.specs.Order.{Before, Branch, OrderList, Stuck}
+use Rattle.hq_model.specs.Fence.{Conflict, Conflicts, Ordered}
+use Rattle.hq_graph.specs.declared.rule.Rule.{Rule}
+use Rattle.hq_graph.specs.declared.rule.Rule.TheVariants as rule
+use Rattle.hq_graph.specs.declared.wait.Wait.{Wait}
+use Rattle.hq_graph.specs.declared.wait.Wait.TheVariants as wait
+use Rattle.hq_graph.specs.declared.found.Found.{Found}
+use Rattle.hq_graph.specs.declared.found.Found.TheVariants as found
+
+-- p is before r, and no packet is between them: a pair of the order's transitive reduction
+pub record IsStep (job : Job) (p r : ℕ) : Type 0 where
+  pub before : Before job p r
+  pub none_between : (m : ℕ) → Before job p m → Before job m r → ⊥
+
+-- This rule alone puts p before r: the barrier bit of j, which is r or stands ahead of it; a barrier packet that stands ahead in r's queue; a
+-- dependency of a barrier-AND; or the dependencies of a barrier-OR, all of which have p complete.
+abbrev pub IsRule : Job → ℕ → ℕ → Rule → Type 0
+IsRule job p r (rule.Bit j) = Earlier job p j × IsTrue (packet job j).bit × ((j ≡ r) ⊎ Earlier job j r)
+IsRule job p r rule.Queue = Earlier job p r × IsBarrier job p
+IsRule job p r (rule.And s) = ((packet job r).kind ≡ BarrierAnd) × ((slot : ℕ) × Dependency job r slot s) × Decrements job p s
+IsRule job p r rule.Or = ((packet job r).kind ≡ BarrierOr) × ((slot s : ℕ) → Dependency job r slot s → Branch job p s)
+
+-- the two conflict in some way, a first
+abbrev pub HaveConflict : Job → ℕ → ℕ → Type 0
+HaveConflict job a b = (kind : Conflict) × Conflicts job kind a b
+
+-- What r can't do without p, which stands in its way: p stands right ahead of it in its queue, has its slot of the ring, or completes on a
+-- signal that it waits for.
+abbrev pub WaitsBy : Job → ℕ → ℕ → Wait → Type 0
+WaitsBy job p r wait.Ahead = Earlier job p r × (suc p ≡ r)
+WaitsBy job p r wait.Slot = Frees job p r
+WaitsBy job p r (wait.Signal s) = IsBarrier job r × ((slot : ℕ) × Dependency job r slot s) × Decrements job p s
+
+-- two packets that can never complete, the second of which waits for the first
+pub record Awaits (job : Job) (p r : ℕ) (by : Wait) : Type 0 where
+  pub first : Stuck job p
+  pub second : Stuck job r
+  pub waits : WaitsBy job p r by
+
+-- what an audit of the job would find
+abbrev pub IsFound : Job → Found → Type 0
+IsFound job found.Ordered = Ordered job
+IsFound job found.Conflict = (¬ Ordered job) × ((list : List ℕ) × OrderList job list)
+IsFound job found.Stuck = (p : ℕ) × Stuck job p

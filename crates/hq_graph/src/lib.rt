@@ -1,0 +1,28 @@
+//! Pictures of a job's order, as text of graphviz's language DOT.
+//!
+//! A node for each packet, queue by queue; an edge for each step of the order, which is a pair of packets with none between them; an edge
+//! for each two packets that conflict, grey where fences order them and red where they don't; and a red edge from a packet that can never
+//! complete to each such packet that it waits for.
+#![tactic(auto)]
+
+mod drawing;
+mod edges;
+mod fault;
+mod found;
+mod judging;
+mod nodes;
+mod part;
+mod rows;
+mod rule;
+mod ruling;
+mod sight;
+mod stuck;
+mod wait;
+mod waiting;
+mod words;
+
+pub use drawing::graph;
+pub use fault::GraphFault;
+pub use found::Found;
+pub use rule::Rule;
+pub use wait::Wait;

@@ -1,0 +1,10 @@
+//! What packets wait for.
+
+/// How a packet waits for another: which stands right ahead of it, has its slot of the ring, or completes on a signal that it waits for, by
+/// the signal's number.
+#[derive(Clone, Copy, Debug)]
+pub enum Wait {
+    Ahead,
+    Slot,
+    Signal(u16),
+}
