@@ -11,8 +11,7 @@ use explaining::{explain, explain_unopened};
 use heard::Heard;
 use hq_engines::{
     Status, audit_engine, chart_engine, check_engine, graph_engine, job_engine, pack_engine,
-    replay_engine,
-    run_engine, say_file, say_memory, show_engine,
+    replay_engine, run_engine, say_file, say_memory, show_engine,
 };
 use hq_job::Job;
 use hq_kernels::stock_kits;

@@ -11,7 +11,8 @@ use Rattle.hq_graph.specs.declared.wait.Wait.TheVariants as wait
 use Rattle.hq_graph.specs.declared.found.Found.{Found}
 use Rattle.hq_graph.specs.declared.found.Found.TheVariants as found
 
--- p is before r, and no packet is between them: a pair of the order's transitive reduction
+-- p is before r, and no packet is between them: a pair of the order's transitive reduction. A packet of a circle, which no job with an order
+-- list has, is before itself and so between itself and any other: no step begins or ends there.
 pub record IsStep (job : Job) (p r : ℕ) : Type 0 where
   pub before : Before job p r
   pub none_between : (m : ℕ) → Before job p m → Before job m r → ⊥
@@ -29,7 +30,7 @@ abbrev pub HaveConflict : Job → ℕ → ℕ → Type 0
 HaveConflict job a b = (kind : Conflict) × Conflicts job kind a b
 
 -- What r can't do without p, which stands in its way: p stands right ahead of it in its queue, has its slot of the ring, or completes on a
--- signal that it waits for.
+-- signal that it waits for. That r waits to be submitted behind another packet, which has no slot yet, is told of that packet alone.
 abbrev pub WaitsBy : Job → ℕ → ℕ → Wait → Type 0
 WaitsBy job p r wait.Ahead = Earlier job p r × (suc p ≡ r)
 WaitsBy job p r wait.Slot = Frees job p r
