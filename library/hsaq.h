@@ -1,4 +1,4 @@
-/* libhsaq: `hsaq audit`, `check`, `replay` and `show` as calls, for runtimes, drivers and simulators in C or C++ (C99, C++11).
+/* libhsaq: `hsaq audit`, `check`, `replay`, `show`, `explain`, `fix` and `trim` as calls, for runtimes, drivers and simulators in C or C++ (C99, C++11).
  *
  *     cc -std=c99 -o program program.c "$(./hsaq --library)"
  *
@@ -23,7 +23,7 @@ extern "C" {
 #endif
 
 enum {
-    HSAQ_STATUS_DONE = 0,                /* ordered, accepted, replayed, shown */
+    HSAQ_STATUS_DONE = 0,                /* ordered, accepted, replayed, shown, mended, trimmed */
     HSAQ_STATUS_JOB_REFUSED = 3,         /* the text is no job: `refused line L Jn` */
     HSAQ_STATUS_CONFLICT = 4,            /* two packets race: `conflict P R KIND WHY` */
     HSAQ_STATUS_STUCK = 5,               /* packets that can never complete: `stuck N N ..` */
@@ -44,6 +44,15 @@ uint32_t hsaq_replay(const void *job, size_t job_length, const void *timeline, s
 
 /* The job's packets, a line each. */
 uint32_t hsaq_show(const void *job, size_t job_length, void *report, size_t room, size_t *length);
+
+/* Why the job's conflicts are ordered or aren't, in plain words, the first hundred of them, and each single change that would order one that isn't. */
+uint32_t hsaq_explain(const void *job, size_t job_length, void *report, size_t room, size_t *length);
+
+/* The job's text with the bits and fences that it lacks to be ordered, the fewest; or the conflict that none order. */
+uint32_t hsaq_fix(const void *job, size_t job_length, void *report, size_t room, size_t *length);
+
+/* The job's text without the bits and fences that it doesn't need to be ordered; or why it isn't. */
+uint32_t hsaq_trim(const void *job, size_t job_length, void *report, size_t room, size_t *length);
 
 #ifdef __cplusplus
 }

@@ -1,5 +1,5 @@
 /* Calls of the static library, by `library/hsaq.h`: `COMMAND FILE [FILE]` writes the report and ends with the answer, as the program does for `audit`,
- * `check`, `replay` and `show`. Each call is made three times: without room, with half of the room that it asks for, and with one byte more than it
+ * `check`, `replay`, `show`, `explain`, `fix` and `trim`. Each call is made three times: without room, with half of the room that it asks for, and with one byte more than it
  * needs; the status is 99 where these disagree, or a byte was written that is none of the report's. `often N` before the command makes the calls N
  * times in each of four threads at once, and writes nothing. */
 #include <pthread.h>
@@ -47,6 +47,9 @@ static text read_file(const char *path) {
 static uint32_t ask(const call *c, char *report, size_t room, size_t *length) {
     if (!strcmp(c->command, "audit")) return hsaq_audit(c->job.bytes, c->job.length, report, room, length);
     if (!strcmp(c->command, "show")) return hsaq_show(c->job.bytes, c->job.length, report, room, length);
+    if (!strcmp(c->command, "explain")) return hsaq_explain(c->job.bytes, c->job.length, report, room, length);
+    if (!strcmp(c->command, "fix")) return hsaq_fix(c->job.bytes, c->job.length, report, room, length);
+    if (!strcmp(c->command, "trim")) return hsaq_trim(c->job.bytes, c->job.length, report, room, length);
     if (!strcmp(c->command, "check")) return hsaq_check(c->job.bytes, c->job.length, c->other.bytes, c->other.length, report, room, length);
     if (!strcmp(c->command, "replay")) return hsaq_replay(c->job.bytes, c->job.length, c->other.bytes, c->other.length, report, room, length);
     exit(WRONG);

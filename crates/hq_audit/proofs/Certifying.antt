@@ -1,12 +1,12 @@
 -- The certificate holds, and what an ordered job isn't refused for.
-use Rattle.std.proofs.Common.{◌≡◌, ℕ, ◌⊎◌, inl, inr, List, refl, sym, subst, Result, Ok, Err}
+use Rattle.std.proofs.Common.{◌≡◌, ℕ, ◌<◌, ◌⊎◌, inl, inr, List, refl, sym, subst, Result, Ok, Err}
 use Rattle.std.specs.Prelude.{IfErr}
 use Rattle.std.specs.Result.{IsErrAnd}
 use Rattle.hq_order.specs.Faults.{StuckWhereSo}
 use Rattle.hq_order.specs.declared.fault.OrderFault.{OrderFault}
 use Rattle.hq_order.specs.declared.fault.OrderFault.TheVariants as order
 use Rattle.hq_fence.specs.Judgement.{conflict_of}
-use Rattle.hq_model.specs.Job.{Job}
+use Rattle.hq_model.specs.Job.{Job, IsPacket}
 use Rattle.hq_model.specs.Order.{OrderList}
 use Rattle.hq_model.specs.Fence.{Conflict, Conflicts, Ordered}
 use Rattle.hq_model.specs.Fence.Conflict.{WriteRead, WriteWrite, ReadWrite}
@@ -17,7 +17,7 @@ use Rattle.hq_audit.specs.declared.fault.AuditNo.TheVariants as audit
 use Rattle.hq_audit.specs.declared.directed.Unshown.{Unshown}
 use Rattle.hq_audit.specs.Kept.{AllFollow}
 use Rattle.hq_audit.specs.Paired.{AllHold, HasAll, AllPaired}
-use Rattle.hq_audit.specs.Refused.{IsUnshown, IsFirstUnshown, IsRefused, no_of_order}
+use Rattle.hq_audit.specs.Refused.{IsUnshown, AllShown, IsFirstUnshown, IsRefused, no_of_order}
 use Rattle.hq_audit.specs.Lawful.{OrderedIsNotRefused}
 
 -- ---- the certificate
@@ -47,6 +47,11 @@ cert_same job c order lines pairs e f g h =
     (subst (λ ls. CertHolds job (parts order ls c.pairs)) (sym f)
     (subst (λ ps. CertHolds job (parts order lines ps)) (sym g) h))
 
+-- ---- without a certificate
+
+pub shown_is_ordered : (job : Job) (list : List ℕ) → OrderList job list → AllShown job → Ordered job
+shown_is_ordered job list o h = record { list = list; order = o; shown = λ p r kind low is c. h p r low is }
+
 -- ---- refusals
 
 turned : (job : Job) (kind : Conflict) (a b : ℕ) → Conflicts job kind b a → (other : Conflict) × Conflicts job other a b
@@ -60,14 +65,18 @@ conflict_there job a b u i = elim i.which [
   | inr w ↦ (conflict_of u.fault.kind, subst (λ x. Conflicts job (conflict_of u.fault.kind) x b) w.1 (subst (λ x. Conflicts job (conflict_of u.fault.kind) u.p x) w.2 i.fault.conflicts))
 ]
 
-never_unshown : (job : Job) (u : Unshown) → Ordered job → IsFirstUnshown job u → ⊥
-never_unshown job u o f =
-    let c = conflict_there job f.a f.row.b u f.row.unshown in
-    f.row.unshown.neither (o.shown f.a f.row.b c.0 f.row.above f.row.is_packet c.1)
+-- a pair that isn't ordered
+pub unshown_refuses : (job : Job) (a b : ℕ) (u : Unshown) → IsUnshown job a b u → a < b → IsPacket job b → ¬ Ordered job
+unshown_refuses job a b u i above is o =
+    let c = conflict_there job a b u i in
+    i.neither (o.shown a b c.0 above is c.1)
+
+pub first_refuses : (job : Job) (u : Unshown) → IsFirstUnshown job u → ¬ Ordered job
+first_refuses job u f = unshown_refuses job f.a f.row.b u f.row.unshown f.row.above f.row.is_packet
 
 pub ordered_is_not_refused : OrderedIsNotRefused
 ordered_is_not_refused job (audit.Stuck packets) o r = absurd (r.no_order o.list o.order)
-ordered_is_not_refused job (audit.Conflict p r kind why) o h = absurd (never_unshown job (record { p = p; r = r; fault = record { kind = kind; why = why } }) o h.1)
+ordered_is_not_refused job (audit.Conflict p r kind why) o h = absurd (first_refuses job (record { p = p; r = r; fault = record { kind = kind; why = why } }) h.1 o)
 ordered_is_not_refused job audit.Memory o r = refl
 
 -- ---- what a fault turns into

@@ -2,7 +2,8 @@
 //!
 //! A job is *ordered* where its packets have an order list and each two packets that conflict are ordered by fences, in one
 //! direction. `audit` gives such a job a certificate that says so, line by line, and so can be checked by itself; of any other job
-//! it says which packets can never complete, or which conflict of which packets isn't ordered, and why.
+//! it says which packets can never complete, or which conflict of which packets isn't ordered, and why. `verdict` says the same
+//! without a certificate, and `all_shown` says it of a job whose order is worked out.
 #![tactic(auto)]
 
 mod auditing;
@@ -16,8 +17,11 @@ mod needs;
 mod pairs;
 mod parts;
 mod slots;
+mod verdicts;
 
 pub use auditing::audit;
 pub use directed::{Directed, Unshown, direct};
 pub use fault::AuditNo;
 pub use hq_fence::{Kind, Why};
+pub use parts::{Others, Parts};
+pub use verdicts::{all_shown, verdict};

@@ -1,4 +1,4 @@
-//! `libhsaq`: `audit`, `check`, `replay` and `show` as calls from C and C++, declared in `library/hsaq.h`.
+//! `libhsaq`: `audit`, `check`, `replay`, `show`, `explain`, `fix` and `trim` as calls from C and C++, declared in `library/hsaq.h`.
 //!
 //! Texts come as a pointer and a length, and a report goes into a room of the caller's, as far as it fits; its whole length is told, so
 //! that the caller can ask again with more room. The answer is the program's exit status. Nothing is kept between calls, no thread is
@@ -7,7 +7,9 @@
 
 ghost use Rattle.hq_c.specs.Calls.{Answers, OfBytes};
 ghost use Rattle.hq_engines.specs.Audit.{JobReport};
+ghost use Rattle.hq_engines.specs.Change.{ChangeReport};
 ghost use Rattle.hq_engines.specs.Check.{CertReport};
+ghost use Rattle.hq_engines.specs.Explain.{ExplainReport};
 ghost use Rattle.hq_engines.specs.Replay.{RunReport, TimelineReport};
 ghost use Rattle.hq_engines.specs.Reports.{JobTextReport};
 ghost use Rattle.hq_engines.specs.Show.{ShowReport};
@@ -16,7 +18,11 @@ ghost use Rattle.hq_job.specs.Plan.{plan};
 mod handing;
 
 use handing::hand_out;
-use hq_engines::{audit_engine, check_alone_engine, replay_engine, show_engine};
+use hq_engines::{
+    Aim, audit_engine, change_engine, check_alone_engine, explain_engine, replay_engine,
+    show_engine,
+};
+use hq_explain::Which;
 use std::alloc::Global;
 
 /// Audits a job: its certificate, or the packets that can never complete, or the conflict that nothing orders.
@@ -74,5 +80,43 @@ pub extern "C" fn hsaq_show(alloc: Global, job: &[u8], report: &mut [u8], whole:
     let mut reader = job;
     let mut written = Vec::new(alloc);
     let status = show_engine(alloc, &mut reader, &mut written);
+    hand_out(&written, status, report, whole)
+}
+
+/// Explains why the conflicts of a job are ordered or aren't, the first hundred, and which single changes would order those that aren't.
+#[unsafe(no_mangle)]
+pub extern "C" fn hsaq_explain(
+    alloc: Global,
+    job: &[u8],
+    report: &mut [u8],
+    whole: &mut usize,
+) -> u32
+    ensures { Answers (OfBytes (JobTextReport (ExplainReport Which.First)) job.now) report.old report.new whole.new result }
+{
+    let mut reader = job;
+    let mut written = Vec::new(alloc);
+    let status = explain_engine(alloc, &mut reader, Which::First, &mut written);
+    hand_out(&written, status, report, whole)
+}
+
+/// A job's text with the bits and fences that it lacks, or why none mend it.
+#[unsafe(no_mangle)]
+pub extern "C" fn hsaq_fix(alloc: Global, job: &[u8], report: &mut [u8], whole: &mut usize) -> u32
+    ensures { Answers (OfBytes (λ text. JobTextReport (ChangeReport Aim.Fix text) text) job.now) report.old report.new whole.new result }
+{
+    let mut reader = job;
+    let mut written = Vec::new(alloc);
+    let (status, _changed) = change_engine(alloc, &mut reader, &mut written, Aim::Fix);
+    hand_out(&written, status, report, whole)
+}
+
+/// A job's text without the bits and fences that it doesn't need, or why it isn't ordered.
+#[unsafe(no_mangle)]
+pub extern "C" fn hsaq_trim(alloc: Global, job: &[u8], report: &mut [u8], whole: &mut usize) -> u32
+    ensures { Answers (OfBytes (λ text. JobTextReport (ChangeReport Aim.Trim text) text) job.now) report.old report.new whole.new result }
+{
+    let mut reader = job;
+    let mut written = Vec::new(alloc);
+    let (status, _changed) = change_engine(alloc, &mut reader, &mut written, Aim::Trim);
     hand_out(&written, status, report, whole)
 }

@@ -63,16 +63,16 @@ fn counted(count: usize, more: usize) -> Result<usize, CertFault>
     }
 }
 
-/// Takes in all lines of a text, behind so many. Answers how many there are then.
-pub fn take_lines(
+/// Takes in all lines of a text, behind so many, and splits them into these words in turn. Answers how many lines there are then.
+fn take_split<'a>(
     draft: &mut Draft,
     alloc: Global,
+    words: &mut Vec<&'a [u8]>,
     before: usize,
-    text: &[u8],
+    text: &'a [u8],
 ) -> Result<usize, CertFault>
     ensures { TakesAll result before (lines_of text.now) (state_of draft.old) (state_of draft.new) }
 {
-    let mut words = Vec::new(alloc);
     let mut rest = text;
     let mut count = before;
     while !rest.is_empty() {
@@ -86,12 +86,25 @@ pub fn take_lines(
         }
         let (line, behind) = first_line(left);
         count = counted(count, 1)?;
-        if let Err(reason) = take_words(draft, alloc, &mut words, line) {
+        if let Err(reason) = take_words(draft, alloc, words, line) {
             return Err(fault_at(count, reason));
         }
         rest = behind;
     }
     Ok(count)
+}
+
+/// Takes in all lines of a text, behind so many. Answers how many there are then.
+pub fn take_lines(
+    draft: &mut Draft,
+    alloc: Global,
+    before: usize,
+    text: &[u8],
+) -> Result<usize, CertFault>
+    ensures { TakesAll result before (lines_of text.now) (state_of draft.old) (state_of draft.new) }
+{
+    let mut words = Vec::new(alloc);
+    take_split(draft, alloc, &mut words, before, text)
 }
 
 /// The certificate of a text of so many lines, all of them taken in; or that it has no end.

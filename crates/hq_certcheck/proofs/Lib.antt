@@ -12,3 +12,4 @@ pub mod Lasts
 pub mod Bounds
 pub mod Counts
 pub mod Blocks
+pub mod Slots

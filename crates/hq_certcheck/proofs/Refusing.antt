@@ -1,12 +1,14 @@
 -- No reason to refuse is true of a certificate that holds, but that there is no memory.
-use Rattle.std.proofs.Common.{◌≡◌, refl}
+use Rattle.std.proofs.Common.{◌≡◌, ℕ, refl, sym, List, Option, None, Some}
+use Rattle.std.specs.Prelude.{MatchOption}
 use Rattle.std.proofs.lemmas.Option.{slice_get_within, get_or_from_slice_get}
 use Rattle.std.proofs.Common.{subst}
 use Rattle.hq_certcheck.specs.declared.fault.CheckNo.{CheckNo}
 use Rattle.hq_certcheck.specs.declared.fault.CheckNo.TheVariants.{BadOrder, BadLine, PairMissing, BadPair, Memory}
 use Rattle.hq_model.specs.Job.{Job}
-use Rattle.hq_model.specs.Certificate.{Certificate, PairHolds, CertHolds}
-use Rattle.hq_certcheck.specs.Refusals.{IsRefused}
+use Rattle.hq_model.specs.Certificate.{Certificate, Line, LineHolds, PairHolds, CertHolds}
+use Rattle.hq_certcheck.specs.Listed.{LineFollows, FirstBadLine}
+use Rattle.hq_certcheck.specs.Refusals.{IsBadLine, IsRefused}
 
 pub only_memory : (job : Job) (c : Certificate) (no_of : CheckNo) → CertHolds job c → IsRefused job c no_of → no_of ≡ Memory
 only_memory job c BadOrder h ban = absurd (ban h.order)
@@ -15,3 +17,11 @@ only_memory job c (PairMissing p r) h (order, lines, x) = absurd (x.missing (λ 
 only_memory job c (BadPair p r) h (order, lines, none, x) =
     absurd (x.bad (subst (PairHolds job c) (get_or_from_slice_get c.pairs x.k x.pair x.pair x.there) (h.pairs x.k x.pair (slice_get_within c.pairs x.k x.pair x.there))))
 only_memory job c Memory h u = refl
+
+-- What is said of lines that are the certificate's is said of the certificate.
+pub bad_line_of : (job : Job) (c : Certificate) (lines : List Line) (found : Option ℕ) → lines ≡ c.lines → MatchOption found ((k : ℕ) → LineFollows job lines k) (FirstBadLine job lines) → MatchOption found ((k : ℕ) → LineHolds job c k) (IsBadLine job c)
+bad_line_of job c lines None same all = λ k. subst (λ (ls : List Line). LineFollows job ls k) same (all k)
+bad_line_of job c lines (Some k) same h = record {
+  bad = λ holds. h.bad (subst (λ (ls : List Line). LineFollows job ls k) (sym same) holds);
+  first = λ j l. subst (λ (ls : List Line). LineFollows job ls j) same (h.first j l);
+}

@@ -5,6 +5,8 @@ use std::{fmt, io};
 
 const WORDS: &str = "these words are no packet; `hsaq pack --help` lists the fields";
 
+const PAIR: &str = "--pair wants the numbers of two packets, as in --pair 0 2";
+
 const NOT_ENABLED: &str = "an event isn't enabled after those before it";
 
 const STUCK: &str = "these packets can never complete, in any run";
@@ -239,6 +241,17 @@ pub fn explain(rt: &HostRuntime, status: Status, answer: &str) {
         Status::CertificateRefused => explain_refusal(rt, "certificate", answer),
         Status::RunRefused => explain_run(rt, answer),
     };
+}
+
+/// Says beside an explanation, which says all else itself, what is wrong with the words or the job. Where standard error fails, nothing is said.
+pub fn explain_explained(rt: &HostRuntime, status: Status, answer: &str) {
+    match status {
+        Status::Words => {
+            let _ = eprintln!(rt; "hsaq: {PAIR}");
+        }
+        Status::Conflict | Status::Stuck => {}
+        _ => explain(rt, status, answer),
+    }
 }
 
 /// Says why a file can't be opened. Where standard error fails, nothing is said.

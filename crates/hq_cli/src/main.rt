@@ -1,20 +1,25 @@
 //! The program `hsaq`: orders the packets of HSA user-mode queues, and proves it.
 #![tactic(auto)]
 
+mod changing;
 mod explaining;
 mod heard;
 mod input;
 mod output;
 mod progress;
 
-use explaining::{explain, explain_unopened};
+use changing::{say_changes, say_unmended};
+use explaining::{explain, explain_explained, explain_unopened};
 use heard::Heard;
 use hq_engines::{
-    Status, audit_engine, chart_engine, check_engine, graph_engine, job_engine, pack_engine,
-    replay_engine, run_engine, say_file, say_memory, show_engine,
+    Aim, Status, audit_engine, change_engine, chart_engine, check_engine, explain_engine,
+    graph_engine, job_engine, pack_engine, replay_engine, run_engine, say_file, say_memory,
+    show_engine,
 };
+use hq_explain::Which;
 use hq_job::Job;
 use hq_kernels::stock_kits;
+use hq_text::number_of;
 use hq_words::{Asked, WordsFault, command_of};
 use input::{open, open_file};
 use output::{Output, create};
@@ -112,6 +117,59 @@ fn graph<W: Write>(rt: &HostRuntime, job: &str, writer: &mut W) -> Status {
     }
 }
 
+/// Prints a job with other heads, and says which.
+fn change<W: Write>(rt: &HostRuntime, job: &str, aim: Aim, writer: &mut W) -> Status {
+    let mut input = match open(rt, job) {
+        Ok(input) => input,
+        Err(error) => return say_unopened(rt, job, &error, writer),
+    };
+    let (status, changed) = change_engine(rt.alloc(), &mut input, writer, aim);
+    match changed {
+        Some(changed) => say_changes(rt, &changed, aim),
+        None => say_unmended(rt, status, aim),
+    }
+    status
+}
+
+/// The pair of two words, where these are numbers.
+fn pair_of(p: &str, r: &str) -> Option<Which> {
+    let p = number_of(p.as_bytes())?;
+    let r = number_of(r.as_bytes())?;
+    Some(Which::Pair(p as usize, r as usize))
+}
+
+/// Which pairs are to be explained, where the words say that.
+fn which_of(pair: Option<&str>, second: Option<&str>, all: bool) -> Option<Which> {
+    match (pair, second) {
+        (Some(p), Some(r)) => pair_of(p, r),
+        (None, None) if all => Some(Which::All),
+        (None, None) => Some(Which::First),
+        _ => None,
+    }
+}
+
+fn explain_job<W: Write>(rt: &HostRuntime, job: &str, which: Which, writer: &mut W) -> Status {
+    match open(rt, job) {
+        Ok(mut input) => explain_engine(rt.alloc(), &mut input, which, writer),
+        Err(error) => say_unopened(rt, job, &error, writer),
+    }
+}
+
+/// Explains the pairs that are asked for, if it is told which those are.
+fn explain_asked<W: Write>(
+    rt: &HostRuntime,
+    job: &str,
+    pair: Option<&str>,
+    second: Option<&str>,
+    all: bool,
+    writer: &mut W,
+) -> Status {
+    match which_of(pair, second, all) {
+        Some(which) => explain_job(rt, job, which, writer),
+        None => Status::Words,
+    }
+}
+
 /// The file that a timeline is asked for in, if it is.
 fn create_timeline(rt: &HostRuntime, timeline: Option<&str>) -> io::Result<Option<Output>> {
     match timeline {
@@ -179,6 +237,14 @@ fn answer<W: Write>(
             copies,
         } => chart(rt, job, timeline, *copies, writer),
         Asked::Graph { job } => graph(rt, job, writer),
+        Asked::Fix { job } => change(rt, job, Aim::Fix, writer),
+        Asked::Trim { job } => change(rt, job, Aim::Trim, writer),
+        Asked::Explain {
+            job,
+            pair,
+            second,
+            all,
+        } => explain_asked(rt, job, *pair, *second, *all, writer),
     }
 }
 
@@ -194,7 +260,10 @@ fn answer_on_stdout(
             let mut writer = Heard::new(writer);
             let status = answer(rt, threads, asked, &mut writer);
             let status = flushed(&mut writer, status);
-            explain(rt, status, writer.first_line());
+            match asked {
+                Asked::Explain { .. } => explain_explained(rt, status, writer.first_line()),
+                _ => explain(rt, status, writer.first_line()),
+            }
             status
         }
         Err(_) => say_memory(&mut rt.stdout()),

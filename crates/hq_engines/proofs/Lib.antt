@@ -9,3 +9,5 @@ pub mod Runs
 pub mod ReadTexts
 pub mod Charts
 pub mod Graphs
+pub mod Changes
+pub mod Explanations

@@ -10,3 +10,5 @@ pub mod Replay
 pub mod Run
 pub mod Chart
 pub mod Graph
+pub mod Change
+pub mod Explain

@@ -13,7 +13,7 @@ use std::alloc::Global;
 use std::io::{Read, Write};
 
 /// The status of what the audit of a job finds.
-fn status_of(found: Found) -> Status
+pub fn status_of(found: Found) -> Status
     ensures { result ≡ status_of found }
 {
     match found {

@@ -7,9 +7,11 @@
 mod accepting;
 mod audit;
 mod buffers;
+mod change;
 mod chart;
 mod check;
 mod check_alone;
+mod explain;
 mod fields;
 mod graph;
 mod pack;
@@ -23,9 +25,11 @@ mod taking;
 
 pub use accepting::accept;
 pub use audit::audit_engine;
+pub use change::{Aim, Changed, change_engine};
 pub use chart::chart_engine;
 pub use check::check_engine;
 pub use check_alone::check_alone_engine;
+pub use explain::explain_engine;
 pub use graph::graph_engine;
 pub use pack::pack_engine;
 pub use replay::replay_engine;

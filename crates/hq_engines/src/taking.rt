@@ -7,7 +7,7 @@ ghost use Rattle.hq_engines.specs.Reports.{NoJob, OfReader, ReaderReport, Report
 
 use crate::saying::{say, say_file, say_memory};
 use crate::status::Status;
-use hq_job::{Job, JobFault, Reason, read};
+use hq_job::{Job, JobFault, Reason, TextFault, read, read_text, take_text};
 use hq_report::JobRefusal;
 use std::alloc::Global;
 use std::io::{Read, Write};
@@ -35,6 +35,29 @@ pub fn take_job<R: Read, W: Write>(
 {
     match read(alloc, reader) {
         Ok(job) => Ok(job),
+        Err(fault) => Err(say_no_job(writer, fault)),
+    }
+}
+
+/// A text, and the job that it is, of a reader; or, where that gives no job, the status of the refusal, which is written. The whole text
+/// is held.
+pub fn take_job_text<R: Read, W: Write>(
+    alloc: Global,
+    reader: &mut R,
+    writer: &mut W,
+) -> Result<(Vec<u8>, Job), Status>
+    ensures found { IfOk result (λ it. OfReader R R.remaining reader.old reader.new (λ text. (text ≡ it.0.items) × JobText (lines_of text) it.1)) }
+    ensures job { IfOk result (λ it. JobText (lines_of it.0.items) it.1) }
+    ensures unwritten { OnOk result (writer.new ≡ writer.old) }
+    ensures refused { IfErr result (Reported (ReaderReport R R.remaining reader.old reader.new NoJob) (W.contents writer.old) (W.contents writer.new)) }
+{
+    let text = match take_text(alloc, reader) {
+        Ok(text) => text,
+        Err(TextFault::Memory) => return Err(say_memory(writer)),
+        Err(TextFault::Read) => return Err(say_file(writer)),
+    };
+    match read_text(alloc, &text) {
+        Ok(job) => Ok((text, job)),
         Err(fault) => Err(say_no_job(writer, fault)),
     }
 }

@@ -9,7 +9,7 @@ use hq_order::Before;
 use hq_packet::{Head, Scope};
 
 /// Whether a fence of one scope reaches as far as another scope.
-fn reaches(fence: Scope, needed: Scope) -> bool
+pub fn reaches(fence: Scope, needed: Scope) -> bool
     ensures { result ≡ reaches fence needed }
 {
     match needed {

@@ -12,5 +12,6 @@ mod search;
 mod shown;
 mod span;
 
+pub use fences::reaches;
 pub use judging::judge;
 pub use shown::{Acquire, Kind, NotShown, Release, Shown, Why};

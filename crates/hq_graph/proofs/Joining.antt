@@ -1,5 +1,6 @@
 -- Texts that are written in several calls.
-use Rattle.std.proofs.Common.{◌≡◌, ◌+◌, ℕ, zero, suc, List, [], ◌++◌, Option, None, Some, ap, refl, sym, subst, ◌∙◌, append_assoc, append-nil, add-one, Result, Ok, Err, OnOk}
+use Rattle.std.proofs.Common.{◌≡◌, ◌+◌, ◌<◌, ◌≤◌, ℕ, zero, suc, inl, inr, List, [], ◌++◌, Option, None, Some, ap, refl, sym, subst, arith, ◌∙◌, append_assoc, append-nil, add-one, Result, Ok, Err, OnOk}
+use Rattle.std.proofs.lemmas.Bool.{cases_lt}
 use Rattle.std.specs.Io.KnownBytes.{Appends}
 use Rattle.hq_graph.specs.Graph.{Each, Then, Wrote}
 
@@ -52,6 +53,25 @@ each_more a b c P n x y = subst (λ k. Wrote a c (Each P k)) (sym (add-one n)) (
 pub each_empty : (P : ℕ → List ℕ → Type 0) (n : ℕ) → ((i : ℕ) → P i []) → Each P n []
 each_empty P zero h = refl
 each_empty P (suc n) h = record { ahead = []; behind = []; first = each_empty P n h; second = h n; joined = refl }
+
+-- numbers that have no text are passed over
+pub each_over : (P : ℕ → List ℕ → Type 0) (n m : ℕ) (t : List ℕ) → n ≤ m → ((i : ℕ) → n ≤ i → i < m → P i []) → Each P n t → Each P m t
+each_over P n zero t l none h = let z : n ≡ 0 = omega arith in subst (λ k. Each P k t) z h
+each_over P n (suc m) t l none h = elim (cases_lt m n) [
+  | inl all ↦ let same : n ≡ suc m = omega arith in subst (λ k. Each P k t) same h
+  | inr low ↦ record { ahead = t; behind = []; first = each_over P n m t low (λ i from upto. none i from (omega arith)) h; second = none m low (omega arith); joined = sym (append-nil t) }
+]
+
+pub each_skipped : (a b : Option (List ℕ)) (P : ℕ → List ℕ → Type 0) (n m : ℕ) → n ≤ m → ((i : ℕ) → n ≤ i → i < m → P i []) → Wrote a b (Each P n) → Wrote a b (Each P m)
+each_skipped a b P n m l none x = record { text = x.text; says = each_over P n m x.text l none x.says; appends = x.appends }
+
+-- nothing is written up to the first that has a text
+pub each_first : (a : Option (List ℕ)) (P : ℕ → List ℕ → Type 0) (m : ℕ) → ((i : ℕ) → i < m → P i []) → Wrote a a (Each P m)
+each_first a P m none = each_skipped a a P 0 m (omega arith) (λ i from upto. none i upto) (each_none a P)
+
+-- one that is written, and those that are passed over behind it
+pub each_next : (a b c : Option (List ℕ)) (P : ℕ → List ℕ → Type 0) (n m : ℕ) → Wrote a b (Each P n) → Wrote b c (P n) → n + 1 ≤ m → ((i : ℕ) → n + 1 ≤ i → i < m → P i []) → Wrote a c (Each P m)
+each_next a b c P n m x y l none = each_skipped a c P (n + 1) m l none (each_more a b c P n x y)
 
 -- texts behind one another
 pub four_parts : (a b c d : List ℕ) → a ++ (b ++ (c ++ d)) ≡ a ++ b ++ c ++ d

@@ -1,44 +1,63 @@
 -- Rules, waits and conflicts.
-use Rattle.std.specs.Prelude.{MatchResult, MatchOption, is_err}
-use Rattle.std.proofs.Common.{◌≡◌, ℕ, zero, suc, ◌+◌, ◌-◌, ◌<◌, ◌≤◌, inl, inr, IsTrue, List, [], ◌∷◌, Option, Some, None, Result, Ok, Err, length, take, count_by, eqb, refl, ◌∙◌, ap, arith, false}
+use Rattle.std.specs.Prelude.{MatchOption}
+use Rattle.std.proofs.Common.{◌≡◌, ◌↔◌, ℕ, zero, suc, ◌+◌, ◌-◌, ◌<◌, ◌≤◌, ◌⊎◌, inl, inr, Bool, true, false, IsTrue, List, [], ◌∷◌, Option, Some, None, length, take, slice_index, count_by, eqb, refl, sym, subst, ◌∙◌, ap, arith}
 use Rattle.std.proofs.lemmas.Bool.{cases_lt, eq-eqb, ne_eqb}
 use Rattle.std.proofs.lemmas.List.Sums.{count_by_more_no, count_by_more_yes}
 use Rattle.hq_model.specs.Job.{Job, packet, no_packet, IsPacket, place_in_queue, Frees}
-use Rattle.hq_model.specs.Order.{Before, OrderList, In, Stuck}
+use Rattle.hq_model.specs.Order.{Before, OrderList, In, Stuck, place}
 use Rattle.hq_model.specs.Order.Before.{by_bit_of, by_bit_ahead, by_queue, by_and, by_or, through}
 use Rattle.hq_model.specs.Fence.{Ordered}
-use Rattle.hq_model.proofs.Places.{in_more, in_pushed}
+use Rattle.hq_model.specs.Theorems.{Valid}
+use Rattle.hq_model.proofs.Places.{at_place, place_at, in_more, in_pushed}
+use Rattle.hq_order.specs.Bits.{has}
 use Rattle.hq_job.specs.Access.{AreOfQueue}
-use Rattle.hq_audit.specs.declared.directed.Directed.{Directed}
 use Rattle.hq_audit.specs.declared.directed.Unshown.{Unshown}
-use Rattle.hq_audit.specs.Refused.{ShownOneWay, IsDirected, IsUnshown}
-use Rattle.hq_audit.proofs.Turning.{one_way}
+use Rattle.hq_audit.specs.declared.fault.AuditNo.TheVariants as audit
+use Rattle.hq_audit.specs.Refused.{AllShown, IsFirstUnshown}
+use Rattle.hq_audit.proofs.Certifying.{ordered_is_not_refused, shown_is_ordered}
+use Rattle.hq_graph.specs.declared.found.Found.TheVariants as found
+use Rattle.hq_graph.specs.declared.rule.Rule.{Rule}
 use Rattle.hq_graph.specs.declared.rule.Rule.TheVariants as rule
 use Rattle.hq_graph.specs.declared.wait.Wait.{Wait}
 use Rattle.hq_graph.specs.declared.wait.Wait.TheVariants as wait
-use Rattle.hq_graph.specs.Order.{IsStep, IsRule, WaitsBy, Awaits}
-use Rattle.hq_graph.specs.Known.{IsOpen, IsShut}
+use Rattle.hq_graph.specs.Order.{HasRule, IsStep, IsRule, WaitsBy, Awaits, IsFound, NeverSubmitted}
+use Rattle.hq_graph.specs.declared.stuck.Stuck as declared
+use Rattle.hq_graph.specs.Known.{AreTurns, TellsStuck}
 
 -- ---- the rule of a step
 
-or_of : (job : Job) (p r : ℕ) → Before job p r → ((m : ℕ) → Before job p m → Before job m r → ⊥) → ((j : ℕ) → ¬ IsRule job p r (rule.Bit j)) → (¬ IsRule job p r rule.Queue) → ((s : ℕ) → ¬ IsRule job p r (rule.And s)) → IsRule job p r rule.Or
-or_of job p r (by_bit_of e b) none nb nq na = absurd (nb r (e, b, inl refl))
-or_of job p r (by_bit_ahead {j = j} e b f) none nb nq na = absurd (nb j (e, b, inr f))
-or_of job p r (by_queue e b) none nb nq na = absurd (nq (e, b))
-or_of job p r (by_and {slot = slot} {s = s} k d c) none nb nq na = absurd (na s (k, (slot, d), c))
-or_of job p r (by_or k d f) none nb nq na = (k, f)
-or_of job p r (through {m = m} x y) none nb nq na = absurd (none m x y)
+step_rule : (job : Job) (p r : ℕ) → Before job p r → ((m : ℕ) → Before job p m → Before job m r → ⊥) → HasRule job p r
+step_rule job p r (by_bit_of e b) none = (rule.Bit r, (e, b, inl refl))
+step_rule job p r (by_bit_ahead {j = j} e b f) none = (rule.Bit j, (e, b, inr f))
+step_rule job p r (by_queue e b) none = (rule.Queue, (e, b))
+step_rule job p r (by_and {slot = slot} {s = s} k d c) none = (rule.And s, (k, (slot, d), c))
+step_rule job p r (by_or k d f) none = (rule.Or, (k, f))
+step_rule job p r (through {m = m} x y) none = absurd (none m x y)
 
--- A step that no other rule gives is one of a barrier-OR.
-pub or_rule : (job : Job) (p r : ℕ) → IsStep job p r → ((j : ℕ) → ¬ IsRule job p r (rule.Bit j)) → (¬ IsRule job p r rule.Queue) → ((s : ℕ) → ¬ IsRule job p r (rule.And s)) → IsRule job p r rule.Or
-or_rule job p r step nb nq na = or_of job p r step.before step.none_between nb nq na
+-- A step follows from one rule alone.
+pub rule_of_step : (job : Job) (p r : ℕ) → IsStep job p r → HasRule job p r
+rule_of_step job p r step = step_rule job p r step.before step.none_between
+
+or_of : (job : Job) (p r : ℕ) (by : Rule) → IsRule job p r by → ((j : ℕ) → ¬ IsRule job p r (rule.Bit j)) → (¬ IsRule job p r rule.Queue) → ((s : ℕ) → ¬ IsRule job p r (rule.And s)) → IsRule job p r rule.Or
+or_of job p r (rule.Bit j) is nb nq na = absurd (nb j is)
+or_of job p r rule.Queue is nb nq na = absurd (nq is)
+or_of job p r (rule.And s) is nb nq na = absurd (na s is)
+or_of job p r rule.Or is nb nq na = is
+
+-- Where a rule puts p before r, and no other does, it is that of a barrier-OR.
+pub or_rule : (job : Job) (p r : ℕ) → HasRule job p r → ((j : ℕ) → ¬ IsRule job p r (rule.Bit j)) → (¬ IsRule job p r rule.Queue) → ((s : ℕ) → ¬ IsRule job p r (rule.And s)) → IsRule job p r rule.Or
+or_rule job p r has nb nq na = or_of job p r has.0 has.1 nb nq na
 
 -- ---- ways to wait
 
-pub no_way : (job : Job) (p r : ℕ) → (¬ WaitsBy job p r wait.Ahead) → (¬ Frees job p r) → ((s : ℕ) → ¬ WaitsBy job p r (wait.Signal s)) → (by : Wait) → ¬ WaitsBy job p r by
-no_way job p r a f s wait.Ahead = a
-no_way job p r a f s wait.Slot = f
-no_way job p r a f s (wait.Signal k) = s k
+pub not_so : (P : Type 0) (b : Bool) → IsTrue b ↔ P → b ≡ false → ¬ P
+not_so P b h f p = let t : true ≡ false = sym (h.1 p) ∙ f in let never : ⊥ = cc in never
+
+pub no_way : (job : Job) (p r : ℕ) → (¬ WaitsBy job p r wait.Ahead) → (¬ Frees job p r) → ((s : ℕ) → ¬ WaitsBy job p r (wait.Signal s)) → (¬ WaitsBy job p r wait.Turn) → (by : Wait) → ¬ WaitsBy job p r by
+no_way job p r a f s t wait.Ahead = a
+no_way job p r a f s t wait.Slot = f
+no_way job p r a f s t (wait.Signal k) = s k
+no_way job p r a f s t wait.Turn = t
 
 -- the first n packets that are of the queue: none up to its first, then each
 counted : (job : Job) (q start stop : ℕ) → AreOfQueue job q start stop → stop ≤ length job.packets → (n : ℕ) → n ≤ stop → count_by (λ e. eqb e.queue q) (take n job.packets) ≡ n - start
@@ -72,29 +91,75 @@ place_of job q start stop p are of is =
     let y : place_in_queue job p + start ≡ p = place_is job q start stop p are of b.0 b.1 in
     (b.0, omega arith)
 
+pub some_stuck : (job : Job) (stuck : declared.Stuck) (p : ℕ) → TellsStuck job stuck → Stuck job p → IsTrue stuck.some
+some_stuck job stuck p t s = elim (is_or_not stuck.some) [ inl y ↦ y | inr n ↦ absurd (t.free n p s) ]
+  where
+    is_or_not : (b : Bool) → IsTrue b ⊎ (b ≡ false)
+    is_or_not true = inl refl
+    is_or_not false = inr refl
+
 pub awaits_if : (job : Job) (p r : ℕ) (o : Option Wait) → Stuck job p → Stuck job r → MatchOption o ((by : Wait) → ¬ WaitsBy job p r by) (λ by. WaitsBy job p r by) → MatchOption o ((by : Wait) → ¬ Awaits job p r by) (λ by. Awaits job p r by)
 awaits_if job p r None x y h = λ by a. h by a.waits
 awaits_if job p r (Some by) x y h = record { first = x; second = y; waits = h }
 
--- ---- conflicts
+-- ---- turns
 
-pub open_of : (job : Job) (a b : ℕ) (r : Result Directed Unshown) → MatchResult r (λ d. IsDirected job a b d) (λ u. IsUnshown job a b u) → IsTrue (is_err r) → ¬ ShownOneWay job a b
-open_of job a b (Ok d) h t = let never : ⊥ = cc in absurd never
-open_of job a b (Err u) h t = h.neither
+-- From the first turn on whose packet has no slot, none is submitted.
+pub barred_is : (job : Job) (set turns : List ℕ) (barred p : ℕ) → Valid job → ((q : ℕ) → IsTrue (has set q) ↔ Stuck job q) → AreTurns job set turns barred → IsPacket job p → (barred ≤ place job.submissions p) ↔ NeverSubmitted job p
+barred_is job set turns barred p valid each t is =
+    let there : In job.submissions p = valid.submissions.all p is in (
+      λ l.
+          let low : barred < length job.submissions = omega arith in
+          let h = t.there low in
+          let m = slice_index job.submissions barred in
+          let most : place job.submissions m ≤ barred = place_at job.submissions barred 0 low in (
+            h.0,
+            (each h.0).0 h.1,
+            record {
+              is_packet = is;
+              m = m;
+              upto = elim (cases_lt (place job.submissions m) (place job.submissions p)) [
+                | inl ahead ↦ inr ahead
+                | inr same ↦
+                    let one : barred ≡ place job.submissions p = omega arith in
+                    inl (ap (slice_index job.submissions) one ∙ at_place job.submissions p 0 there)
+              ];
+              frees = h.2;
+            },
+          ),
+      λ n. elim (cases_lt (place job.submissions p) barred) [
+        | inr high ↦ high
+        | inl low ↦
+            let f = n.2 in
+            let m_is : IsPacket job f.m = f.frees.earlier.is_packet in
+            let inside : In job.submissions f.m = valid.submissions.all f.m m_is in
+            let here : slice_index job.submissions (place job.submissions f.m) ≡ f.m = at_place job.submissions f.m 0 inside in
+            let ahead : place job.submissions f.m < barred = elim f.upto [ inl e ↦ subst (λ m. place job.submissions m < barred) (sym e) low | inr before ↦ omega arith ] in
+            absurd (t.first (place job.submissions f.m) ahead (n.0, (each n.0).1 n.1, subst (Frees job n.0) (sym here) f.frees))
+      ],
+    )
 
-pub shut_of : (job : Job) (a b : ℕ) (r : Result Directed Unshown) → MatchResult r (λ d. IsDirected job a b d) (λ u. IsUnshown job a b u) → is_err r ≡ false → ShownOneWay job a b
-shut_of job a b (Ok d) h t = one_way job a b d h
-shut_of job a b (Err u) h t = let never : ⊥ = cc in absurd never
+-- p comes right ahead of the packet of the other turn, and never is submitted
+pub turn_is : (job : Job) (set turns : List ℕ) (barred p r turn other : ℕ) (b : Bool) → Valid job → ((q : ℕ) → IsTrue (has set q) ↔ Stuck job q) → AreTurns job set turns barred → IsPacket job p
+    → turn ≡ place job.submissions p → other ≡ place job.submissions r → barred ≤ turn → IsTrue b ↔ (suc turn ≡ other) → IsTrue b ↔ WaitsBy job p r wait.Turn
+turn_is job set turns barred p r turn other b valid each t is e f l h =
+    let never : NeverSubmitted job p = (barred_is job set turns barred p valid each t is).0 (omega arith) in (
+      λ x. (ap suc (sym e) ∙ h.0 x ∙ f, never),
+      λ w. h.1 (ap suc e ∙ w.0 ∙ sym f),
+    )
 
-pub not_ordered : (job : Job) (a b : ℕ) → IsOpen job a b → ¬ Ordered job
-not_ordered job a b x o = x.neither (o.shown a b x.conflict.0 x.above x.low x.conflict.1)
+pub no_turn : (job : Job) (set turns : List ℕ) (barred p r turn : ℕ) → Valid job → ((q : ℕ) → IsTrue (has set q) ↔ Stuck job q) → AreTurns job set turns barred → IsPacket job p
+    → turn ≡ place job.submissions p → turn < barred → ¬ WaitsBy job p r wait.Turn
+no_turn job set turns barred p r turn valid each t is e l w = let h : barred ≤ place job.submissions p = (barred_is job set turns barred p valid each t is).1 w.1 in omega arith
 
-pub ordered_of : (job : Job) → ((list : List ℕ) × OrderList job list) → ((a : ℕ) → a < length job.packets → (b : ℕ) → b < length job.packets → IsShut job a b) → Ordered job
-ordered_of job o h = record {
-  list = o.0;
-  order = o.1;
-  shown = λ p r kind above is conflict. let low : r < length job.packets = is in h p (omega arith) r is above (kind, conflict);
-}
+-- ---- what is found
+
+pub conflict_found : (job : Job) (u : Unshown) → ((list : List ℕ) × OrderList job list) → IsFirstUnshown job u → IsFound job found.Conflict
+conflict_found job u o f =
+    ((λ (ordered : Ordered job). let memory : audit.Conflict u.p u.r u.fault.kind u.fault.why ≡ audit.Memory = ordered_is_not_refused job (audit.Conflict u.p u.r u.fault.kind u.fault.why) ordered (o, f) in let never : ⊥ = cc in never), o)
+
+pub ordered_found : (job : Job) → ((list : List ℕ) × OrderList job list) → AllShown job → IsFound job found.Ordered
+ordered_found job o h = shown_is_ordered job o.0 o.1 h
 
 -- ---- lists
 

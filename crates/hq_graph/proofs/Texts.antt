@@ -1,12 +1,12 @@
 -- What was written says what it is to say.
-use Rattle.std.proofs.Common.{◌≡◌, ◌↔◌, ◌<◌, ℕ, List, Bool, IsTrue, Option, ap, refl, sym, subst, inl, inr, Result, OnOk}
+use Rattle.std.proofs.Common.{◌≡◌, ◌↔◌, ◌+◌, ◌<◌, ℕ, List, [], Bool, IsTrue, Option, ap, refl, inl, inr, arith, Result, OnOk}
 use Rattle.std.specs.Io.KnownBytes.{Appends}
 use Rattle.hq_job.specs.Value.{JobValue}
 use Rattle.hq_model.specs.Job.{Job}
 use Rattle.hq_model.specs.Order.{Stuck}
-use Rattle.hq_order.specs.Bits.{has}
 use Rattle.hq_audit.specs.declared.directed.Directed.{Directed}
 use Rattle.hq_audit.specs.declared.directed.Unshown.{Unshown}
+use Rattle.hq_audit.specs.Parts.{NeverConflict}
 use Rattle.hq_audit.specs.Refused.{IsDirected, IsUnshown}
 use Rattle.hq_graph.specs.declared.nodes.Node.{Node}
 use Rattle.hq_graph.specs.declared.rule.Rule.{Rule}
@@ -16,10 +16,9 @@ use Rattle.hq_graph.specs.Order.{IsStep, IsRule, HaveConflict, Awaits}
 use Rattle.hq_graph.specs.Graph.{Where, Wrote, NodeText, ConflictText, PairText, RowText, PairsText, node_of, node_there, step_text, ordered_text, open_text, wait_text}
 use Rattle.hq_graph.proofs.Joining.{so_on, hence_on, unwritten, each_empty}
 
-pub node_on : {A E : Type 0} (result : Result A E) (a b : Option (List ℕ)) (job : JobValue) (order : Job) (set : List ℕ) (queue p : ℕ) (node : Option Node) (stuck : Bool) → ((p : ℕ) → IsTrue (has set p) ↔ Stuck order p) → node ≡ node_of job queue p → stuck ≡ has set p
+pub node_on : {A E : Type 0} (result : Result A E) (a b : Option (List ℕ)) (job : JobValue) (order : Job) (queue p : ℕ) (node : Option Node) (stuck : Bool) → IsTrue stuck ↔ Stuck order p → node ≡ node_of job queue p
     → OnOk result (Appends a b (node_there node stuck)) → OnOk result (Wrote a b (NodeText job order queue p))
-node_on result a b job order set queue p node stuck each n s h =
-    so_on result a b (NodeText job order queue p) (node_there node stuck) (stuck, subst (λ t. IsTrue t ↔ Stuck order p) (sym s) (each p), ap (λ m. node_there m stuck) n) h
+node_on result a b job order queue p node stuck each n h = so_on result a b (NodeText job order queue p) (node_there node stuck) (stuck, each, ap (λ m. node_there m stuck) n) h
 
 pub step_on : {A E : Type 0} (result : Result A E) (a b : Option (List ℕ)) (job : JobValue) (order : Job) (r p : ℕ) (by : Rule) → IsStep order p r → IsRule order p r by
     → OnOk result (Appends a b (step_text job p r by)) → OnOk result (Wrote a b (PairText job order part.Steps r p))
@@ -44,6 +43,19 @@ wait_on result a b job order r p by is h = so_on result a b (PairText job order 
 -- where something doesn't hold, nothing is written
 pub none_there : (a : Option (List ℕ)) (Holds : Type 0) (Line : List ℕ → Type 0) → (¬ Holds) → Wrote a a (Where Holds Line)
 none_there a Holds Line never = unwritten a (Where Holds Line) (inr (never, refl))
+
+-- what has no text
+pub no_step : (job : JobValue) (order : Job) (r p : ℕ) → (¬ IsStep order p r) → PairText job order part.Steps r p []
+no_step job order r p never = inr (never, refl)
+
+pub no_conflict_below : (job : JobValue) (order : Job) (a b : ℕ) → b < a + 1 → PairText job order part.Conflicts a b []
+no_conflict_below job order a b low = inr ((λ h. let above = h.0 in absurd (omega (arith, above))), refl)
+
+pub no_conflict : (job : JobValue) (order : Job) (a b : ℕ) → NeverConflict order a b → PairText job order part.Conflicts a b []
+no_conflict job order a b never = inr ((λ h. never h.1.0 h.1.1), refl)
+
+pub no_waits_of : (a : Option (List ℕ)) (job : JobValue) (order : Job) (r : ℕ) → (Stuck order r → ⊥) → Wrote a a (RowText job order part.Waits r)
+no_waits_of a job order r free = unwritten a (RowText job order part.Waits r) (each_empty (PairText job order part.Waits r) _ (λ p. inr ((λ w. free w.1.second), refl)))
 
 -- where nothing is stuck, nothing waits
 pub no_waits : (a : Option (List ℕ)) (job : JobValue) (order : Job) → ((p : ℕ) → Stuck order p → ⊥) → Wrote a a (PairsText job order part.Waits)

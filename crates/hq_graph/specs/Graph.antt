@@ -235,11 +235,13 @@ abbrev pub awaited_by : JobValue → Wait → Option (List ℕ)
 awaited_by job wait.Ahead = None
 awaited_by job wait.Slot = None
 awaited_by job (wait.Signal s) = slice_get job.signal_names s
+awaited_by job wait.Turn = None
 
 abbrev pub awaited_text : ℕ → Wait → Option (List ℕ) → List ℕ
 awaited_text p wait.Ahead name = codes "packet " ++ decimal p
 awaited_text p wait.Slot name = codes "its slot"
 awaited_text p (wait.Signal s) name = name_of name
+awaited_text p wait.Turn name = codes "the submission of packet " ++ decimal p
 
 abbrev pub wait_line : ℕ → ℕ → Wait → Option (List ℕ) → List ℕ
 wait_line p r by name = arrow_text r p ++ codes "color=red style=dotted fontcolor=red label=\"waits for " ++ awaited_text p by name ++ codes "\"];\n"

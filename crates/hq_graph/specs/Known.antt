@@ -1,54 +1,52 @@
 -- What is known of a job before anything is written.
-use Rattle.std.specs.Prelude.{◌≡◌, ℕ, ◌+◌, ◌*◌, ◌<◌, ◌≤◌, ◌↔◌, IsTrue, Bool, true, false, List, length}
-use Rattle.hq_model.specs.Job.{Job, Dependency, Decrements}
+use Rattle.std.specs.Prelude.{◌≡◌, ℕ, ◌<◌, ◌≤◌, ◌↔◌, IsTrue, false, List, length, slice_index}
+use Rattle.std.specs.Global.{Vec}
+use Rattle.hq_model.specs.Job.{Job, IsPacket, Dependency, Decrements, Frees}
 use Rattle.hq_model.specs.Order as order
-use Rattle.hq_model.specs.Order.{Before, OrderList}
+use Rattle.hq_model.specs.Order.{OrderList, place}
 use Rattle.hq_order.specs.Bits.{has}
-use Rattle.hq_audit.specs.Refused.{ShownOneWay}
-use Rattle.hq_graph.specs.Order.{HaveConflict}
+use Rattle.hq_order.specs.Matrix.{Marks, row}
+use Rattle.hq_order.specs.Placing.{AllAre}
+use Rattle.hq_audit.specs.Parts.{AreParts}
+use Rattle.hq_graph.specs.Order.{IsStep}
 use Rattle.hq_graph.specs.declared.stuck.Stuck.{Stuck}
 use Rattle.hq_graph.specs.declared.sight.Sight.{Sight}
 
--- m is before k; or where it is turned, k before m
-abbrev pub Way : Job → Bool → ℕ → ℕ → Type 0
-Way job false k m = Before job m k
-Way job true k m = Before job k m
+-- the row of each packet has the packets from which a step leads to it
+pub record AreSteps (job : Job) (rows : List (Vec ℕ)) : Type 0 where
+  pub height : length rows ≡ length job.packets
+  pub width : (r : ℕ) → IsPacket job r → length (row rows r) ≤ 16
+  pub exact : (p r : ℕ) → IsPacket job r → Marks rows p r ↔ IsStep job p r
 
--- x is the place, in row k, of one of the first n numbers for which something holds
-abbrev pub InRow : (ℕ → Type 0) → ℕ → ℕ → ℕ → Type 0
-InRow Holds k n x = (m : ℕ) × (m < n) × (Holds m × (x ≡ k * 1024 + m))
+-- a packet of the set has the slot of r
+abbrev pub HasNoSlot : Job → List ℕ → ℕ → Type 0
+HasNoSlot job set r = (q : ℕ) × IsTrue (has set q) × Frees job q r
 
--- row k of the table has m, for each two packets of which that way holds
-pub record IsTable (job : Job) (turned : Bool) (table : List ℕ) : Type 0 where
-  pub len : length table ≡ 16384
-  pub exact : (k m : ℕ) → k < 1024 → m < 1024 → IsTrue (has table (k * 1024 + m)) ↔ Way job turned k m
+-- When each packet is submitted, and the first turn at which a packet of the set has the slot: none from there on is submitted. Where there is no
+-- such turn it is the number of turns.
+pub record AreTurns (job : Job) (set turns : List ℕ) (barred : ℕ) : Type 0 where
+  pub count : length turns ≡ length job.packets
+  pub are : AllAre (λ p turn. turn ≡ place job.submissions p) turns
+  pub upto : barred ≤ length job.submissions
+  pub there : barred < length job.submissions → HasNoSlot job set (slice_index job.submissions barred)
+  pub first : (k : ℕ) → k < barred → ¬ HasNoSlot job set (slice_index job.submissions k)
 
--- the set is that of the packets that can never complete, and it is told whether there are such
+-- the set is that of the packets that can never complete; it is told whether there are such, and if so which packets are never submitted
 pub record TellsStuck (job : Job) (stuck : Stuck) : Type 0 where
   pub each : (p : ℕ) → IsTrue (has stuck.row.items p) ↔ order.Stuck job p
   pub some : IsTrue stuck.some → (p : ℕ) × order.Stuck job p
   pub ordered : stuck.some ≡ false → (list : List ℕ) × OrderList job list
   pub free : stuck.some ≡ false → (p : ℕ) → order.Stuck job p → ⊥
+  pub turns : IsTrue stuck.some → AreTurns job stuck.row.items stuck.turns.items stuck.barred
 
--- the tables and the set are those of the order's job
+-- the steps, the parts and the set are those of the order's job
 pub record Sees (s : Sight) : Type 0 where
   pub few : length s.before.now.packets ≤ 1024
-  pub ahead : IsTable s.before.now false s.ahead.now
-  pub behind : IsTable s.before.now true s.behind.now
-  pub stuck : (p : ℕ) → IsTrue (has s.stuck.now p) ↔ order.Stuck s.before.now p
+  pub steps : AreSteps s.before.now s.steps.now
+  pub parts : AreParts s.before.now s.parts.now
+  pub stuck : TellsStuck s.before.now s.stuck.now
 
 -- p completes on a signal that a slot of r names
 pub record Completes (job : Job) (p r s : ℕ) : Type 0 where
   pub named : (slot : ℕ) × Dependency job r slot s
   pub decrements : Decrements job p s
-
--- a and b conflict, and are ordered in neither direction
-pub record IsOpen (job : Job) (a b : ℕ) : Type 0 where
-  pub above : a < b
-  pub low : b < length job.packets
-  pub conflict : HaveConflict job a b
-  pub neither : ¬ ShownOneWay job a b
-
--- where they conflict they are ordered
-abbrev pub IsShut : Job → ℕ → ℕ → Type 0
-IsShut job a b = a < b → HaveConflict job a b → ShownOneWay job a b

@@ -2,7 +2,7 @@
 use Rattle.std.specs.Prelude.{◌≡◌, ℕ, suc, ◌⊎◌, IsTrue, List}
 use Rattle.hq_model.specs.Job.{Job, packet, Earlier, IsBarrier, Dependency, Decrements, Frees}
 use Rattle.hq_model.specs.Job.Kind.{BarrierAnd, BarrierOr}
-use Rattle.hq_model.specs.Order.{Before, Branch, OrderList, Stuck}
+use Rattle.hq_model.specs.Order.{Before, Branch, FreesFor, OrderList, Stuck, place}
 use Rattle.hq_model.specs.Fence.{Conflict, Conflicts, Ordered}
 use Rattle.hq_graph.specs.declared.rule.Rule.{Rule}
 use Rattle.hq_graph.specs.declared.rule.Rule.TheVariants as rule
@@ -25,16 +25,25 @@ IsRule job p r rule.Queue = Earlier job p r × IsBarrier job p
 IsRule job p r (rule.And s) = ((packet job r).kind ≡ BarrierAnd) × ((slot : ℕ) × Dependency job r slot s) × Decrements job p s
 IsRule job p r rule.Or = ((packet job r).kind ≡ BarrierOr) × ((slot s : ℕ) → Dependency job r slot s → Branch job p s)
 
+-- Some rule alone puts p before r.
+abbrev pub HasRule : Job → ℕ → ℕ → Type 0
+HasRule job p r = (by : Rule) × IsRule job p r by
+
 -- the two conflict in some way, a first
 abbrev pub HaveConflict : Job → ℕ → ℕ → Type 0
 HaveConflict job a b = (kind : Conflict) × Conflicts job kind a b
 
--- What r can't do without p, which stands in its way: p stands right ahead of it in its queue, has its slot of the ring, or completes on a
--- signal that it waits for. That r waits to be submitted behind another packet, which has no slot yet, is told of that packet alone.
+-- p is never submitted: a packet that can never complete has its slot, or the slot of a packet that is submitted before it.
+abbrev pub NeverSubmitted : Job → ℕ → Type 0
+NeverSubmitted job p = (q : ℕ) × Stuck job q × FreesFor job q p
+
+-- What r can't do without p, which stands in its way: p stands right ahead of it in its queue, has its slot of the ring, completes on a signal
+-- that it waits for, or comes right ahead of it in the order of submission and is never submitted.
 abbrev pub WaitsBy : Job → ℕ → ℕ → Wait → Type 0
 WaitsBy job p r wait.Ahead = Earlier job p r × (suc p ≡ r)
 WaitsBy job p r wait.Slot = Frees job p r
 WaitsBy job p r (wait.Signal s) = IsBarrier job r × ((slot : ℕ) × Dependency job r slot s) × Decrements job p s
+WaitsBy job p r wait.Turn = (suc (place job.submissions p) ≡ place job.submissions r) × NeverSubmitted job p
 
 -- two packets that can never complete, the second of which waits for the first
 pub record Awaits (job : Job) (p r : ℕ) (by : Wait) : Type 0 where

@@ -1,23 +1,23 @@
 //! Whole graphs.
 
-ghost use Rattle.std.specs.Prelude.{◌≡◌, ℕ, List, IfErr, IfOk, OnOk, false};
+ghost use Rattle.std.specs.Prelude.{◌≡◌, ℕ, List, IfErr, IfOk, OnOk};
 ghost use Rattle.std.specs.Io.KnownBytes.{Appends};
 ghost use Rattle.hq_job.specs.Plan.{plan};
-ghost use Rattle.hq_model.specs.Order as order;
 ghost use Rattle.hq_graph.specs.Graph.{DrawnText, GraphText, Wrote, opening};
 ghost use Rattle.hq_graph.specs.Known.{Sees};
 ghost use Rattle.hq_graph.specs.Order.{IsFound};
 ghost use Rattle.hq_graph.specs.declared.fault.GraphFault.TheVariants.{Memory};
 
-use crate::edges::{write_pairs, write_waits};
 use crate::fault::GraphFault;
 use crate::found::Found;
 use crate::judging::found_of;
 use crate::nodes::{write_close, write_clusters};
+use crate::pairs::{write_pairs, write_waits};
 use crate::part::Part;
-use crate::rows::table_of;
+use crate::rows::steps_of;
 use crate::sight::Sight;
 use crate::stuck::stuck_of;
+use hq_audit::Parts;
 use hq_job::Job;
 use hq_order::Before;
 use std::alloc::Global;
@@ -35,17 +35,16 @@ fn write_opening<W: Write>(writer: &mut W) -> io::Result<()>
     writer.write_all(OPENING)
 }
 
-/// Writes the graph of a job whose order is worked out; `some` says whether packets can never complete.
-fn write_all<W: Write>(writer: &mut W, job: &Job, sight: &Sight, some: bool) -> io::Result<()>
-    requires sees { Sees sight.now }
-    requires free { some ≡ false → (p : ℕ) → order.Stuck sight.now.before.now p → ⊥ }
+/// Writes the graph of a job whose order is worked out.
+fn write_all<W: Write>(writer: &mut W, job: &Job, sight: &Sight) -> io::Result<()>
+    requires { Sees sight.now }
     ensures { OnOk result (Wrote (W.contents writer.old) (W.contents writer.new) (DrawnText job.now sight.now.before.now)) }
 {
     write_opening(writer)?;
     write_clusters(writer, job, sight)?;
     write_pairs(writer, job, sight, Part::Steps)?;
     write_pairs(writer, job, sight, Part::Conflicts)?;
-    write_waits(writer, job, sight, some)?;
+    write_waits(writer, job, sight)?;
     write_close(writer)
 }
 
@@ -62,15 +61,15 @@ pub fn graph<W: Write>(alloc: Global, writer: &mut W, job: &Job) -> Result<Found
     job.valid();
     let stuck = stuck_of(alloc, job)?;
     let before = Before::build(alloc, job)?;
-    let ahead = table_of(alloc, &before, false)?;
-    let behind = table_of(alloc, &before, true)?;
-    let found = found_of(&before, &stuck);
+    let steps = steps_of(alloc, &before)?;
+    let parts = Parts::build(alloc, job)?;
+    let found = found_of(&before, &parts, &stuck);
     let sight = Sight {
         before: &before,
-        ahead: &ahead,
-        behind: &behind,
-        stuck: &stuck.row,
+        steps: &steps,
+        parts: &parts,
+        stuck: &stuck,
     };
-    write_all(writer, job, &sight, stuck.some)?;
+    write_all(writer, job, &sight)?;
     Ok(found)
 }

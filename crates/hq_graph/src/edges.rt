@@ -1,17 +1,15 @@
 //! What is drawn for two packets.
 
-ghost use Rattle.std.specs.Prelude.{◌≡◌, ◌<◌, ◌↔◌, ℕ, IsTrue, OnOk, Some, slice_get, false};
+ghost use Rattle.std.specs.Prelude.{◌≡◌, ◌<◌, ◌↔◌, IsTrue, OnOk, Some, slice_get};
 ghost use Rattle.std.specs.Io.KnownBytes.{Appends};
 ghost use Rattle.hq_model.specs.Job.{IsPacket};
 ghost use Rattle.hq_model.specs.Order as order;
-ghost use Rattle.hq_graph.specs.Graph.{ConflictText, PairText, PairsText, RowText, Wrote, acquire_text, awaited_by, awaited_text, break_text, fault_text, kinds_text, named_by, name_of, open_text, ordered_text, release_text, rule_text, rw_text, step_text, wait_line, wait_text, wr_text, ww_text};
+ghost use Rattle.hq_graph.specs.Graph.{ConflictText, PairText, Wrote, acquire_text, awaited_by, awaited_text, break_text, fault_text, kinds_text, named_by, name_of, open_text, ordered_text, release_text, rule_text, rw_text, step_text, wait_line, wait_text, wr_text, ww_text};
 ghost use Rattle.hq_graph.specs.Known.{Sees};
-ghost use Rattle.hq_graph.specs.Order.{HaveConflict};
+ghost use Rattle.hq_graph.specs.Order.{HaveConflict, IsStep};
 ghost use Rattle.hq_graph.specs.declared.part.Part.TheVariants as part;
 
 use crate::judging::have_conflict;
-use crate::part::Part;
-use crate::rows::is_step;
 use crate::rule::Rule;
 use crate::ruling::rule_of;
 use crate::sight::Sight;
@@ -27,7 +25,7 @@ use std::io::Write;
 use std::{fmt, io};
 
 /// The name of a signal.
-fn signal_name(job: &Job, signal: u16) -> Option<Name>
+pub fn signal_name(job: &Job, signal: u16) -> Option<Name>
     ensures { result ≡ slice_get job.now.signal_names signal }
 {
     let name = job.signal_names().get(signal as usize)?;
@@ -77,25 +75,21 @@ fn write_rule<W: Write>(writer: &mut W, job: &Job, p: usize, r: usize, rule: Rul
     write!(writer, "{arrow}{text}];\n")
 }
 
-/// Writes the step from p to r, if there is one.
-fn write_step<W: Write>(
+/// Writes the step from p to r.
+pub fn write_step<W: Write>(
     writer: &mut W,
     job: &Job,
-    sight: &Sight,
+    before: &Before,
     r: usize,
     p: usize,
 ) -> io::Result<()>
-    requires sees { Sees sight.now }
-    requires r { IsPacket sight.now.before.now r }
-    requires p { IsPacket sight.now.before.now p }
-    ensures { OnOk result (Wrote (W.contents writer.old) (W.contents writer.new) (PairText job.now sight.now.before.now part.Steps r p)) }
+    requires r { IsPacket before.now r }
+    requires p { IsPacket before.now p }
+    requires step { IsStep before.now p r }
+    ensures { OnOk result (Wrote (W.contents writer.old) (W.contents writer.new) (PairText job.now before.now part.Steps r p)) }
 {
-    if is_step(sight, p, r) {
-        let rule = rule_of(sight.before, p, r);
-        write_rule(writer, job, p, r, rule)
-    } else {
-        Ok(())
-    }
+    let rule = rule_of(before, p, r);
+    write_rule(writer, job, p, r, rule)
 }
 
 /// The packets of a release.
@@ -285,7 +279,7 @@ fn is_conflict(before: &Before, a: usize, b: usize) -> bool
 }
 
 /// Writes a and b where they conflict, and b is above a.
-fn write_conflict<W: Write>(
+pub fn write_conflict<W: Write>(
     writer: &mut W,
     job: &Job,
     before: &Before,
@@ -309,7 +303,7 @@ fn awaited_by(job: &Job, wait: Wait) -> Option<Name>
 {
     match wait {
         Wait::Signal(signal) => signal_name(job, signal),
-        Wait::Ahead | Wait::Slot => None,
+        Wait::Ahead | Wait::Slot | Wait::Turn => None,
     }
 }
 
@@ -331,6 +325,7 @@ impl fmt::Display for AwaitedText {
             Wait::Ahead => write!(f, "packet {p}"),
             Wait::Slot => f.write_str("its slot"),
             Wait::Signal(_) => write!(f, "{name}"),
+            Wait::Turn => write!(f, "the submission of packet {p}"),
         }
     }
 }
@@ -361,8 +356,8 @@ fn write_way<W: Write>(writer: &mut W, job: &Job, p: usize, r: usize, wait: Wait
     write_awaited(writer, r, awaited)
 }
 
-/// Writes that r waits for p, if it does and neither can complete.
-fn write_wait<W: Write>(
+/// Writes that r, which can never complete, waits for p, if it does and p can't either.
+pub fn write_wait<W: Write>(
     writer: &mut W,
     job: &Job,
     sight: &Sight,
@@ -370,6 +365,7 @@ fn write_wait<W: Write>(
     p: usize,
 ) -> io::Result<()>
     requires sees { Sees sight.now }
+    requires stuck { order.Stuck sight.now.before.now r }
     requires r { IsPacket sight.now.before.now r }
     requires p { IsPacket sight.now.before.now p }
     ensures { OnOk result (Wrote (W.contents writer.old) (W.contents writer.new) (PairText job.now sight.now.before.now part.Waits r p)) }
@@ -377,68 +373,5 @@ fn write_wait<W: Write>(
     match wait_of(sight, p, r) {
         Some(wait) => write_way(writer, job, p, r, wait),
         None => Ok(()),
-    }
-}
-
-/// Writes what a part has for two packets.
-fn write_pair<W: Write>(
-    writer: &mut W,
-    job: &Job,
-    sight: &Sight,
-    part: Part,
-    first: usize,
-    second: usize,
-) -> io::Result<()>
-    requires sees { Sees sight.now }
-    requires first { IsPacket sight.now.before.now first }
-    requires second { IsPacket sight.now.before.now second }
-    ensures { OnOk result (Wrote (W.contents writer.old) (W.contents writer.new) (PairText job.now sight.now.before.now part first second)) }
-{
-    match part {
-        Part::Steps => write_step(writer, job, sight, first, second),
-        Part::Conflicts => write_conflict(writer, job, sight.before, first, second),
-        Part::Waits => write_wait(writer, job, sight, first, second),
-    }
-}
-
-/// Writes what a part has for a packet and each packet.
-fn write_row<W: Write>(
-    writer: &mut W,
-    job: &Job,
-    sight: &Sight,
-    part: Part,
-    first: usize,
-) -> io::Result<()>
-    requires sees { Sees sight.now }
-    requires first { IsPacket sight.now.before.now first }
-    ensures { OnOk result (Wrote (W.contents writer.old) (W.contents writer.new) (RowText job.now sight.now.before.now part first)) }
-{
-    for second in 0..sight.before.len() {
-        write_pair(writer, job, sight, part, first, second)?;
-    }
-    Ok(())
-}
-
-/// Writes a part.
-pub fn write_pairs<W: Write>(writer: &mut W, job: &Job, sight: &Sight, part: Part) -> io::Result<()>
-    requires sees { Sees sight.now }
-    ensures { OnOk result (Wrote (W.contents writer.old) (W.contents writer.new) (PairsText job.now sight.now.before.now part)) }
-{
-    for first in 0..sight.before.len() {
-        write_row(writer, job, sight, part, first)?;
-    }
-    Ok(())
-}
-
-/// Writes what stuck packets wait for, where there are such.
-pub fn write_waits<W: Write>(writer: &mut W, job: &Job, sight: &Sight, some: bool) -> io::Result<()>
-    requires sees { Sees sight.now }
-    requires free { some ≡ false → (p : ℕ) → order.Stuck sight.now.before.now p → ⊥ }
-    ensures { OnOk result (Wrote (W.contents writer.old) (W.contents writer.new) (PairsText job.now sight.now.before.now part.Waits)) }
-{
-    if some {
-        write_pairs(writer, job, sight, Part::Waits)
-    } else {
-        Ok(())
     }
 }

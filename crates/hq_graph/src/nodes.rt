@@ -6,9 +6,9 @@ ghost use Rattle.hq_graph.specs.Graph.{ClusterText, ClustersText, Each, Is, Node
 ghost use Rattle.hq_graph.specs.Known.{Sees};
 
 use crate::sight::Sight;
+use crate::waiting::is_stuck;
 use crate::words::NameWord;
 use hq_job::{Job, Kernel, Placed, Queue};
-use hq_order::bits::has;
 use hq_packet::{Head, Packet};
 use hq_report::{KindWord, ScopeWord};
 use hq_text::Name;
@@ -63,7 +63,7 @@ fn work_of_kernel(kernel: Option<Kernel>) -> Work
 }
 
 /// What a packet does.
-fn work_of(job: &Job, packet: &Packet) -> Work
+pub fn work_of(job: &Job, packet: &Packet) -> Work
     ensures { result ≡ work_of job.now packet.now }
 {
     match packet {
@@ -188,7 +188,7 @@ fn write_node<W: Write>(
     requires sees { Sees sight.now }
     ensures { OnOk result (Wrote (W.contents writer.old) (W.contents writer.new) (NodeText job.now sight.now.before.now queue p)) }
 {
-    let stuck = has(sight.stuck, p);
+    let stuck = is_stuck(sight, p);
     let node = node_of(job, queue, p);
     write_there(writer, node, stuck)
 }

@@ -1,88 +1,79 @@
-//! The order as tables of bits, and what is between two packets.
+//! The steps of the order, as rows of bits.
 
-ghost use Rattle.std.specs.Prelude.{◌≡◌, ◌↔◌, ◌⊎◌, ◌&&◌, ◌||◌, ◌==◌, ℕ, ◌+◌, ◌*◌, ◌/◌, ◌<◌, IsTrue, IfOk, length};
+ghost use Rattle.std.specs.Prelude.{◌≡◌, ◌↔◌, ℕ, ◌<◌, ◌≤◌, IsTrue, IfOk, false, length};
+ghost use Rattle.hq_model.specs.Job.{IsPacket};
 ghost use Rattle.hq_model.specs.Order as order;
 ghost use Rattle.hq_order.specs.Bits.{has};
-ghost use Rattle.hq_graph.specs.Known.{InRow, IsTable, Sees, Way};
+ghost use Rattle.hq_order.specs.Matrix.{words_for};
+ghost use Rattle.hq_graph.specs.Known.{AreSteps, Sees};
 ghost use Rattle.hq_graph.specs.Order.{IsStep};
 
 use crate::sight::Sight;
 use hq_order::Before;
-use hq_order::bits::{WIDTH, WORDS, column_of, empty, first_common, insert};
+use hq_order::bits::{first_from, take_out};
 use std::alloc::{AllocError, Global};
 
-/// Whether m is before k; or where it is turned, k before m.
-fn is_way(before: &Before, turned: bool, k: usize, m: usize) -> bool
-    ensures { IsTrue result ↔ Way before.now turned k m }
+/// The least number of a set from one on, or the end where there is none below it.
+fn next_in(row: &[u64], from: usize, end: usize) -> usize
+    requires few { length row.now ≤ 16 }
+    requires from { from ≤ end }
+    requires end { end ≤ 1024 }
+    ensures above { from ≤ result }
+    ensures below { result ≤ end }
+    ensures none { (s : ℕ) → from ≤ s → s < result → has row.now s ≡ false }
+    ensures there { result < end → IsTrue (has row.now result) }
 {
-    if turned {
-        before.holds(k, m)
-    } else {
-        before.holds(m, k)
+    match first_from(row, from) {
+        Some(number) => number.min(end),
+        None => end,
     }
 }
 
-/// Takes the number in where it is to be there.
-fn insert_if(table: &mut [u64], number: usize, there: bool)
-    requires { number / 64 < length table.old }
-    ensures { (x : ℕ) → has table.new x ≡ (has table.old x || (there && x == number)) }
-{
-    if there {
-        insert(table, number);
-    }
-}
-
-/// Takes in row k of a table.
-fn fill_row(table: &mut [u64], before: &Before, turned: bool, k: usize)
-    requires len { length table.old ≡ 16384 }
-    requires k { k < length before.now.packets }
-    ensures { (x : ℕ) → IsTrue (has table.new x) ↔ (IsTrue (has table.old x) ⊎ InRow (Way before.now turned k) k (length before.now.packets) x) }
+/// Leaves of a set of packets those that are before no other of it.
+fn leave_last(row: &mut [u64], before: &Before)
+    requires { length row.old ≡ words_for (length before.now.packets) }
+    ensures { (p : ℕ) → IsTrue (has row.new p) ↔ (IsTrue (has row.old p) × ((m : ℕ) → IsTrue (has row.old m) → order.Before before.now p m → ⊥)) }
 {
     before.job().valid();
-    for m in 0..before.len() {
-        let there = is_way(before, turned, k, m);
-        insert_if(table, k * WIDTH + m, there);
+    let mut m = next_in(row, 0, before.len());
+    'each: while m < before.len() {
+        take_out(row, before.ahead(m));
+        m = next_in(row, m + 1, before.len());
     }
 }
 
-/// Takes in all rows of a table.
-fn fill(table: &mut [u64], before: &Before, turned: bool)
-    requires { length table.old ≡ 16384 }
-    ensures { (x : ℕ) → IsTrue (has table.new x) ↔ (IsTrue (has table.old x) ⊎ ((k : ℕ) × (k < length before.now.packets) × InRow (Way before.now turned k) k (length before.now.packets) x)) }
-{
-    for k in 0..before.len() {
-        fill_row(table, before, turned, k);
-    }
-}
-
-/// The table whose row of a packet has the packets before it; or where it is turned, those that it is before.
-pub fn table_of(alloc: Global, before: &Before, turned: bool) -> Result<Vec<u64>, AllocError>
-    ensures { IfOk result (λ table. IsTable before.now turned table.items) }
+/// The packets from which a step leads to a packet.
+fn step_row(alloc: Global, before: &Before, r: usize) -> Result<Vec<u64>, AllocError>
+    requires { IsPacket before.now r }
+    ensures width { IfOk result (λ row. length row.items ≤ 16) }
+    ensures exact { IfOk result (λ row. (p : ℕ) → IsTrue (has row.items p) ↔ IsStep before.now p r) }
 {
     before.job().valid();
-    let mut table = empty(alloc, WIDTH * WORDS)?;
-    fill(&mut table, before, turned);
-    Ok(table)
+    let mut row = before.ahead(r).to_vec(alloc)?;
+    leave_last(&mut row, before);
+    Ok(row)
 }
 
-/// Whether a packet is between two.
-fn is_between(sight: &Sight, p: usize, r: usize) -> bool
-    requires sees { Sees sight.now }
-    requires p { p < length sight.now.before.now.packets }
-    requires r { r < length sight.now.before.now.packets }
-    ensures { IsTrue result ↔ ((m : ℕ) × order.Before sight.now.before.now p m × order.Before sight.now.before.now m r) }
+/// For each packet those from which a step leads to it.
+pub fn steps_of(alloc: Global, before: &Before) -> Result<Vec<Vec<u64>>, AllocError>
+    ensures { IfOk result (λ rows. AreSteps before.now rows.items) }
 {
-    let behind = column_of(sight.behind, p);
-    let ahead = column_of(sight.ahead, r);
-    first_common(behind, ahead).is_some()
+    let mut rows = Vec::with_capacity(alloc, before.len())?;
+    for r in 0..before.len() {
+        rows.push(step_row(alloc, before, r)?)?;
+    }
+    Ok(rows)
 }
 
-/// Whether p is before r, with no packet between them.
-pub fn is_step(sight: &Sight, p: usize, r: usize) -> bool
+/// The least packet from one on from which a step leads to r, or the number of packets where there is none.
+pub fn next_step(sight: &Sight, r: usize, from: usize) -> usize
     requires sees { Sees sight.now }
-    requires p { p < length sight.now.before.now.packets }
-    requires r { r < length sight.now.before.now.packets }
-    ensures { IsTrue result ↔ IsStep sight.now.before.now p r }
+    requires r { IsPacket sight.now.before.now r }
+    requires from { from ≤ length sight.now.before.now.packets }
+    ensures above { from ≤ result }
+    ensures below { result ≤ length sight.now.before.now.packets }
+    ensures none { (p : ℕ) → from ≤ p → p < result → ¬ IsStep sight.now.before.now p r }
+    ensures there { result < length sight.now.before.now.packets → IsStep sight.now.before.now result r }
 {
-    sight.before.holds(p, r) && !is_between(sight, p, r)
+    next_in(&sight.steps[r], from, sight.before.len())
 }

@@ -5,7 +5,7 @@ ghost use Rattle.hq_job.specs.Plan.{plan, kind_of};
 ghost use Rattle.hq_model.specs.Job.{IsPacket};
 ghost use Rattle.hq_model.specs.Job.Kind.{Work};
 ghost use Rattle.hq_graph.specs.Known.{Completes};
-ghost use Rattle.hq_graph.specs.Order.{IsRule, IsStep};
+ghost use Rattle.hq_graph.specs.Order.{HasRule, IsRule, IsStep};
 ghost use Rattle.hq_graph.specs.declared.rule.Rule.TheVariants as by;
 
 use crate::rule::Rule;
@@ -98,11 +98,11 @@ fn signal_of(job: &Job, p: usize, r: usize) -> Option<u16>
     }
 }
 
-/// The rule of a step.
-fn rule_in(job: &Job, p: usize, r: usize) -> Rule
-    requires p_is { IsPacket (plan job.now) p }
-    requires r_is { IsPacket (plan job.now) r }
-    requires step { IsStep (plan job.now) p r }
+/// A rule that alone puts p before r, where there is one.
+pub fn rule_in(job: &Job, p: usize, r: usize) -> Rule
+    requires p_is { p < length (plan job.now).packets }
+    requires r_is { r < length (plan job.now).packets }
+    requires direct { HasRule (plan job.now) p r }
     ensures { IsRule (plan job.now) p r result }
 {
     job.valid();

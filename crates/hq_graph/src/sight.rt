@@ -1,13 +1,15 @@
 //! What a graph is drawn from.
 
+use crate::stuck::Stuck;
+use hq_audit::Parts;
 use hq_order::Before;
 
-/// The order of a job's packets; the same as tables of bits, where a row of `ahead` has the packets before a packet, and a row of `behind` has
-/// those that a packet is before; and the set of the packets that can never complete.
+/// The order of a job's packets; its steps, where the row of a packet has those from which a step leads to it; the parts of memory that packets
+/// touch; and what is known of packets that can never complete.
 #[derive(Clone, Copy)]
 pub struct Sight<'b, 'a> {
     pub before: &'b Before<'a>,
-    pub ahead: &'b [u64],
-    pub behind: &'b [u64],
-    pub stuck: &'b [u64],
+    pub steps: &'b [Vec<u64>],
+    pub parts: &'b Parts,
+    pub stuck: &'b Stuck,
 }

@@ -8,17 +8,21 @@ ghost use Rattle.hq_graph.specs.Known.{TellsStuck};
 ghost use Rattle.hq_graph.specs.declared.fault.GraphFault.TheVariants.{Memory};
 
 use crate::fault::GraphFault;
+use crate::turns::{first_barred, turns_of};
 use hq_job::Job;
 use hq_order::bits::{empty, insert};
 use hq_order::laws::none_where_stuck;
 use hq_order::{OrderFault, schedule};
 use std::alloc::{AllocError, Global};
 
-/// The packets that can never complete, as a set, and whether there are such.
+/// The packets that can never complete, as a set, and whether there are such. If so, also when each packet is submitted, and the first turn at
+/// which one isn't: none from there on is.
 #[derive(Drop)]
 pub struct Stuck {
     pub row: Vec<u64>,
     pub some: bool,
+    pub turns: Vec<usize>,
+    pub barred: usize,
 }
 
 /// How many words a set of any numbers of 16 bits has.
@@ -52,7 +56,12 @@ fn none_of(alloc: Global, job: &Job, order: &[u16]) -> Result<Stuck, GraphFault>
 {
     none_where_stuck();
     let row = empty(alloc, 0)?;
-    Ok(Stuck { row, some: false })
+    Ok(Stuck {
+        row,
+        some: false,
+        turns: Vec::new(alloc),
+        barred: 0,
+    })
 }
 
 /// What is known where these are the packets that can never complete.
@@ -62,7 +71,14 @@ fn some_of(alloc: Global, job: &Job, list: &[u16]) -> Result<Stuck, GraphFault>
     ensures memory { IfErr result (λ e. e ≡ Memory) }
 {
     let row = row_of(alloc, list)?;
-    Ok(Stuck { row, some: true })
+    let turns = turns_of(alloc, job)?;
+    let barred = first_barred(job, &row);
+    Ok(Stuck {
+        row,
+        some: true,
+        turns,
+        barred,
+    })
 }
 
 /// The packets of a job that can never complete.

@@ -16,3 +16,4 @@ pub mod Behind
 pub mod Settling
 pub mod Completions
 pub mod First
+pub mod Scopes

@@ -124,3 +124,17 @@ less_word a b = bit_and a (bit_xor a b)
 
 pub less_at : (a b i : ℕ) → (bit_at (less_word a b) i == 1) ≡ ((bit_at a i == 1) && not (bit_at b i == 1))
 less_at a b i = ap (λ m. m == 1) (bit_at_and a (bit_xor a b) i ∙ ap (min (bit_at a i)) (bit_at_xor a b i)) ∙ less_bool (bit_at a i) (bit_at b i) (bit_at-lt a i) (bit_at-lt b i)
+
+not_or_false : (b c : Bool) → b ≡ false → (b && not c) ≡ false
+not_or_false true c e = absurd cc
+not_or_false false c e = refl
+
+pub has_less : (old other new : List ℕ) (p : ℕ) → Joined less_word old other new → has new p ≡ (has old p && not (has other p))
+has_less old other new p u = elim (cases_lt (p / 64) (length old)) [
+  | inl low ↦ ap (λ w. bit_at w (p % 64) == 1) (u.words (p / 64) low) ∙ less_at (slice_index old (p / 64)) (slice_index other (p / 64)) (p % 64)
+  | inr high ↦
+      let none : (bit_at 0 (p % 64) == 1) ≡ false = ap (λ m. m == 1) (bit_at-zero (p % 64)) in
+      let x : has new p ≡ false = ap (λ w. bit_at w (p % 64) == 1) (beyond new (p / 64) (omega (arith, u.len))) ∙ none in
+      let y : has old p ≡ false = ap (λ w. bit_at w (p % 64) == 1) (beyond old (p / 64) high) ∙ none in
+      x ∙ sym (not_or_false (has old p) (has other p) y)
+]

@@ -1,7 +1,10 @@
 -- What a `Before`'s fields mean, and what is known of each.
+use Rattle.std.specs.Prelude.{◌≡◌, ℕ}
 use Rattle.hq_job.specs.Plan.{plan}
 use Rattle.hq_model.specs.Job.{Job}
+use Rattle.hq_model.specs.Settings.{SameButHeads, head_at}
 use Rattle.hq_order.specs.declared.before.Before.TheInside.{Inside}
+use Rattle.hq_order.specs.declared.before.Rounds.{Rounds}
 use Rattle.hq_order.specs.Matrix.{AreRounds, IsClosed, AreTurned}
 
 -- the plan of its job
@@ -13,3 +16,20 @@ pub record IsOrder (b : Inside) : Type 0 where
   pub rounds : AreRounds (order_of b) b.rounds.items
   pub closed : IsClosed (order_of b) b.rounds.items
   pub turned : AreTurned b.rounds.items b.columns.items
+
+-- the same of rounds apart from a job
+pub record AreOf (job : Job) (r : Rounds) : Type 0 where
+  pub rounds : AreRounds job r.rounds.items
+  pub closed : IsClosed job r.rounds.items
+  pub turned : AreTurned r.rounds.items r.columns.items
+
+-- The jobs differ in nothing but the scopes of fences.
+pub record SameButScopes (j k : Job) : Type 0 where
+  pub heads : SameButHeads j k
+  pub bits : (p : ℕ) → (head_at j p).barrier ≡ (head_at k p).barrier
+
+-- ---- the law
+
+-- The order of a job rests on no fence: rounds are those of each job that differs in nothing but scopes.
+abbrev pub ScopesLeaveRounds : Type 0
+ScopesLeaveRounds = (j k : Job) (r : Rounds) → SameButScopes j k → AreOf j r → AreOf k r

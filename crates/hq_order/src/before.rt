@@ -7,9 +7,11 @@ ghost use Rattle.hq_order.specs.Rounds.{Direct, Next, IsFirstWithin, Between, Is
 ghost use Rattle.hq_order.specs.Placing.{AllAre, Completing};
 ghost use Rattle.hq_order.specs.Matrix.{row, words_for, Marks, IsSquare, Grown, AreRounds, IsClosed, matrix, last, earlier, lag, Differ, IsMarkedNowhere, IsMarkedFirst};
 ghost use Rattle.hq_order.specs.Uniting.{CanUnite, Stepped};
+ghost use Rattle.hq_order.specs.Bits.{has};
+ghost use Rattle.hq_order.specs.View.{AreOf};
 
 use crate::bits;
-use crate::columns::{all_turned, between};
+use crate::columns::{all_turned, between, row_of};
 use crate::completing::completing;
 use crate::direct::{direct_row, go_on};
 use crate::fault::OrderFault;
@@ -226,6 +228,28 @@ pub struct Before<'a> {
     columns: Vec<Vec<u64>>,
 }
 
+/// The rounds by which a job's order was worked out, apart from the job. They are those of each job that differs from it in the
+/// scopes of fences alone.
+#[derive(Drop)]
+pub struct Rounds {
+    rounds: Vec<Vec<Vec<u64>>>,
+    columns: Vec<Vec<u64>>,
+}
+
+impl Rounds {
+    /// The order of a job that has these rounds.
+    pub fn over<'a>(self, job: &'a Job) -> Before<'a>
+        requires { AreOf (plan job.now) self }
+        ensures { result ≡ plan job.now }
+    {
+        Before {
+            job,
+            rounds: self.rounds,
+            columns: self.columns,
+        }
+    }
+}
+
 impl<'a> Model for Before<'a> {
     ghost use Rattle.hq_model.specs.Job.{Job as Plan};
     ghost use Rattle.hq_order.specs.View.{order_of, IsOrder};
@@ -261,6 +285,15 @@ impl<'a> Before<'a> {
         marks(last, p, r)
     }
 
+    /// The packets that are complete before r becomes active, in every run, as bits.
+    pub fn ahead(&self, r: usize) -> &[u64]
+        requires { r < length self.now.packets }
+        ensures has { (p : ℕ) → IsTrue (has result.now p) ↔ order.Before self.now p r }
+        ensures len { length result.now ≡ words_for (length self.now.packets) }
+    {
+        row_of(&self.rounds[self.rounds.len() - 1], r)
+    }
+
     /// The earliest round in which that comes: 0 where a rule gives it alone, else one more than the latest of the pairs that
     /// it rests on.
     pub fn round(&self, p: usize, r: usize) -> Option<usize>
@@ -280,6 +313,16 @@ impl<'a> Before<'a> {
             return None;
         }
         between(&self.rounds[round - 1], &self.columns[round - 1], p, r)
+    }
+
+    /// The rounds, apart from the job.
+    pub fn into_rounds(self) -> Rounds
+        ensures { AreOf self.entry result }
+    {
+        Rounds {
+            rounds: self.rounds,
+            columns: self.columns,
+        }
     }
 
     /// The job.

@@ -83,6 +83,17 @@ pub fn meet(row: &mut [u64], other: &[u64])
     }
 }
 
+/// Takes out all that the other set has.
+pub fn take_out(row: &mut [u64], other: &[u64])
+    requires { length row.old ≡ length other.now }
+    ensures { (p : ℕ) → has row.new p ≡ (has row.old p && not (has other.now p)) }
+{
+    let other = &other[..row.len()];
+    for (i, word) in row.iter_mut().enumerate() {
+        *word &= *word ^ other[i];
+    }
+}
+
 /// Whether two rows are the same.
 pub fn is_same(left: &[u64], right: &[u64]) -> bool
     ensures same { IsTrue result ↔ (left.now ≡ right.now) }

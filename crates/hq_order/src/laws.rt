@@ -2,6 +2,7 @@
 
 ghost use Rattle.hq_model.specs.Order.{OrderListsExtend, NoneWhereStuck};
 ghost use Rattle.hq_model.specs.Schedule.{SchedulesSettle, OrderedOrStuck};
+ghost use Rattle.hq_order.specs.View.{ScopesLeaveRounds};
 
 use hq_model::order;
 
@@ -32,3 +33,8 @@ pub fn ordered_or_stuck()
 {
     order::ordered_or_stuck();
 }
+
+/// The order of a job rests on no fence.
+pub fn scopes_leave_rounds()
+    ensures { ScopesLeaveRounds }
+{}

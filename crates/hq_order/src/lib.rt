@@ -17,6 +17,7 @@ mod needs;
 mod rounds;
 mod scheduling;
 
-pub use before::Before;
+pub use before::{Before, Rounds};
 pub use fault::OrderFault;
+pub use needs::turn;
 pub use scheduling::schedule;

@@ -26,7 +26,7 @@ fn insert_earlier(job: &Job, number: usize, row: &mut [u64])
 }
 
 /// When a packet is submitted.
-fn turn(job: &Job, number: usize) -> usize
+pub fn turn(job: &Job, number: usize) -> usize
     requires { number < length job.now.packets }
     ensures turn { result ≡ place job.now.submissions number }
     ensures below { result < length job.now.submissions }

@@ -98,12 +98,14 @@ fn check(job: &Job, hall: &Hall, host: &Hosted, all: &[Ended]) -> Result<(), Run
     requires host { HostDone (plan job.now) host.now }
     requires none { NoFault all.now }
     requires none_of_host { host.now.fault ≡ None }
-    requires few { length all.now < 65536 }
     ensures same { OnOk result (hall.now.job.job ≡ job.now) }
     ensures complete { OnOk result ((p : ℕ) → IsPacket (plan hall.now.job.job) p → (state_of (plan hall.now.job.job) hall.now.state).phase p ≡ phase.Complete) }
     ensures programs { OnOk result (ArePrograms (plan job.now) hall.now.events) }
     ensures counted { IfErr result (λ e. IsCounted job.now.packets e) }
 {
+    if all.len() >= 65536 {
+        return Err(RunFault::Unfinished);
+    }
     if !hall.job().same(job) || !hall.all_complete() {
         return Err(RunFault::Unfinished);
     }
@@ -151,11 +153,67 @@ fn close(
     })
 }
 
+/// What is told of a run in which this fault was met.
+fn run_fault(job: &Job, hall: &mut Hall, fault: Fault) -> RunFault
+    ensures { IsCounted job.now.packets result }
+{
+    match fault {
+        Fault::Memory => RunFault::Memory,
+        Fault::Kernel(packet) => kernel_fault(job, hall, packet),
+        Fault::Split => RunFault::Split,
+        Fault::Stopped => RunFault::Unfinished,
+    }
+}
+
+/// What a run leaves whose journal is what was done.
+fn leave(
+    alloc: Global,
+    accepted: &Accepted,
+    hall: Hall,
+    all: Vec<Ended>,
+) -> Result<Outcome, RunFault>
+    requires same { hall.job.job ≡ accepted.now.job }
+    requires complete { (p : ℕ) → IsPacket (plan hall.job.job) p → (state_of (plan hall.job.job) hall.state).phase p ≡ phase.Complete }
+    requires programs { ArePrograms (plan accepted.now.job) hall.events }
+    ensures whole { IfOk result (λ o. IsWhole (plan accepted.now.job) o.journal o.memory.items) }
+    ensures one_by_one { IfOk result (λ o. IsOneByOne (plan accepted.now.job) o.memory.items) }
+    ensures kits { IfOk result (λ o. o.kits.items ≡ kits_in all.items) }
+    ensures counted { IfErr result (λ e. IsCounted accepted.now.job.packets e) }
+{
+    match kits_of(alloc, all) {
+        Ok(kits) => close(alloc, accepted, hall, kits),
+        Err(_) => Err(RunFault::Memory),
+    }
+}
+
+/// What a run leaves in which no fault was met.
+fn compare(
+    alloc: Global,
+    accepted: &Accepted,
+    hall: Hall,
+    host: &Hosted,
+    all: Vec<Ended>,
+) -> Result<Outcome, RunFault>
+    requires lists { ListsDone (plan accepted.now.job) all.items }
+    requires host { HostDone (plan accepted.now.job) host.now }
+    requires none { NoFault all.items }
+    requires none_of_host { host.now.fault ≡ None }
+    ensures whole { IfOk result (λ o. IsWhole (plan accepted.now.job) o.journal o.memory.items) }
+    ensures one_by_one { IfOk result (λ o. IsOneByOne (plan accepted.now.job) o.memory.items) }
+    ensures kits { IfOk result (λ o. o.kits.items ≡ kits_in all.items) }
+    ensures counted { IfErr result (λ e. IsCounted accepted.now.job.packets e) }
+{
+    match check(accepted.job(), &hall, host, &all) {
+        Ok(()) => leave(alloc, accepted, hall, all),
+        Err(fault) => Err(fault),
+    }
+}
+
 /// What the run leaves, or why it leaves nothing.
 pub fn finish(
     alloc: Global,
     accepted: &Accepted,
-    hall: Hall,
+    mut hall: Hall,
     host: Hosted,
     all: Vec<Ended>,
 ) -> Result<Outcome, RunFault>
@@ -167,22 +225,11 @@ pub fn finish(
     ensures none { OnOk result (NoFault all.items) }
     ensures counted { IfErr result (λ e. IsCounted accepted.now.job.packets e) }
 {
-    let job = accepted.job();
-    if all.len() >= 65536 {
-        return Err(RunFault::Unfinished);
+    match first_fault(&all, host.fault) {
+        Some(fault) => {
+            drop(all);
+            Err(run_fault(accepted.job(), &mut hall, fault))
+        }
+        None => compare(alloc, accepted, hall, &host, all),
     }
-    if let Some(fault) = first_fault(&all, host.fault) {
-        drop(all);
-        return Err(match fault {
-            Fault::Memory => RunFault::Memory,
-            Fault::Kernel(packet) => kernel_fault(job, hall, packet),
-            Fault::Split => RunFault::Split,
-            Fault::Stopped => RunFault::Unfinished,
-        });
-    }
-    check(job, &hall, &host, &all)?;
-    let Ok(kits) = kits_of(alloc, all) else {
-        return Err(RunFault::Memory);
-    };
-    close(alloc, accepted, hall, kits)
 }

@@ -49,7 +49,7 @@ fn count_of(found: &[Home], packet: u16) -> usize
 }
 
 /// The fault of a packet's body, with all that came home.
-pub fn kernel_fault(job: &Job, mut hall: Hall, packet: u16) -> RunFault
+pub fn kernel_fault(job: &Job, hall: &mut Hall, packet: u16) -> RunFault
     ensures { IsCounted job.now.packets result }
 {
     let Ok(found) = hall.gather() else {

@@ -64,6 +64,39 @@ fn each_command_is_taken(rt: HostRuntime) -> Result<(), Fail> {
 }
 
 #[test]
+fn what_changes_a_job_is_taken(rt: HostRuntime) -> Result<(), Fail> {
+    let asked = command_of(rt.alloc(), &["explain", "a", "--pair", "0", "2"])?;
+    assert!(rt;
+        matches!(
+            asked,
+            Asked::Explain {
+                job: "a",
+                pair: Some("0"),
+                second: Some("2"),
+                all: false
+            }
+        )
+    );
+    let asked = command_of(rt.alloc(), &["explain", "a", "--all"])?;
+    assert!(rt;
+        matches!(
+            asked,
+            Asked::Explain {
+                job: "a",
+                pair: None,
+                second: None,
+                all: true
+            }
+        )
+    );
+    let asked = command_of(rt.alloc(), &["fix", "a"])?;
+    assert!(rt; matches!(asked, Asked::Fix { job: "a" }));
+    let asked = command_of(rt.alloc(), &["trim", "a"])?;
+    assert!(rt; matches!(asked, Asked::Trim { job: "a" }));
+    Ok(())
+}
+
+#[test]
 fn other_words_are_refused(rt: HostRuntime) {
     let asked = command_of(rt.alloc(), &["prove", "a"]);
     assert!(rt; matches!(asked, Err(WordsFault::Words(_))));

@@ -41,6 +41,13 @@ event_of_one one.Deliver a = event.Deliver a
 event_of_one one.Complete a = event.Complete a
 event_of_one one.Finish a = event.Finish a
 
+-- the kind of event of this name that has the numbers of a packet and of a byte or a slot
+abbrev pub packet_kind : List ℕ → Result TwoNumbers TimeReason
+packet_kind name = if bytes_eq name word.read_word then Ok two.Read
+    else if bytes_eq name word.store_word then Ok two.Store
+    else if bytes_eq name word.observe_word then Ok two.Observe
+    else Err reason.Word
+
 -- the kind of event of this name that has two numbers
 unfoldable pub two_kind : List ℕ → Result TwoNumbers TimeReason
 two_kind name = if bytes_eq name word.push_lane_word then Ok two.PushLane
@@ -49,10 +56,7 @@ two_kind name = if bytes_eq name word.push_lane_word then Ok two.PushLane
     else if bytes_eq name word.fill_agent_word then Ok two.FillAgent
     else if bytes_eq name word.drop_lane_word then Ok two.DropLane
     else if bytes_eq name word.drop_agent_word then Ok two.DropAgent
-    else if bytes_eq name word.read_word then Ok two.Read
-    else if bytes_eq name word.store_word then Ok two.Store
-    else if bytes_eq name word.observe_word then Ok two.Observe
-    else Err reason.Word
+    else packet_kind name
 
 -- the event of a kind and its numbers
 abbrev pub event_of_two : TwoNumbers → ℕ → ℕ → Event

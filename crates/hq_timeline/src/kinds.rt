@@ -1,7 +1,7 @@
 //! The kinds of events, by their names and the count of their numbers, and the events that words say.
 
 ghost use Rattle.std.specs.Prelude.{◌≡◌};
-ghost use Rattle.hq_timeline.specs.LineTests.{number_said, one_kind, event_of_one, two_kind, event_of_two, plain_said, one_said, two_said, event_said};
+ghost use Rattle.hq_timeline.specs.LineTests.{number_said, one_kind, event_of_one, packet_kind, two_kind, event_of_two, plain_said, one_said, two_said, event_said};
 ghost use Rattle.hq_timeline.specs.Split.{list_of};
 
 use crate::fault::TimeReason;
@@ -67,6 +67,21 @@ fn one_kind(name: &[u8]) -> Result<OneNumber, TimeReason>
     }
 }
 
+/// The kind of this name that has the numbers of a packet and of a byte or a slot.
+fn packet_kind(name: &[u8]) -> Result<TwoNumbers, TimeReason>
+    ensures { result ≡ packet_kind name.now }
+{
+    if name == b"read".as_slice() {
+        Ok(TwoNumbers::Read)
+    } else if name == b"store".as_slice() {
+        Ok(TwoNumbers::Store)
+    } else if name == b"observe".as_slice() {
+        Ok(TwoNumbers::Observe)
+    } else {
+        Err(TimeReason::Word)
+    }
+}
+
 /// The kind of this name that has two numbers.
 #[tactic(auto, unfolding(crate::specs::LineTests::two_kind))]
 fn two_kind(name: &[u8]) -> Result<TwoNumbers, TimeReason>
@@ -84,14 +99,8 @@ fn two_kind(name: &[u8]) -> Result<TwoNumbers, TimeReason>
         Ok(TwoNumbers::DropLane)
     } else if name == b"dropagent".as_slice() {
         Ok(TwoNumbers::DropAgent)
-    } else if name == b"read".as_slice() {
-        Ok(TwoNumbers::Read)
-    } else if name == b"store".as_slice() {
-        Ok(TwoNumbers::Store)
-    } else if name == b"observe".as_slice() {
-        Ok(TwoNumbers::Observe)
     } else {
-        Err(TimeReason::Word)
+        packet_kind(name)
     }
 }
 

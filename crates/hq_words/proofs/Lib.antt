@@ -1,1 +1,2 @@
 pub mod AskedFor
+pub mod Below

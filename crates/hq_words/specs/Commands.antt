@@ -34,6 +34,27 @@ chart_app = with_rule (with_rule (with_rule (new_app (codes "chart")) job_rule) 
 abbrev pub graph_app : App
 graph_app = with_rule (new_app (codes "graph")) job_rule
 
+-- not a word by its place, but the one behind `--pair`
+abbrev pub pair_rule : Rule
+pair_rule = record (new_rule (codes "PAIR")) { long = Some (codes "pair"); action = Some Set }
+
+-- the word behind that
+abbrev pub second_rule : Rule
+second_rule = record (new_rule (codes "SECOND")) { action = Some Set }
+
+-- the flag `--all`
+abbrev pub all_rule : Rule
+all_rule = record (new_rule (codes "ALL")) { long = Some (codes "all"); action = Some SetTrue }
+
+abbrev pub explain_app : App
+explain_app = with_rule (with_rule (with_rule (with_rule (new_app (codes "explain")) job_rule) pair_rule) second_rule) all_rule
+
+abbrev pub fix_app : App
+fix_app = with_rule (new_app (codes "fix")) job_rule
+
+abbrev pub trim_app : App
+trim_app = with_rule (new_app (codes "trim")) job_rule
+
 -- not a word by its place, but the one behind `--timeline`
 abbrev pub out_rule : Rule
 out_rule = record (new_rule (codes "OUT")) { long = Some (codes "timeline"); action = Some Set }
@@ -57,4 +78,5 @@ abbrev pub hsaq_app : App
 hsaq_app =
     let judging = with_subcommand (with_subcommand program_app audit_app.top) check_app.top in
     let running = with_subcommand (with_subcommand (with_subcommand judging run_app.top) replay_app.top) chart_app.top in
-    with_subcommand (with_subcommand (with_subcommand running graph_app.top) show_app.top) pack_app.top
+    let changing = with_subcommand (with_subcommand (with_subcommand (with_subcommand running graph_app.top) explain_app.top) fix_app.top) trim_app.top in
+    with_subcommand (with_subcommand changing show_app.top) pack_app.top

@@ -1,9 +1,9 @@
 //! The program's commands as `clap` reads them.
 
-ghost use Rattle.std.specs.Prelude.{◌≡◌, IfOk, false};
-ghost use Rattle.clap.specs.Words.{app_of, rule_of};
+ghost use Rattle.std.specs.Prelude.{◌≡◌, IfOk, IsOkAnd, false};
+ghost use Rattle.clap.specs.Words.{app_of, rule_of, with_rule, with_subcommand};
 ghost use Rattle.clap.specs.declared.builder.command.Command.TheViews.{out-Command as fields_of};
-ghost use Rattle.hq_words.specs.Commands.{job_rule, file_rule, timeline_rule, show_app, audit_app, check_app, out_rule, pack_app, replay_app, copies_rule, chart_app, graph_app, run_app, program_app, hsaq_app};
+ghost use Rattle.hq_words.specs.Commands.{job_rule, file_rule, timeline_rule, show_app, audit_app, check_app, out_rule, pack_app, replay_app, copies_rule, chart_app, graph_app, pair_rule, second_rule, all_rule, explain_app, fix_app, trim_app, run_app, program_app, hsaq_app};
 
 use clap::{Arg, ArgAction, Command};
 use std::alloc::{AllocError, Global};
@@ -30,6 +30,20 @@ const CHART_STATUS: &str =
 
 const GRAPH_STATUS: &str =
     "Exit status: 0 where every conflict is ordered, 4 with a conflict that nothing orders, 5 with packets that can never complete; 3 where the text is no job.";
+
+const EXPLAIN_STATUS: &str = "Pairs are told of in number order, without --all the first hundred.
+
+Exit status: 0 where every conflict is ordered, 4 with a conflict that nothing orders, 5 with packets that can never complete; 3 where the text is no job. With --pair that of these two packets.";
+
+const FIX_STATUS: &str =
+    "The text is the one that was read but for the digits of changed headers; each change is told on standard error.
+
+Exit status: 0; 4 with a conflict that no bits and fences order, 5 with packets that can never complete; 3 where the text is no job.";
+
+const TRIM_STATUS: &str =
+    "The text is the one that was read but for the digits of changed headers; each change is told on standard error.
+
+Exit status: 0; 4 with a conflict that nothing orders, 5 with packets that can never complete; 3 where the text is no job.";
 
 /// The words of each kind of packet.
 const PACK_WORDS: &str = "The words of a packet, DONE being its completion signal:
@@ -94,6 +108,38 @@ fn copies<'a>(alloc: Global) -> Arg<'a>
         .long("copies")
         .action(ArgAction::SetTrue)
         .help("Draws what happens to copies of bytes too: taken, written back, dropped")
+}
+
+/// The option `--pair P`, behind which R stands.
+fn pair<'a>(alloc: Global) -> Arg<'a>
+    ensures rule { rule_of result ≡ pair_rule }
+    ensures local { result.global ≡ false }
+{
+    Arg::new(alloc, "PAIR")
+        .long("pair")
+        .action(ArgAction::Set)
+        .help("With a second number behind it: explains these two packets alone")
+}
+
+/// The argument R, behind `--pair P`.
+fn second<'a>(alloc: Global) -> Arg<'a>
+    ensures rule { rule_of result ≡ second_rule }
+    ensures local { result.global ≡ false }
+{
+    Arg::new(alloc, "SECOND")
+        .action(ArgAction::Set)
+        .help("The second packet of --pair")
+}
+
+/// The flag `--all`.
+fn all<'a>(alloc: Global) -> Arg<'a>
+    ensures rule { rule_of result ≡ all_rule }
+    ensures local { result.global ≡ false }
+{
+    Arg::new(alloc, "ALL")
+        .long("all")
+        .action(ArgAction::SetTrue)
+        .help("Explains all pairs that conflict, and not only the first hundred")
 }
 
 /// `show JOB`
@@ -189,6 +235,56 @@ fn graph<'a>(alloc: Global) -> Result<Command<'a>, AllocError>
         .arg(job(alloc))
 }
 
+/// A command with `--pair P R`.
+fn with_pair<'a>(alloc: Global, command: Command<'a>) -> Result<Command<'a>, AllocError>
+    ensures app { IfOk result (λ c. app_of c ≡ with_rule (with_rule (app_of command.entry) pair_rule) second_rule) }
+    ensures local { IfOk result (λ c. (fields_of command.entry).has_globals ≡ false → (fields_of c).has_globals ≡ false) }
+{
+    command.arg(pair(alloc))?.arg(second(alloc))
+}
+
+/// `explain JOB [--pair P R] [--all]`
+fn explain<'a>(alloc: Global) -> Result<Command<'a>, AllocError>
+    ensures app { IfOk result (λ c. app_of c ≡ explain_app) }
+    ensures local { IfOk result (λ c. (fields_of c).has_globals ≡ false) }
+{
+    let of_job = Command::new(alloc, "explain")
+        .about(
+            "Says why each conflict is ordered or isn't, and which single changes would order it",
+        )
+        .override_usage("hsaq explain <JOB> [--pair <P> <R>] [--all]")
+        .after_help(EXPLAIN_STATUS)
+        .arg(job(alloc))?;
+    let of_pair = with_pair(alloc, of_job)?;
+    of_pair.arg(all(alloc))
+}
+
+/// `fix JOB`
+fn fix<'a>(alloc: Global) -> Result<Command<'a>, AllocError>
+    ensures app { IfOk result (λ c. app_of c ≡ fix_app) }
+    ensures local { IfOk result (λ c. (fields_of c).has_globals ≡ false) }
+{
+    Command::new(alloc, "fix")
+        .about(
+            "Prints the job with the barrier bits and fences that it lacks, the fewest that order it",
+        )
+        .override_usage("hsaq fix <JOB>")
+        .after_help(FIX_STATUS)
+        .arg(job(alloc))
+}
+
+/// `trim JOB`
+fn trim<'a>(alloc: Global) -> Result<Command<'a>, AllocError>
+    ensures app { IfOk result (λ c. app_of c ≡ trim_app) }
+    ensures local { IfOk result (λ c. (fields_of c).has_globals ≡ false) }
+{
+    Command::new(alloc, "trim")
+        .about("Prints the job without the barrier bits and fences that it doesn't need")
+        .override_usage("hsaq trim <JOB>")
+        .after_help(TRIM_STATUS)
+        .arg(job(alloc))
+}
+
 /// `pack WORDS..`
 fn pack<'a>(alloc: Global) -> Result<Command<'a>, AllocError>
     ensures app { IfOk result (λ c. app_of c ≡ pack_app) }
@@ -219,25 +315,24 @@ fn program<'a>(alloc: Global) -> Command<'a>
         .subcommand_required(true)
 }
 
+/// A command with another below it, where both could be made.
+fn with<'a>(
+    command: Result<Command<'a>, AllocError>,
+    below: Result<Command<'a>, AllocError>,
+) -> Result<Command<'a>, AllocError>
+    ensures { IfOk result (λ c. IsOkAnd command.entry (λ w. IsOkAnd below.entry (λ b. (fields_of b).has_globals ≡ false → app_of c ≡ with_subcommand (app_of w) (app_of b).top))) }
+{
+    let below = below?;
+    command?.subcommand(below)
+}
+
 /// `hsaq` with all its commands.
 pub fn hsaq<'a>(alloc: Global) -> Result<Command<'a>, AllocError>
     ensures { IfOk result (λ c. app_of c ≡ hsaq_app) }
 {
-    let audit = audit(alloc)?;
-    let check = check(alloc)?;
-    let run = run(alloc)?;
-    let replay = replay(alloc)?;
-    let chart = chart(alloc)?;
-    let graph = graph(alloc)?;
-    let show = show(alloc)?;
-    let pack = pack(alloc)?;
-    program(alloc)
-        .subcommand(audit)?
-        .subcommand(check)?
-        .subcommand(run)?
-        .subcommand(replay)?
-        .subcommand(chart)?
-        .subcommand(graph)?
-        .subcommand(show)?
-        .subcommand(pack)
+    let judging = with(with(Ok(program(alloc)), audit(alloc)), check(alloc));
+    let running = with(with(with(judging, run(alloc)), replay(alloc)), chart(alloc));
+    let telling = with(with(running, graph(alloc)), explain(alloc));
+    let changing = with(with(telling, fix(alloc)), trim(alloc));
+    with(with(changing, show(alloc)), pack(alloc))
 }

@@ -50,6 +50,21 @@ pub enum Asked<'a> {
     Graph {
         job: &'a str,
     },
+    /// Why conflicts of a job are ordered or aren't: of one pair, of all, or of the first hundred.
+    Explain {
+        job: &'a str,
+        pair: Option<&'a str>,
+        second: Option<&'a str>,
+        all: bool,
+    },
+    /// A job's text with what it lacks to be ordered.
+    Fix {
+        job: &'a str,
+    },
+    /// A job's text without what it doesn't need to be ordered.
+    Trim {
+        job: &'a str,
+    },
 }
 
 /// Why nothing is asked for. `Words` has what `clap` says of the words: a fault, or the help or version that they ask for.
@@ -112,6 +127,9 @@ fn asked_for<'a>(alloc: Global, name: &str, own: &ArgMatches<'a>) -> Result<Aske
         own.get_str("TIMELINE"),
         own.get_str("OUT"),
         own.get_str("COPIES"),
+        own.get_str("PAIR"),
+        own.get_str("SECOND"),
+        own.get_str("ALL"),
     ) {
         Some(asked) => Ok(asked),
         None => Err(AllocError),
@@ -128,7 +146,7 @@ fn is_set(flag: Option<&str>) -> bool
     }
 }
 
-/// What the command of a name asks for with these files and this flag.
+/// What the command of a name asks for with these files and these flags.
 fn asked_of_files<'a>(
     name: &str,
     job: Option<&'a str>,
@@ -136,8 +154,11 @@ fn asked_of_files<'a>(
     timeline: Option<&'a str>,
     out: Option<&'a str>,
     copies: Option<&'a str>,
+    pair: Option<&'a str>,
+    second: Option<&'a str>,
+    all: Option<&'a str>,
 ) -> Option<Asked<'a>>
-    ensures { IfSome result (AsksWith name.now (option_map (λ j. j.now) job.entry) (option_map (λ c. c.now) certificate.entry) (option_map (λ t. t.now) timeline.entry) (option_map (λ o. o.now) out.entry) (option_map (λ f. f.now) copies.entry)) }
+    ensures { IfSome result (AsksWith name.now (option_map (λ j. j.now) job.entry) (option_map (λ c. c.now) certificate.entry) (option_map (λ t. t.now) timeline.entry) (option_map (λ o. o.now) out.entry) (option_map (λ f. f.now) copies.entry) (option_map (λ p. p.now) pair.entry) (option_map (λ p. p.now) second.entry) (option_map (λ f. f.now) all.entry)) }
 {
     let job = job?;
     if name == "show" {
@@ -148,6 +169,21 @@ fn asked_of_files<'a>(
     }
     if name == "graph" {
         return Some(Asked::Graph { job });
+    }
+    if name == "fix" {
+        return Some(Asked::Fix { job });
+    }
+    if name == "trim" {
+        return Some(Asked::Trim { job });
+    }
+    if name == "explain" {
+        let all = is_set(all);
+        return Some(Asked::Explain {
+            job,
+            pair,
+            second,
+            all,
+        });
     }
     if name == "run" {
         return Some(Asked::Run { job, timeline: out });

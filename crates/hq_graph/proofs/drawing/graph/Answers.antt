@@ -1,7 +1,6 @@
-use Rattle.std.proofs.Common.{◌≡◌, ℕ, false, sym, subst}
-use Rattle.hq_model.specs.Order.{Stuck}
+use Rattle.std.proofs.Common.{subst}
+use Rattle.hq_graph.specs.Order.{IsFound}
 use Rattle.hq_graph.proofs.drawing.graph.Goals as goal
 
-pub write_all-requires-clause-free : goal.write_all-requires-clause-free
-write_all-requires-clause-free g c =
-    subst (λ j. c.in_ok-stuck.stuck.some ≡ false → (p : ℕ) → Stuck j p → ⊥) (sym c.in_ok-before.ensures.plan) c.in_ok-stuck.ensures.tells.free
+pub returns-clause-found : goal.returns-clause-found
+returns-clause-found g c = subst (λ j. IsFound j c.found_of-found.result) c.in_ok-before.ensures.plan c.found_of-found.ensures

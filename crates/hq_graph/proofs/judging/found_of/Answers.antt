@@ -1,5 +1,8 @@
-use Rattle.hq_graph.proofs.Reasons.{ordered_of}
+use Rattle.hq_graph.proofs.Reasons.{conflict_found, ordered_found}
 use Rattle.hq_graph.proofs.judging.found_of.Goals as goal
 
-pub returns-else-some_open : goal.returns-else-some_open
-returns-else-some_open c = ordered_of c.args.before.now (c.requires.ordered c.if-stuck.false) (c.some_open.ensures.shut c.if-some_open.false)
+pub returns-in-Ok : goal.returns-in-Ok
+returns-in-Ok c = ordered_found c.args.before.now (c.requires.stuck.ordered c.if-stuck.false) c.in-Ok.ensures.shown
+
+pub returns-in-Err : goal.returns-in-Err
+returns-in-Err c = conflict_found c.args.before.now c.in-Err.field-0 (c.requires.stuck.ordered c.if-stuck.false) c.in-Err.ensures.unshown

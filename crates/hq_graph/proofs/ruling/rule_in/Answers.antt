@@ -5,5 +5,5 @@ use Rattle.hq_graph.proofs.ruling.rule_in.Goals as goal
 
 pub returns-in-None : goal.returns-in-None
 returns-in-None c =
-    or_rule (plan c.args.job.now) c.args.p c.args.r c.requires.step c.in_default.ensures.first
+    or_rule (plan c.args.job.now) c.args.p c.args.r c.requires.direct c.in_default.ensures.first
     (λ b. let t : true ≡ false = sym (c.is_held.ensures.1 b) ∙ c.if-is_held.false in let never : ⊥ = cc in never) c.in-None.ensures

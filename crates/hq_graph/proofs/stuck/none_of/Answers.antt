@@ -14,4 +14,5 @@ returns-clause-tells c =
       some = λ t. let never : ⊥ = cc in absurd never;
       ordered = λ _. (order, c.requires);
       free = λ _ p s. c.none_where_stuck.ensures job order s.0 c.requires s.1;
+      turns = λ t. let never : ⊥ = cc in absurd never;
     }

@@ -1,4 +1,5 @@
-use Rattle.std.proofs.Common.{refl, ◌∙◌, ◌+◌, ◌++◌, ◌∷◌, [], subst, sym, ap}
+use Rattle.std.proofs.lemmas.Grind.{common_steps}
+use Rattle.std.proofs.Common.{refl, ◌∙◌, ◌+◌, ◌++◌, ◌∷◌, [], subst, sym, ap, arith}
 use Rattle.std.specs.Prelude.{All, if◌then◌else◌, is_ok}
 use Rattle.std.proofs.lemmas.List.Elements.{All-append}
 use Rattle.hq_board.specs.declared.entry.View.{View}
@@ -26,3 +27,6 @@ loop-queue-preserved c =
       subst (AreInOrder (c.loop-queue.queue + 1)) (sym e) (one_more c.loop-queue.queue xs x order n.2),
       subst (All HasNoList) (sym e) (All-append HasNoList xs (x ∷ []) lists (all_one HasNoList x (ap (λ t. t.me.0.log) n.1 ∙ ap (λ me. me.0.log) d.seat))),
     )
+
+pub deal-fresh-requires-clause-dealer : goal.deal-fresh-requires-clause-dealer
+deal-fresh-requires-clause-dealer c = grind (arith, common_steps)

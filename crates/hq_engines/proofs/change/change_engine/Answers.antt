@@ -1,0 +1,15 @@
+use Rattle.std.proofs.Common.{ap, subst}
+use Rattle.hq_engines.specs.Change.{ChangeReport}
+use Rattle.hq_engines.specs.Reports.{Reported}
+use Rattle.hq_engines.proofs.Changes.{change_missing, change_reported}
+use Rattle.hq_engines.proofs.change.change_engine.Goals as goal
+
+pub returns-in-Ok-clause-report : goal.returns-in-Ok-clause-report
+returns-in-Ok-clause-report g c =
+    let was = g.W.Write.contents c.take_job_text.new.writer in
+    let is = g.W.Write.contents c.change_found.new.writer in
+    change_reported _ g.R.Read.remaining c.args.reader.now c.take_job_text.new.reader c.args.aim c.in-Ok.text.items c.in-Ok.job _ _ _ c.change_found.result.0 c.in-Ok.ensures.found (ap g.W.Write.contents c.in-Ok.ensures.unwritten)
+    (subst (λ t. Reported (ChangeReport c.args.aim t c.in-Ok.job) was is c.change_found.result.0) c.deref.ensures.value c.change_found.ensures.report)
+
+pub returns-in-Err-clause-report : goal.returns-in-Err-clause-report
+returns-in-Err-clause-report g c = change_missing _ g.R.Read.remaining c.args.reader.now c.take_job_text.new.reader c.args.aim _ _ c.in-Err.status c.in-Err.ensures.refused

@@ -1,0 +1,112 @@
+//! `hsaq fix` and `hsaq trim`: a job's text with other heads on its packets.
+
+ghost use Rattle.std.specs.Prelude.{◌≡◌, IfErr, IfOk, IfSome};
+ghost use Rattle.hq_text.specs.Lines.{lines_of};
+ghost use Rattle.hq_job.specs.JobText.{JobText};
+ghost use Rattle.hq_job.specs.Plan.{plan};
+ghost use Rattle.hq_job.specs.Rewritten.{TextRewritten, heads_of, job_with_heads};
+ghost use Rattle.hq_audit.specs.Refused.{IsRefused};
+ghost use Rattle.hq_engines.specs.Change.{ChangeReport, IsChanged, TellsChange, TellsText, judged_job};
+ghost use Rattle.hq_engines.specs.Reports.{JobTextReport, OfReader, ReaderReport, Reported};
+
+use crate::audit::say_no_certificate;
+use crate::saying::say_text;
+use crate::status::Status;
+use crate::taking::take_job_text;
+use hq_audit::AuditNo;
+use hq_change::{fix, trim};
+use hq_job::{Job, rewrite};
+use hq_model::machine::stuck_law;
+use hq_packet::Head;
+use std::alloc::Global;
+use std::io::{Read, Write};
+
+/// What is asked for: what a job lacks, or that it goes without what it doesn't need.
+#[derive(Clone, Copy, Debug, PartialEq, Eq)]
+pub enum Aim {
+    Fix,
+    Trim,
+}
+
+/// A job whose heads were changed, and the heads that its packets had, by number.
+#[derive(Drop)]
+pub struct Changed {
+    pub job: Job,
+    pub heads: Vec<Head>,
+}
+
+/// The job as the aim has it.
+fn job_changed(alloc: Global, job: Job, aim: Aim) -> Result<Job, AuditNo>
+    ensures changed { IfOk result (λ k. IsChanged aim (plan job) (plan k)) }
+    ensures heads { IfOk result (λ k. job_with_heads job (heads_of k) ≡ k) }
+    ensures refused { IfErr result (λ no. IsRefused (judged_job aim (plan job)) no) }
+{
+    match aim {
+        Aim::Fix => fix(alloc, job),
+        Aim::Trim => trim(alloc, job),
+    }
+}
+
+/// The text of a job as the aim has it, and that job.
+fn text_changed(
+    alloc: Global,
+    text: &[u8],
+    job: &Job,
+    aim: Aim,
+) -> Result<(Vec<u8>, Changed), AuditNo>
+    requires { JobText (lines_of text.now) job.now }
+    ensures changed { IfOk result (λ it. IsChanged aim (plan job.now) (plan it.1.job)) }
+    ensures heads { IfOk result (λ it. it.1.heads.items ≡ heads_of job.now) }
+    ensures text { IfOk result (λ it. JobText (lines_of it.0.items) it.1.job) }
+    ensures rewritten { IfOk result (λ it. TextRewritten (heads_of it.1.job) job.now text.now it.0.items) }
+    ensures refused { IfErr result (λ no. IsRefused (judged_job aim (plan job.now)) no) }
+{
+    let heads = job.heads(alloc)?;
+    let copy = job.copy(alloc)?;
+    let changed = job_changed(alloc, copy, aim)?;
+    let new_heads = changed.heads(alloc)?;
+    let new = rewrite(alloc, text, job, &new_heads)?;
+    let changed = Changed {
+        job: changed,
+        heads,
+    };
+    Ok((new, changed))
+}
+
+/// Writes the text of a job as the aim has it, or why there is none.
+fn change_found<W: Write>(
+    alloc: Global,
+    writer: &mut W,
+    text: &[u8],
+    job: &Job,
+    aim: Aim,
+) -> (Status, Option<Changed>)
+    requires { JobText (lines_of text.now) job.now }
+    ensures report { Reported (ChangeReport aim text.now job.now) (W.contents writer.old) (W.contents writer.new) result.0 }
+    ensures told { IfSome result.1 (λ it. TellsChange aim job.now it) }
+{
+    job.valid();
+    stuck_law();
+    match text_changed(alloc, text, job, aim) {
+        Ok((new, changed)) => (say_text(writer, &new), Some(changed)),
+        Err(no) => (say_no_certificate(writer, no), None),
+    }
+}
+
+/// Reads a job, and writes its text with other heads: with what it lacks, or without what it doesn't need. Nothing else of the text is
+/// other. Answers the status and, where that text was written, the job that it is and the heads that the packets had. Nothing is written
+/// before the last growth of memory.
+pub fn change_engine<R: Read, W: Write>(
+    alloc: Global,
+    reader: &mut R,
+    writer: &mut W,
+    aim: Aim,
+) -> (Status, Option<Changed>)
+    ensures report { Reported (ReaderReport R R.remaining reader.old reader.new (λ text. JobTextReport (ChangeReport aim text) text)) (W.contents writer.old) (W.contents writer.new) result.0 }
+    ensures told { IfSome result.1 (λ it. OfReader R R.remaining reader.old reader.new (TellsText aim it)) }
+{
+    match take_job_text(alloc, reader, writer) {
+        Ok((text, job)) => change_found(alloc, writer, &text, &job, aim),
+        Err(status) => (status, None),
+    }
+}

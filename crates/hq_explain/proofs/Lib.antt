@@ -1,0 +1,6 @@
+pub mod Lists
+pub mod Trying
+pub mod Noting
+pub mod Saying
+pub mod Counting
+pub mod Whole

@@ -1,0 +1,39 @@
+use Rattle.std.proofs.Common.{◌≡◌, ◌↔◌, ◌∙◌, ◌+◌, ◌∷◌, [], ◌++◌, ℕ, IsTrue, List, length, slice_get, Some, ap, sym, subst, arith}
+use Rattle.std.proofs.lemmas.List.{length_push}
+use Rattle.hq_job.specs.Plan.{plan}
+use Rattle.hq_order.specs.Bits.{has}
+use Rattle.hq_order.proofs.Filling.{packets_count}
+use Rattle.hq_explain.specs.declared.advice.Advice.{Advice}
+use Rattle.hq_explain.specs.Advised.{IsAdvice}
+use Rattle.hq_explain.specs.Changes.{Orders}
+use Rattle.hq_explain.specs.declared.change.Change.TheVariants as change
+use Rattle.hq_explain.specs.declared.fault.ExplainFault.TheVariants.{Memory}
+use Rattle.hq_explain.proofs.Lists.{each_push, handed_on}
+use Rattle.hq_explain.proofs.advice.advice_on.Goals as goal
+
+pub advice_of-next-requires-clause-bits : goal.advice_of-next-requires-clause-bits
+advice_of-next-requires-clause-bits c =
+    let p = c.loop-p.p in
+    subst (λ set. IsTrue (has set p) ↔ Orders (plan c.args.job.now) c.args.a c.args.b p change.Bit) (sym c.deref.ensures.value) (c.in_ok-bits.ensures.exact p)
+
+pub loop-p-preserved : goal.loop-p-preserved
+loop-p-preserved c =
+    let job = plan c.args.job.now in
+    let old = c.loop-p.list.items in
+    let i = c.loop-p.invariant in
+    let x = c.advice_of-next.result.0 in
+    let pushed : c.push.new.list.items ≡ old ++ x ∷ [] = c.in_ok-push.ensures.pushed in (
+      c.advice_of-next.ensures.trial,
+      ap length pushed ∙ length_push old x ∙ ap (λ n. n + 1) i.1,
+      subst (λ (list : List Advice). (k : ℕ) (advice : Advice) → slice_get list k ≡ Some advice → IsAdvice job c.args.a c.args.b k advice) (sym pushed)
+          (each_push (λ k advice. IsAdvice job c.args.a c.args.b k advice) old x i.2 (subst (λ k. IsAdvice job c.args.a c.args.b k x) (sym i.1) c.advice_of-next.ensures.advice)),
+    )
+
+pub returns-clause-advice : goal.returns-clause-advice
+returns-clause-advice c = record {
+  len = omega (arith, c.loop-p.invariant.1, c.loop-p-test.false, c.loop-p.auto.p-end, packets_count c.args.job.now, ap length c.packets-count.ensures);
+  each = c.loop-p.invariant.2;
+}
+
+pub returns-in_err-push-clause-memory : goal.returns-in_err-push-clause-memory
+returns-in_err-push-clause-memory c = handed_on (λ e. e ≡ Memory) c.from_residual-in_err-push.result c.in_err-push.field-0.0 c.from_residual-in_err-push.ensures.1 c.in_err-push.ensures.memory

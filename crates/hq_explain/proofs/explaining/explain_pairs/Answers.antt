@@ -1,0 +1,9 @@
+use Rattle.hq_job.specs.Plan.{plan}
+use Rattle.hq_explain.proofs.Whole.{broken_err}
+use Rattle.hq_explain.proofs.explaining.explain_pairs.Goals as goal
+
+pub returns-in_err-before-clause-broken : goal.returns-in_err-before-clause-broken
+returns-in_err-before-clause-broken g c = broken_err c.from_residual.result (g.W.Write.contents c.args.writer.now) c.args.job.now (plan c.args.job.now)
+
+pub returns-in_err-parts-clause-broken : goal.returns-in_err-parts-clause-broken
+returns-in_err-parts-clause-broken g c = broken_err c.from_residual-in_err-parts.result (g.W.Write.contents c.args.writer.now) c.args.job.now (plan c.args.job.now)

@@ -1,0 +1,94 @@
+//! When packets are submitted, and which never are: a queue that is a ring has a slot for a packet only where earlier ones are complete.
+
+ghost use Rattle.std.specs.Prelude.{◌≡◌, ◌↔◌, ℕ, ◌<◌, ◌≤◌, IsTrue, IfOk, length, slice_index};
+ghost use Rattle.hq_job.specs.Plan.{plan};
+ghost use Rattle.hq_model.specs.Job.{Frees, IsPacket, packet, place_in_queue};
+ghost use Rattle.hq_model.specs.Order.{place};
+ghost use Rattle.hq_order.specs.Placing.{AllAre};
+ghost use Rattle.hq_graph.specs.Known.{HasNoSlot};
+
+use hq_job::Job;
+use hq_order::bits::has;
+use hq_order::turn;
+use std::alloc::{AllocError, Global};
+
+/// How many packets of its queue stand before a packet.
+pub fn place_of(job: &Job, p: usize) -> usize
+    requires { IsPacket (plan job.now) p }
+    ensures { result ≡ place_in_queue (plan job.now) p }
+{
+    job.valid();
+    let numbers = job.of_queue(job.packet(p).queue as usize);
+    p - numbers.start
+}
+
+/// Whether two packets go to one queue.
+fn same_queue(job: &Job, p: usize, r: usize) -> bool
+    requires p_is { IsPacket (plan job.now) p }
+    requires r_is { IsPacket (plan job.now) r }
+    ensures { IsTrue result ↔ ((packet (plan job.now) p).queue ≡ (packet (plan job.now) r).queue) }
+{
+    job.packet(p).queue == job.packet(r).queue
+}
+
+/// Whether p, which is below r, has its slot.
+fn frees(job: &Job, p: usize, r: usize) -> bool
+    requires earlier { p < r }
+    requires r_is { r < length job.now.packets }
+    ensures { IsTrue result ↔ Frees (plan job.now) p r }
+{
+    job.valid();
+    let size = job.queues()[job.packet(r).queue as usize].size as usize;
+    job.rings() && same_queue(job, p, r) && place_of(job, p) + size <= place_of(job, r)
+}
+
+/// Whether p has the slot of r.
+pub fn has_slot(job: &Job, p: usize, r: usize) -> bool
+    requires p_is { IsPacket (plan job.now) p }
+    requires r_is { IsPacket (plan job.now) r }
+    ensures { IsTrue result ↔ Frees (plan job.now) p r }
+{
+    p < r && frees(job, p, r)
+}
+
+/// When each packet is submitted.
+pub fn turns_of(alloc: Global, job: &Job) -> Result<Vec<usize>, AllocError>
+    ensures count { IfOk result (λ turns. length turns.items ≡ length job.now.packets) }
+    ensures are { IfOk result (λ turns. AllAre (λ p turn. turn ≡ place job.now.submissions p) turns.items) }
+{
+    let count = job.packets().len();
+    let mut turns = Vec::with_capacity(alloc, count)?;
+    for number in 0..count {
+        turns.push(turn(job, number))?;
+    }
+    Ok(turns)
+}
+
+/// Whether a packet of the set has the slot of r.
+fn has_no_slot(job: &Job, set: &[u64], r: usize) -> bool
+    requires { IsPacket (plan job.now) r }
+    ensures { IsTrue result ↔ HasNoSlot (plan job.now) set.now r }
+{
+    for q in 0..r {
+        if has(set, q) && has_slot(job, q, r) {
+            return true;
+        }
+    }
+    false
+}
+
+/// The first turn of a packet whose slot one of the set has, or the number of turns where there is none.
+pub fn first_barred(job: &Job, set: &[u64]) -> usize
+    ensures upto { result ≤ length job.now.submissions }
+    ensures there { result < length job.now.submissions → HasNoSlot (plan job.now) set.now (slice_index job.now.submissions result) }
+    ensures first { (k : ℕ) → k < result → ¬ HasNoSlot (plan job.now) set.now (slice_index job.now.submissions k) }
+{
+    job.valid();
+    let submissions = job.submissions();
+    for (turn, number) in submissions.iter().enumerate() {
+        if has_no_slot(job, set, *number as usize) {
+            return turn;
+        }
+    }
+    submissions.len()
+}

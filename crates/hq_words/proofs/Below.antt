@@ -1,0 +1,12 @@
+-- What a command is with another below it.
+use Rattle.std.proofs.Common.{◌≡◌, Result, Ok, Err, IfOk, IsOkAnd, subst, sym, ap, ap₂, ◌∙◌}
+use Rattle.clap.specs.Words.{App, with_subcommand}
+
+pub with_below : {C E : Type 0} (app_in : C → App) (local : C → Type 0) (made command below : Result C E) (outer inner : App) → IfOk made (λ c. IsOkAnd command (λ w. IsOkAnd below (λ b. local b → app_in c ≡ with_subcommand (app_in w) (app_in b).top))) → IfOk command (λ w. app_in w ≡ outer) → IfOk below (λ b. app_in b ≡ inner) → IfOk below local → IfOk made (λ c. app_in c ≡ with_subcommand outer inner.top)
+with_below app_in local (Err e) command below outer inner adds is_outer is_inner is_local = tt
+with_below app_in local (Ok c) (Err e) below outer inner adds is_outer is_inner is_local = absurd adds
+with_below app_in local (Ok c) (Ok w) (Err e) outer inner adds is_outer is_inner is_local = absurd adds
+with_below app_in local (Ok c) (Ok w) (Ok b) outer inner adds is_outer is_inner is_local = adds is_local ∙ ap₂ with_subcommand is_outer (ap (λ (a : App). a.top) is_inner)
+
+pub both_there : {C E : Type 0} (holds : C → C → Type 0) (command below : Result C E) (w b : C) → command ≡ Ok w → below ≡ Ok b → holds w b → IsOkAnd command (λ x. IsOkAnd below (λ y. holds x y))
+both_there {C} {E} holds command below w b is_w is_b held = subst (λ (r : Result C E). IsOkAnd r (λ x. IsOkAnd below (λ y. holds x y))) (sym is_w) (subst (λ (r : Result C E). IsOkAnd r (λ y. holds w y)) (sym is_b) held)
