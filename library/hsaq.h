@@ -48,7 +48,7 @@ uint32_t hsaq_show(const void *job, size_t job_length, void *report, size_t room
 /* Why the job's conflicts are ordered or aren't, in plain words, the first hundred of them, and each single change that would order one that isn't. */
 uint32_t hsaq_explain(const void *job, size_t job_length, void *report, size_t room, size_t *length);
 
-/* The job's text with the bits and fences that it lacks to be ordered, the fewest; or the conflict that none order. */
+/* The job's text with the bits and fences that it lacks to be ordered, and none that it can do without; or the conflict that none order. */
 uint32_t hsaq_fix(const void *job, size_t job_length, void *report, size_t room, size_t *length);
 
 /* The job's text without the bits and fences that it doesn't need to be ordered; or why it isn't. */

@@ -266,7 +266,7 @@ fn fix<'a>(alloc: Global) -> Result<Command<'a>, AllocError>
 {
     Command::new(alloc, "fix")
         .about(
-            "Prints the job with the barrier bits and fences that it lacks, the fewest that order it",
+            "Prints the job with the barrier bits and fences that it lacks, and none that it can do without",
         )
         .override_usage("hsaq fix <JOB>")
         .after_help(FIX_STATUS)
