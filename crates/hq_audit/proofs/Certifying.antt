@@ -54,7 +54,7 @@ shown_is_ordered job list o h = record { list = list; order = o; shown = λ p r 
 
 -- ---- refusals
 
-turned : (job : Job) (kind : Conflict) (a b : ℕ) → Conflicts job kind b a → (other : Conflict) × Conflicts job other a b
+pub turned : (job : Job) (kind : Conflict) (a b : ℕ) → Conflicts job kind b a → (other : Conflict) × Conflicts job other a b
 turned job WriteRead a b c = (ReadWrite, (c.0, c.2, c.1))
 turned job WriteWrite a b c = (WriteWrite, (c.0, c.2, c.1))
 turned job ReadWrite a b c = (WriteRead, (c.0, c.2, c.1))

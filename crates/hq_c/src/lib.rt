@@ -18,6 +18,7 @@ ghost use Rattle.hq_job.specs.Plan.{plan};
 mod handing;
 
 use handing::hand_out;
+use hq_change::Unwatched;
 use hq_engines::{
     Aim, audit_engine, change_engine, check_alone_engine, explain_engine, replay_engine,
     show_engine,
@@ -106,7 +107,7 @@ pub extern "C" fn hsaq_fix(alloc: Global, job: &[u8], report: &mut [u8], whole: 
 {
     let mut reader = job;
     let mut written = Vec::new(alloc);
-    let (status, _changed) = change_engine(alloc, &mut reader, &mut written, Aim::Fix);
+    let (status, _changed) = change_engine(alloc, &mut reader, &mut written, Aim::Fix, &Unwatched);
     hand_out(&written, status, report, whole)
 }
 
@@ -117,6 +118,6 @@ pub extern "C" fn hsaq_trim(alloc: Global, job: &[u8], report: &mut [u8], whole:
 {
     let mut reader = job;
     let mut written = Vec::new(alloc);
-    let (status, _changed) = change_engine(alloc, &mut reader, &mut written, Aim::Trim);
+    let (status, _changed) = change_engine(alloc, &mut reader, &mut written, Aim::Trim, &Unwatched);
     hand_out(&written, status, report, whole)
 }

@@ -21,6 +21,7 @@ use Rattle.hq_change.specs.declared.level.Level.{Level}
 use Rattle.hq_change.specs.declared.level.Level.TheVariants as level
 use Rattle.hq_change.specs.Levels.{IsAt, part_of, AreLowered}
 use Rattle.hq_order.specs.declared.before.Rounds.{Rounds}
+use Rattle.hq_change.specs.Foresight.{BitsSettled}
 use Rattle.hq_change.specs.Minimal.{Attempted, AtOrAbove, IsMinimal, IsTrimmed, IsFixed, IsOn, Settled, SettledFrom}
 use Rattle.hq_change.proofs.Single.{none_is_lowest}
 use Rattle.hq_change.proofs.Staying.{settled_stays, each_part, release_settled, acquire_settled, bits_settled, minimal_of}
@@ -67,16 +68,19 @@ parts_stay j k ps same h = record {
 
 -- ---- all levels
 
-pub all_levels : (floor : List Head) (a b c d e : Job) (heads : List Head) → Raises b a → Raises c b → Raises d c → Raises e d
-    → SettledFrom level.ReleaseSystem floor a 0 → SettledFrom level.AcquireSystem floor b 0 → SettledFrom level.ReleaseAgent floor c 0 → SettledFrom level.AcquireAgent floor d 0 → SettledFrom level.Bit floor e 0
-    → IsOn floor e heads → IsMinimal floor e
-all_levels floor a b c d e heads ba cb dc ed ra ab rc ad be on = minimal_of floor e on.floored
+pub all_levels : (floor : List Head) (a b c d e : Job) → Raises b a → Raises c b → Raises d c
+    → SettledFrom level.ReleaseSystem floor a 0 → SettledFrom level.AcquireSystem floor b 0 → SettledFrom level.ReleaseAgent floor c 0 → SettledFrom level.AcquireAgent floor d 0
+    → length floor ≡ length e.packets → BitsSettled floor d e → IsMinimal floor e
+all_levels floor a b c d e ba cb dc ra ab rc ad floored bits = minimal_of floor e floored
     (each_part floor e
     (λ p is. release_settled floor a c e ca ec ra rc p (packet_kept e a p (raises_on e c a ec ca).same is))
     (λ p is. acquire_settled floor b d e db ed ab ad p (packet_kept e b p (raises_on e d b ed db).same is))
-    (λ p is. bits_settled floor e be p is))
-    on.above on.ordered
+    (λ p is. bits_settled floor e bits.all.settled p is))
+    bits.all.above bits.ordered
   where
+    ed : Raises e d
+    ed = bits.all.below
+
     ca : Raises c a
     ca = raises_on c b a cb ba
 

@@ -1,3 +1,4 @@
 pub mod Levels
 pub mod Between
 pub mod Minimal
+pub mod Foresight

@@ -27,7 +27,21 @@ fn below(scope: Scope) -> Scope
     }
 }
 
+/// How many levels there are.
+pub const LEVELS: usize = 5;
+
 impl Level {
+    /// How many levels go first.
+    pub fn ahead(self) -> usize {
+        match self {
+            Level::ReleaseSystem => 0,
+            Level::AcquireSystem => 1,
+            Level::ReleaseAgent => 2,
+            Level::AcquireAgent => 3,
+            Level::Bit => 4,
+        }
+    }
+
     /// Whether a head's part stands at this level.
     fn is_at(self, head: Head) -> bool
         ensures { IsTrue result ↔ IsAt self head }

@@ -8,11 +8,15 @@
 #![tactic(auto)]
 
 mod attempt;
+mod bits;
 mod changing;
+mod foresight;
 mod heads;
 mod level;
 mod settling;
 mod trial;
+mod watch;
 
 pub use changing::{fix, trim};
 pub use hq_audit::AuditNo;
+pub use watch::{Unwatched, Watch};

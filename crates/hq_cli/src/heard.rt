@@ -16,6 +16,9 @@ struct Start {
 impl Start {
     /// Keeps as many of these bytes as there is room for.
     fn keep(&mut self, bytes: &[u8]) {
+        if self.count == KEPT {
+            return;
+        }
         for (place, byte) in self.bytes.iter_mut().skip(self.count).zip(bytes) {
             *place = *byte;
         }

@@ -23,7 +23,7 @@ use hq_text::number_of;
 use hq_words::{Asked, WordsFault, command_of};
 use input::{open, open_file};
 use output::{Output, create};
-use progress::Progress;
+use progress::{Progress, Settling};
 use std::alloc::{AllocError, Global};
 use std::io::{BufWriter, Write};
 use std::process::ExitCode;
@@ -123,7 +123,9 @@ fn change<W: Write>(rt: &HostRuntime, job: &str, aim: Aim, writer: &mut W) -> St
         Ok(input) => input,
         Err(error) => return say_unopened(rt, job, &error, writer),
     };
-    let (status, changed) = change_engine(rt.alloc(), &mut input, writer, aim);
+    let settling = Settling::new(rt);
+    let (status, changed) = change_engine(rt.alloc(), &mut input, writer, aim, &settling);
+    settling.clear();
     match changed {
         Some(changed) => say_changes(rt, &changed, aim),
         None => say_unmended(rt, status, aim),

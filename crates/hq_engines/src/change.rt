@@ -14,7 +14,7 @@ use crate::saying::say_text;
 use crate::status::Status;
 use crate::taking::take_job_text;
 use hq_audit::AuditNo;
-use hq_change::{fix, trim};
+use hq_change::{Watch, fix, trim};
 use hq_job::{Job, rewrite};
 use hq_model::machine::stuck_law;
 use hq_packet::Head;
@@ -36,14 +36,14 @@ pub struct Changed {
 }
 
 /// The job as the aim has it.
-fn job_changed(alloc: Global, job: Job, aim: Aim) -> Result<Job, AuditNo>
+fn job_changed(alloc: Global, job: Job, aim: Aim, watch: &dyn Watch) -> Result<Job, AuditNo>
     ensures changed { IfOk result (λ k. IsChanged aim (plan job) (plan k)) }
     ensures heads { IfOk result (λ k. job_with_heads job (heads_of k) ≡ k) }
     ensures refused { IfErr result (λ no. IsRefused (judged_job aim (plan job)) no) }
 {
     match aim {
-        Aim::Fix => fix(alloc, job),
-        Aim::Trim => trim(alloc, job),
+        Aim::Fix => fix(alloc, job, watch),
+        Aim::Trim => trim(alloc, job, watch),
     }
 }
 
@@ -53,6 +53,7 @@ fn text_changed(
     text: &[u8],
     job: &Job,
     aim: Aim,
+    watch: &dyn Watch,
 ) -> Result<(Vec<u8>, Changed), AuditNo>
     requires { JobText (lines_of text.now) job.now }
     ensures changed { IfOk result (λ it. IsChanged aim (plan job.now) (plan it.1.job)) }
@@ -63,7 +64,7 @@ fn text_changed(
 {
     let heads = job.heads(alloc)?;
     let copy = job.copy(alloc)?;
-    let changed = job_changed(alloc, copy, aim)?;
+    let changed = job_changed(alloc, copy, aim, watch)?;
     let new_heads = changed.heads(alloc)?;
     let new = rewrite(alloc, text, job, &new_heads)?;
     let changed = Changed {
@@ -80,6 +81,7 @@ fn change_found<W: Write>(
     text: &[u8],
     job: &Job,
     aim: Aim,
+    watch: &dyn Watch,
 ) -> (Status, Option<Changed>)
     requires { JobText (lines_of text.now) job.now }
     ensures report { Reported (ChangeReport aim text.now job.now) (W.contents writer.old) (W.contents writer.new) result.0 }
@@ -87,7 +89,7 @@ fn change_found<W: Write>(
 {
     job.valid();
     stuck_law();
-    match text_changed(alloc, text, job, aim) {
+    match text_changed(alloc, text, job, aim, watch) {
         Ok((new, changed)) => (say_text(writer, &new), Some(changed)),
         Err(no) => (say_no_certificate(writer, no), None),
     }
@@ -95,18 +97,19 @@ fn change_found<W: Write>(
 
 /// Reads a job, and writes its text with other heads: with what it lacks, or without what it doesn't need. Nothing else of the text is
 /// other. Answers the status and, where that text was written, the job that it is and the heads that the packets had. Nothing is written
-/// before the last growth of memory.
+/// before the last growth of memory. The watch hears how far the change has come.
 pub fn change_engine<R: Read, W: Write>(
     alloc: Global,
     reader: &mut R,
     writer: &mut W,
     aim: Aim,
+    watch: &dyn Watch,
 ) -> (Status, Option<Changed>)
     ensures report { Reported (ReaderReport R R.remaining reader.old reader.new (λ text. JobTextReport (ChangeReport aim text) text)) (W.contents writer.old) (W.contents writer.new) result.0 }
     ensures told { IfSome result.1 (λ it. OfReader R R.remaining reader.old reader.new (TellsText aim it)) }
 {
     match take_job_text(alloc, reader, writer) {
-        Ok((text, job)) => change_found(alloc, writer, &text, &job, aim),
+        Ok((text, job)) => change_found(alloc, writer, &text, &job, aim, watch),
         Err(status) => (status, None),
     }
 }

@@ -17,3 +17,4 @@ pub mod Settling
 pub mod Completions
 pub mod First
 pub mod Scopes
+pub mod Swept

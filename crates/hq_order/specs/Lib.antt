@@ -1,6 +1,7 @@
 pub mod Bits
 pub mod Rounds
 pub mod Matrix
+pub mod Sweeping
 pub mod View
 pub mod Faults
 pub mod Placing

@@ -22,7 +22,7 @@ use std::alloc::{AllocError, Global};
 use std::marker::Model;
 
 /// How many words a row has.
-fn words_of(job: &Job) -> usize
+pub fn words_of(job: &Job) -> usize
     ensures words { result ≡ words_for (length job.now.packets) }
     ensures few { result ≤ 16 }
     ensures room { length job.now.packets ≤ result * 64 }
@@ -197,7 +197,7 @@ fn all_rounds(alloc: Global, job: &Job) -> Result<Vec<Vec<Vec<u64>>>, AllocError
 }
 
 /// Whether the row of r has p.
-fn marks(rows: &[Vec<u64>], p: usize, r: usize) -> bool
+pub fn marks(rows: &[Vec<u64>], p: usize, r: usize) -> bool
     ensures { IsTrue result ↔ Marks rows.now p r }
 {
     match rows.get(r) {

@@ -16,7 +16,7 @@ use hq_packet::Packet;
 use std::alloc::{AllocError, Global};
 
 /// Whether the packet is a barrier packet.
-fn is_barrier(packet: &Packet) -> bool
+pub fn is_barrier(packet: &Packet) -> bool
     ensures { IsTrue result ↔ kind_of packet.now ≢ Work }
 {
     matches!(packet, Packet::And(_) | Packet::Or(_))

@@ -16,8 +16,10 @@ pub mod laws;
 mod needs;
 mod rounds;
 mod scheduling;
+mod sweeping;
 
-pub use before::{Before, Rounds};
+pub use before::{Before, Rounds, marks};
 pub use fault::OrderFault;
 pub use needs::turn;
 pub use scheduling::schedule;
+pub use sweeping::sweep;

@@ -17,7 +17,7 @@ use hq_packet::Packet;
 use std::alloc::{AllocError, Global};
 
 /// The packets of a set, and all that are before them.
-fn reached(alloc: Global, set: &[u64], known: &Known) -> Result<Vec<u64>, AllocError>
+pub fn reached(alloc: Global, set: &[u64], known: &Known) -> Result<Vec<u64>, AllocError>
     requires unions { CanUnite known.now.rows.now (length set.now) known.now.unions.now }
     requires few { length set.now ≤ 16 }
     ensures len { IfOk result (λ reached. length reached.items ≡ length set.now) }
@@ -97,7 +97,7 @@ fn meet_branches(
 
 /// Takes in the packets that are complete whichever dependency of r is over, where r is a barrier-OR. Whether any of them is
 /// new.
-fn unite_shared(
+pub fn unite_shared(
     alloc: Global,
     new: &mut [u64],
     job: &Job,

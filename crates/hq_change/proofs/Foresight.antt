@@ -1,0 +1,104 @@
+-- What is foreseen of bits.
+use Rattle.std.proofs.Common.{◌≡◌, ◌≢◌, ℕ, ◌+◌, ◌<◌, ◌≤◌, inl, inr, IsTrue, List, length, refl, sym, ◌∙◌, ap, subst, arith, Some, slice_get}
+use Rattle.std.specs.Global.{Vec}
+use Rattle.std.proofs.lemmas.Bool.{cases_eq, cases_lt}
+use Rattle.std.proofs.lemmas.Option.{get_or_from_slice_get}
+use Rattle.hq_packet.specs.declared.packet.Head.{Head}
+use Rattle.hq_model.specs.Job.{Job, IsPacket}
+use Rattle.hq_model.specs.Fence.{Conflict, Conflicts, Ordered}
+use Rattle.hq_model.specs.Settings.{HeadIsSet, HeadRaises, Raises, SameButHeads, head_at, head_of, lowered, no_head, with_head}
+use Rattle.hq_model.specs.Settings.Part.{Bit}
+use Rattle.hq_model.proofs.Fences.{shown_is_before}
+use Rattle.hq_model.proofs.SettingsKept.{heads_leave_conflicts, same_length, packets_same}
+use Rattle.hq_model.proofs.SettingsSteps.{heads_are_set, raises_on, same_by_heads}
+use Rattle.hq_order.specs.Matrix.{Marks}
+use Rattle.hq_order.specs.Sweeping.{HaveOrder}
+use Rattle.hq_audit.proofs.Certifying.{turned}
+use Rattle.hq_change.specs.declared.level.Level.TheVariants as level
+use Rattle.hq_change.specs.Levels.{IsAt, IsLowered, Stays}
+use Rattle.hq_change.specs.Minimal.{AtOrAbove, Settled, SettledFrom}
+use Rattle.hq_change.specs.Foresight.{AllForeseen, AreClashes, BitsSettled, Clash, Foreseen}
+use Rattle.hq_change.proofs.Single.{head_itself, lowered_below, lowered_not_at}
+use Rattle.hq_change.proofs.Between.{itself_below}
+use Rattle.hq_change.proofs.Whole.{packet_kept, settled_more}
+
+-- ---- packets that are apart
+
+pub apart_refuses : (job : Job) (rows : List (Vec ℕ)) (b a : ℕ) → HaveOrder job rows → b < a → IsPacket job a → Clash job b a → ¬ Marks rows b a → ¬ Marks rows a b → ¬ Ordered job
+apart_refuses job rows b a h low is clash first second o = elim (o.shown b a clash.0 low is clash.1) [
+  | inl shown ↦ first (h.all b a (shown_is_before job clash.0 b a (shown clash.0 clash.1)))
+  | inr shown ↦ let c = turned job clash.0 a b clash.1 in second (h.all a b (shown_is_before job c.0 a b (shown c.0 c.1)))
+]
+
+pub clashes_stay : (j k : Job) (rows : List (Vec ℕ)) → SameButHeads j k → AreClashes j rows → AreClashes k rows
+clashes_stay j k rows same h = record {
+  len = h.len ∙ same_length j.packets k.packets (packets_same j k same);
+  clash = λ b a m. let x = h.clash b a m in (x.0, (x.1.0, (heads_leave_conflicts j k x.1.0 b a same).0 x.1.1));
+}
+
+-- ---- one bit
+
+module _ (floor : List Head) (p : ℕ) (job : Job) (low : Head) (is : IsPacket job p) (there : slice_get floor p ≡ Some low) (above : AtOrAbove floor job) where
+  pub one_kept : Stays level.Bit low (head_at job p) → Foreseen floor p job job
+  one_kept stays = record {
+    below = itself_below job;
+    above = above;
+    others = λ q apart. refl;
+    settled = λ at can o. stays at (subst (λ x. HeadRaises x (lowered Bit (head_at job p))) (same_low can.low can.is_floor) can.above);
+  }
+    where
+      same_low : (x : Head) → slice_get floor p ≡ Some x → x ≡ low
+      same_low x e = sym (get_or_from_slice_get floor p x no_head e) ∙ get_or_from_slice_get floor p low no_head there
+
+  module _ (less : Head) (x : IsLowered level.Bit low (head_at job p) less) where
+    set : HeadIsSet job p less
+    set = heads_are_set job p less is
+
+    down : HeadRaises less (head_at job p)
+    down = subst (λ h. HeadRaises h (head_at job p)) (sym x.is) (lowered_below Bit (head_at job p))
+
+    pub one_gone : Foreseen floor p job (with_head job p less)
+    one_gone = record {
+      below = set.lower down;
+      above = λ q l e. elim (cases_eq q p) [
+        | inl same ↦
+            let low_is : low ≡ l = sym (get_or_from_slice_get floor p low no_head there) ∙ get_or_from_slice_get floor p l no_head (ap (slice_get floor) (sym same) ∙ e) in
+            subst (HeadRaises l) (sym (ap (head_at (with_head job p less)) same ∙ set.here)) (subst (λ h. HeadRaises h less) low_is x.above)
+        | inr apart ↦ subst (HeadRaises l) (sym (ap head_of (set.others q apart))) (above q l e)
+      ];
+      others = λ q apart. ap head_of (set.others q apart);
+      settled = λ at. absurd (lowered_not_at level.Bit (head_at job p) x.at (subst (IsAt level.Bit) (set.here ∙ x.is) at));
+    }
+
+    pub back_is : with_head (with_head job p less) p (head_at job p) ≡ job
+    back_is = same_by_heads back job (sym again.same ∙ sym set.same) (λ q is_q. elim (cases_eq q p) [
+      | inl same ↦ ap (head_at back) same ∙ again.here ∙ ap (head_at job) (sym same)
+      | inr apart ↦ ap head_of (again.others q apart) ∙ ap head_of (set.others q apart)
+    ])
+      where
+        back : Job
+        back = with_head (with_head job p less) p (head_at job p)
+
+        again : HeadIsSet (with_head job p less) p (head_at job p)
+        again = heads_are_set (with_head job p less) p (head_at job p) (packet_kept job (with_head job p less) p set.same is)
+
+    pub one_back : ¬ Ordered (with_head job p less) → Foreseen floor p job (with_head (with_head job p less) p (head_at job p))
+    one_back refused = subst (Foreseen floor p job) (sym back_is) (record {
+      below = itself_below job;
+      above = above;
+      others = λ q apart. refl;
+      settled = λ at can o. refused (subst (λ h. Ordered (with_head job p h)) (sym x.is) o);
+    })
+
+-- ---- one bit behind another
+
+pub none_foreseen : (floor : List Head) (n : ℕ) (job : Job) → length job.packets ≤ n → AtOrAbove floor job → AllForeseen floor n job job
+none_foreseen floor n job few above = record { below = itself_below job; above = above; settled = λ p from is at. absurd (omega (arith, from, is, few)) }
+
+pub more_foreseen : (floor : List Head) (p : ℕ) (old now new : Job) → AllForeseen floor (p + 1) old now → Foreseen floor p now new → AllForeseen floor p old new
+more_foreseen floor p old now new all one = record {
+  below = raises_on new now old one.below all.below;
+  above = one.above;
+  settled = settled_more level.Bit floor (p + 1) now new one.below (λ q out. one.others q (λ e. omega (arith, out, e))) all.settled p
+      (λ q from to. let same : q ≡ p = omega (arith, from, to) in subst (λ r. IsAt level.Bit (head_at new r) → Settled floor new r Bit) (sym same) one.settled);
+}

@@ -1,0 +1,134 @@
+//! Whether a job isn't ordered, foreseen by the order alone: two packets conflict, and neither is before the other.
+
+ghost use Rattle.std.specs.Prelude.{◌≡◌, ◌≤◌, ◌<◌, ℕ, IfOk, IsTrue, length};
+ghost use Rattle.hq_job.specs.Plan.{plan};
+ghost use Rattle.hq_model.specs.Fence.{Ordered};
+ghost use Rattle.hq_model.specs.Job.{IsPacket};
+ghost use Rattle.hq_order.specs.Bits.{has};
+ghost use Rattle.hq_order.specs.Matrix.{IsSquare, Marks, row, words_for};
+ghost use Rattle.hq_order.specs.View.{AreOf};
+ghost use Rattle.hq_audit.specs.Parts.{AreParts};
+ghost use Rattle.hq_change.specs.Foresight.{AreClashes, Clash};
+
+use hq_audit::Parts;
+use hq_job::Job;
+use hq_order::bits::{covers, empty, first_from, insert, take_out};
+use hq_order::{Before, Rounds, marks, sweep};
+use std::alloc::{AllocError, Global};
+
+/// What foresight rests on, whatever heads the packets have.
+#[derive(Clone, Copy)]
+pub struct Foresight<'a> {
+    /// For each packet those with lesser numbers that conflict with it, as bits.
+    pub clashes: &'a [Vec<u64>],
+    /// An order list.
+    pub order: &'a [u16],
+}
+
+/// Whether two packets conflict.
+fn is_clash(job: &Job, a: usize, b: usize) -> bool
+    requires a_is { IsPacket (plan job.now) a }
+    requires b_is { IsPacket (plan job.now) b }
+    ensures { IsTrue result → Clash (plan job.now) a b }
+{
+    let kinds = job.kinds(a, b);
+    kinds.wr || kinds.ww || kinds.rw
+}
+
+/// The packets with lesser numbers that conflict with a packet.
+fn clash_row(
+    alloc: Global,
+    before: &Before,
+    parts: &Parts,
+    a: usize,
+) -> Result<Vec<u64>, AllocError>
+    requires parts { AreParts before.now parts.now }
+    requires a_is { IsPacket before.now a }
+    ensures len { IfOk result (λ row. length row.items ≡ words_for (length before.now.packets)) }
+    ensures clash { IfOk result (λ row. (b : ℕ) → IsTrue (has row.items b) → (b < a) × Clash before.now b a) }
+{
+    before.job().valid();
+    let others = parts.others(before, a);
+    let mut row = empty(alloc, before.ahead(a).len())?;
+    let mut b = others.next(before, 0);
+    'others: while b < a {
+        if is_clash(before.job(), b, a) {
+            insert(&mut row, b);
+        }
+        b = others.next(before, b + 1);
+    }
+    Ok(row)
+}
+
+/// For each packet those with lesser numbers that conflict with it.
+fn clash_rows(alloc: Global, before: &Before, parts: &Parts) -> Result<Vec<Vec<u64>>, AllocError>
+    requires parts { AreParts before.now parts.now }
+    ensures { IfOk result (λ rows. AreClashes before.now rows.items) }
+{
+    let mut rows = Vec::with_capacity(alloc, before.len())?;
+    for a in 0..before.len() {
+        rows.push(clash_row(alloc, before, parts, a)?)?;
+    }
+    Ok(rows)
+}
+
+/// For each packet those with lesser numbers that conflict with it; and the rounds, which are handed back.
+pub fn clashes_of(
+    alloc: Global,
+    job: &Job,
+    rounds: Rounds,
+    parts: &Parts,
+) -> Result<(Vec<Vec<u64>>, Rounds), AllocError>
+    requires rounds { AreOf (plan job.now) rounds }
+    requires parts { AreParts (plan job.now) parts.now }
+    ensures clashes { IfOk result (λ it. AreClashes (plan job.now) it.0.items) }
+{
+    let before = rounds.over(job);
+    let rows = clash_rows(alloc, &before, parts)?;
+    Ok((rows, before.into_rounds()))
+}
+
+/// Whether of the packets of a row one isn't before a by the rows, nor a before it.
+fn has_apart(
+    alloc: Global,
+    rows: &[Vec<u64>],
+    clashes: &[u64],
+    a: usize,
+) -> Result<bool, AllocError>
+    requires few { length clashes.now ≤ 16 }
+    requires width { length (row rows.now a) ≡ length clashes.now }
+    requires a_is { a < length rows.now }
+    ensures { IfOk result (λ apart. IsTrue apart → ((b : ℕ) × IsTrue (has clashes.now b) × ¬ Marks rows.now b a × ¬ Marks rows.now a b)) }
+{
+    if covers(&rows[a], clashes) {
+        return Ok(false);
+    }
+    let mut left = clashes.to_vec(alloc)?;
+    take_out(&mut left, &rows[a]);
+    let mut from = 0;
+    'each: while from < 1024 {
+        match first_from(&left, from) {
+            Some(b) if !marks(rows, a, b) => return Ok(true),
+            Some(b) => from = b + 1,
+            None => return Ok(false),
+        }
+    }
+    Ok(false)
+}
+
+/// Whether two packets conflict of which neither is before the other, as far as that is found quickly: then the job isn't ordered.
+pub fn is_apart(alloc: Global, job: &Job, foresight: &Foresight) -> Result<bool, AllocError>
+    requires { AreClashes (plan job.now) foresight.now.clashes.now }
+    ensures { IfOk result (λ apart. IsTrue apart → ¬ Ordered (plan job.now)) }
+{
+    job.valid();
+    let Some(rows) = sweep(alloc, job, foresight.order)? else {
+        return Ok(false);
+    };
+    for a in 0..rows.len() {
+        if has_apart(alloc, &rows, &foresight.clashes[a], a)? {
+            return Ok(true);
+        }
+    }
+    Ok(false)
+}
