@@ -206,7 +206,7 @@ on_itself l floor from to job heads on room lower = record {
   others = λ p out. refl;
 }
 
-itself_below : (job : Job) → Raises job job
+pub itself_below : (job : Job) → Raises job job
 itself_below job = record { same = refl; heads = λ p. head_itself (head_at job p) }
 
 -- where there is nothing to lower

@@ -4,4 +4,4 @@ pub mod Staying
 pub mod Trials
 pub mod Whole
 pub mod Texts
-pub mod Foresight
+pub mod Foreseeing

@@ -90,6 +90,9 @@ all_levels floor a b c d e ba cb dc ra ab rc ad floored bits = minimal_of floor 
     ec : Raises e c
     ec = raises_on e d c ed dc
 
+pub floored_below : (floor : List Head) (j k : Job) → length floor ≡ length j.packets → Raises k j → length floor ≡ length k.packets
+floored_below floor j k floored below = floored ∙ sym (same_length k.packets j.packets (packets_same k j below.same))
+
 -- ---- what is answered
 
 -- a floor on which nothing stands

@@ -6,7 +6,7 @@ use Rattle.hq_model.specs.Job.{Job}
 use Rattle.hq_model.specs.Fence.{Conflict, Conflicts, Ordered}
 use Rattle.hq_model.specs.Settings.{Raises, head_at}
 use Rattle.hq_model.specs.Settings.Part.{Bit}
-use Rattle.hq_order.specs.Matrix.{Marks}
+use Rattle.hq_order.specs.Matrix.{Marks, IsSquare}
 use Rattle.hq_change.specs.declared.level.Level.TheVariants as level
 use Rattle.hq_change.specs.Levels.{IsAt}
 use Rattle.hq_change.specs.Minimal.{AtOrAbove, Settled, SettledFrom}
@@ -17,7 +17,7 @@ Clash job a b = (kind : Conflict) × Conflicts job kind a b
 
 -- For each packet a row, which has packets with lesser numbers that conflict with it.
 pub record AreClashes (job : Job) (rows : List (Vec ℕ)) : Type 0 where
-  pub len : length rows ≡ length job.packets
+  pub square : IsSquare (length job.packets) rows
   pub clash : (b a : ℕ) → Marks rows b a → (b < a) × Clash job b a
 
 -- The setting is at or below the one before, and at or above the floor. It differs in no other packet's head than p's; and where p has its

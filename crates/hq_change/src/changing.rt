@@ -90,18 +90,12 @@ fn lower_all(
         clashes: &clashes,
         order,
     };
-    settle_bits(
-        alloc, job, &mut heads, rounds, &search, &foresight, watch,
-    )
+    settle_bits(alloc, job, &mut heads, rounds, &search, &foresight, watch)?;
+    Ok(())
 }
 
 /// The job with heads as low as it is ordered with, and no lower than the floor.
-fn minimal(
-    alloc: Global,
-    mut job: Job,
-    floor: &[Head],
-    watch: &dyn Watch,
-) -> Result<Job, AuditNo>
+fn minimal(alloc: Global, mut job: Job, floor: &[Head], watch: &dyn Watch) -> Result<Job, AuditNo>
     requires floored { length floor.now ≡ length job.packets }
     requires above { AtOrAbove floor.now (plan job) }
     ensures minimal { IfOk result (λ k. IsMinimal floor.now (plan k)) }

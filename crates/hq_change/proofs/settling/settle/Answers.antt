@@ -5,7 +5,7 @@ use Rattle.hq_change.proofs.Whole.{as_many_values, parts_stay, settled_kept, set
 use Rattle.hq_change.proofs.settling.settle.Goals as goal
 
 pub down-preserved-then-ordered : goal.down-preserved-then-ordered
-down-preserved-then-ordered c =
+down-preserved-then-ordered g c =
     let now = plan c.down.job in
     let new = plan c.attempt.new.job in
     let i = c.down.invariant in
@@ -24,7 +24,7 @@ down-preserved-then-ordered c =
     }
 
 pub down-preserved-then-to-from-eq1 : goal.down-preserved-then-to-from-eq1
-down-preserved-then-to-from-eq1 c =
+down-preserved-then-to-from-eq1 g c =
     let now = plan c.down.job in
     let new = plan c.attempt.new.job in
     let i = c.down.invariant in
@@ -43,7 +43,7 @@ down-preserved-then-to-from-eq1 c =
     }
 
 pub down-preserved : goal.down-preserved
-down-preserved c =
+down-preserved g c =
     let now = plan c.down.job in
     let new = plan c.attempt.new.job in
     let i = c.down.invariant in

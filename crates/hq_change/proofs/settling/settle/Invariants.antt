@@ -7,7 +7,7 @@ use Rattle.hq_change.specs.Minimal.{Fit, IsOn, SettledFrom}
 use Rattle.hq_change.proofs.settling.settle.Given as goal
 
 abbrev pub invariant-down : goal.invariant-down
-invariant-down l = record {
+invariant-down g l = record {
   on : IsOn l.search.floor.now (plan l.job) l.heads.items;
   below : Raises (plan l.job) (plan l.fn.job);
   same : SameButHeads l.fn.job l.job;
@@ -20,4 +20,4 @@ invariant-down l = record {
 }
 
 abbrev pub decreases-down : goal.decreases-down
-decreases-down l = l.to * 4096 + l.many
+decreases-down g l = l.to * 4096 + l.many

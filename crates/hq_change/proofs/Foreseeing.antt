@@ -1,24 +1,27 @@
 -- What is foreseen of bits.
-use Rattle.std.proofs.Common.{◌≡◌, ◌≢◌, ℕ, ◌+◌, ◌<◌, ◌≤◌, inl, inr, IsTrue, List, length, refl, sym, ◌∙◌, ap, subst, arith, Some, slice_get}
+use Rattle.std.proofs.Common.{◌≡◌, ℕ, ◌+◌, ◌<◌, ◌≤◌, inl, inr, ◌||◌, ◌==◌, IsTrue, List, length, refl, sym, ◌∙◌, ap, subst, arith, Some, slice_get}
 use Rattle.std.specs.Global.{Vec}
-use Rattle.std.proofs.lemmas.Bool.{cases_eq, cases_lt}
+use Rattle.std.proofs.lemmas.Bool.{cases_eq}
 use Rattle.std.proofs.lemmas.Option.{get_or_from_slice_get}
 use Rattle.hq_packet.specs.declared.packet.Head.{Head}
 use Rattle.hq_model.specs.Job.{Job, IsPacket}
-use Rattle.hq_model.specs.Fence.{Conflict, Conflicts, Ordered}
-use Rattle.hq_model.specs.Settings.{HeadIsSet, HeadRaises, Raises, SameButHeads, head_at, head_of, lowered, no_head, with_head}
+use Rattle.hq_model.specs.Fence.{Ordered}
+use Rattle.hq_model.specs.Settings.{HeadIsSet, HeadRaises, SameButHeads, head_at, head_of, lowered, no_head, with_head}
 use Rattle.hq_model.specs.Settings.Part.{Bit}
 use Rattle.hq_model.proofs.Fences.{shown_is_before}
-use Rattle.hq_model.proofs.SettingsKept.{heads_leave_conflicts, same_length, packets_same}
+use Rattle.hq_model.proofs.SettingsKept.{heads_leave_conflicts, heads_leave_lists, same_length, packets_same}
 use Rattle.hq_model.proofs.SettingsSteps.{heads_are_set, raises_on, same_by_heads}
-use Rattle.hq_order.specs.Matrix.{Marks}
+use Rattle.hq_order.specs.Bits.{has}
+use Rattle.hq_order.specs.Matrix.{Marks, IsSquare, row, words_for}
+use Rattle.hq_order.proofs.Crossing.{mark_bit}
+use Rattle.hq_audit.specs.Refused.{AllShown}
 use Rattle.hq_order.specs.Sweeping.{HaveOrder}
-use Rattle.hq_audit.proofs.Certifying.{turned}
+use Rattle.hq_audit.proofs.Certifying.{shown_is_ordered, turned}
 use Rattle.hq_change.specs.declared.level.Level.TheVariants as level
 use Rattle.hq_change.specs.Levels.{IsAt, IsLowered, Stays}
-use Rattle.hq_change.specs.Minimal.{AtOrAbove, Settled, SettledFrom}
+use Rattle.hq_change.specs.Minimal.{AtOrAbove, Settled}
 use Rattle.hq_change.specs.Foresight.{AllForeseen, AreClashes, BitsSettled, Clash, Foreseen}
-use Rattle.hq_change.proofs.Single.{head_itself, lowered_below, lowered_not_at}
+use Rattle.hq_change.proofs.Single.{lowered_below, lowered_not_at}
 use Rattle.hq_change.proofs.Between.{itself_below}
 use Rattle.hq_change.proofs.Whole.{packet_kept, settled_more}
 
@@ -32,7 +35,7 @@ apart_refuses job rows b a h low is clash first second o = elim (o.shown b a cla
 
 pub clashes_stay : (j k : Job) (rows : List (Vec ℕ)) → SameButHeads j k → AreClashes j rows → AreClashes k rows
 clashes_stay j k rows same h = record {
-  len = h.len ∙ same_length j.packets k.packets (packets_same j k same);
+  square = subst (λ n. IsSquare n rows) (same_length j.packets k.packets (packets_same j k same)) h.square;
   clash = λ b a m. let x = h.clash b a m in (x.0, (x.1.0, (heads_leave_conflicts j k x.1.0 b a same).0 x.1.1));
 }
 
@@ -90,6 +93,19 @@ module _ (floor : List Head) (p : ℕ) (job : Job) (low : Head) (is : IsPacket j
       settled = λ at can o. refused (subst (λ h. Ordered (with_head job p h)) (sym x.is) o);
     })
 
+-- the same of code's values
+module _ (floor : List Head) (p : ℕ) (job : Job) (low head less : Head) (k : Job) (is : IsPacket job p) (there : slice_get floor p ≡ Some low) (above : AtOrAbove floor job) (e : head ≡ head_at job p) (x : IsLowered level.Bit low head less) (set : k ≡ with_head job p less) where
+  lower : IsLowered level.Bit low (head_at job p) less
+  lower = subst (λ h. IsLowered level.Bit low h less) e x
+
+  pub gone_if : Foreseen floor p job k
+  gone_if = subst (Foreseen floor p job) (sym set) (one_gone floor p job low is there above less lower)
+
+  pub back_if : ¬ Ordered k → (back : Job) → back ≡ with_head k p head → Foreseen floor p job back
+  back_if refused back unset =
+      subst (Foreseen floor p job) (sym (unset ∙ ap (λ j. with_head j p head) set ∙ ap (with_head (with_head job p less) p) e))
+      (one_back floor p job low is there above less lower (subst (λ j. ¬ Ordered j) set refused))
+
 -- ---- one bit behind another
 
 pub none_foreseen : (floor : List Head) (n : ℕ) (job : Job) → length job.packets ≤ n → AtOrAbove floor job → AllForeseen floor n job job
@@ -102,3 +118,25 @@ more_foreseen floor p old now new all one = record {
   settled = settled_more level.Bit floor (p + 1) now new one.below (λ q out. one.others q (λ e. omega (arith, out, e))) all.settled p
       (λ q from to. let same : q ≡ p = omega (arith, from, to) in subst (λ r. IsAt level.Bit (head_at new r) → Settled floor new r Bit) (sym same) one.settled);
 }
+
+-- ---- clashes noted
+
+pub clash_more : (job : Job) (a b : ℕ) (old now new : List ℕ) → now ≡ old → ((p : ℕ) → has new p ≡ (has now p || p == b)) → b < a → Clash job b a → ((x : ℕ) → IsTrue (has old x) → (x < a) × Clash job x a) → (x : ℕ) → IsTrue (has new x) → (x < a) × Clash job x a
+clash_more job a b old now new e exact low clash h x m = elim ((mark_bit (has now x) (has new x) x b (exact x)).0 m) [
+  | inl was ↦ h x (subst (λ xs. IsTrue (has xs x)) e was)
+  | inr same ↦ subst (λ y. (y < a) × Clash job y a) (sym same) (low, clash)
+]
+
+pub square_rows : (n : ℕ) (rows : List (Vec ℕ)) → n ≤ 1024 → length rows ≡ n → ((r : ℕ) → r < n → length (row rows r) ≡ words_for n) → IsSquare n rows
+square_rows n rows few len wide = record { height = len; width = wide; room = omega arith; few = omega arith }
+
+-- ---- the job so lowered
+
+pub foreseen_settled : (floor : List Head) (old low new : Job) → low ≡ old → Ordered old → AllForeseen floor 0 low new → AllShown new → BitsSettled floor old new
+foreseen_settled floor old low new e o all shown = record {
+  ordered = shown_is_ordered new o.list ((heads_leave_lists old new o.list (sym mine.below.same)).0.0 o.order) shown;
+  all = mine;
+}
+  where
+    mine : AllForeseen floor 0 old new
+    mine = subst (λ j. AllForeseen floor 0 j new) e all
