@@ -23,7 +23,7 @@ pub data NeedsOneOf (job : Job) (set : List ℕ) (r : ℕ) : Type 0 where
   for_or : (slot s : ℕ) → (packet job r).kind ≡ BarrierOr → Dependency job r slot s
       → ((slot s : ℕ) → Dependency job r slot s → (d : ℕ) × Decrements job d s × In set d) → NeedsOneOf job set r
 
--- r stands in a set of packets, each of which needs p or another of the set: so none of them begins until p is.
+-- r stands in a set of packets, each of which needs p or another of the set: none of them begins until p is complete.
 pub record HoldsBack (job : Job) (p r : ℕ) : Type 0 where
   pub set : List ℕ
   pub member : In set r

@@ -59,8 +59,8 @@ pub record EitherRows : Type 0 where
   pub not_the_second : Before either 2 4 → ⊥
   pub not_past_a_free_branch : Before free_branch 0 4 → ⊥
 
--- Where a dependency of a barrier-OR waits for that barrier-OR, no order list is full, and the order may miss a packet that
--- every run completes first. What holds back doesn't.
+-- Where a dependency of a barrier-OR waits for that barrier-OR, no order list is full, and the order may miss a packet
+-- that every run completes first. What holds back doesn't.
 pub record MissedRows : Type 0 where
   pub either_full : FullOrderList either (0 ∷ 1 ∷ 2 ∷ 3 ∷ 4 ∷ [])
   pub back_valid : Valid back_branch

@@ -29,8 +29,8 @@ pub fn holds_back_exact()
     ensures { HoldsBackExact }
 {}
 
-/// Without rings, and where an order list has each barrier-OR after the packets of all its dependencies, a packet is complete
-/// before another begins, in every run, exactly where it is before that one.
+/// Without rings, and where an order list has each barrier-OR after the packets of all its dependencies, a packet is
+/// complete before another begins, in every run, exactly where it is before that one.
 pub fn full_order_exact()
     ensures { FullOrderExact }
 {}
