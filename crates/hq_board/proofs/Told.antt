@@ -8,13 +8,13 @@ use Rattle.hq_model.specs.Machine.{put, put2, with_phase, acquired, completed}
 use Rattle.hq_model.specs.Machine.Phase.{Launched, Active, Complete}
 use Rattle.hq_model.specs.Machine.Event.{Launch, Observe, Enter, Finish, Read, Store, PushLane, PushAgent}
 use Rattle.hq_model.specs.Theorems.{Valid}
+use Rattle.hq_model.specs.Readied.{Readies, SameProgress}
 use Rattle.hq_model.proofs.Journals.{steps_append}
+use Rattle.hq_model.proofs.Readied.{completion_reached}
 use Rattle.hq_board.specs.declared.entry.Entry.{Entry}
 use Rattle.hq_board.specs.declared.entry.Entry.TheVariants.{DidLaunch, DidObserve, DidEnter, DidComplete, Looked}
 use Rattle.hq_board.specs.History.{next, after, May, Sees}
-use Rattle.hq_machine.specs.Readied.{Readies, SameProgress}
 use Rattle.hq_board.specs.Told.{is_told, step_of, Tells, Found, IsTold, HistoriesRun}
-use Rattle.hq_machine.proofs.Readied.{completion_reached}
 
 -- ---- lists
 

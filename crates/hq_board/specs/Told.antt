@@ -4,10 +4,10 @@ use Rattle.hq_model.specs.Job.{Job, packet, Dependency}
 use Rattle.hq_model.specs.Machine.{State, Event, Run}
 use Rattle.hq_model.specs.Machine.Event.{Launch, Observe, Enter, Finish, Read, Store, PushLane, PushAgent}
 use Rattle.hq_model.specs.Theorems.{Valid}
+use Rattle.hq_model.specs.Readied.{SameProgress}
 use Rattle.hq_board.specs.declared.entry.Entry.{Entry}
 use Rattle.hq_board.specs.declared.entry.Entry.TheVariants.{DidLaunch, DidObserve, DidEnter, DidComplete, Looked}
 use Rattle.hq_board.specs.History.{after, Legal, Right}
-use Rattle.hq_machine.specs.Readied.{SameProgress}
 
 -- Not a read, a store or a push: of these a history knows nothing, and they change no phase and no signal.
 abbrev pub is_told : Event → Bool

@@ -23,4 +23,3 @@ pub mod FenceBacks
 pub mod Delivered
 pub mod Filled
 pub mod Wholes
-pub mod Readied

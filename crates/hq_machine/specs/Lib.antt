@@ -5,4 +5,3 @@ pub mod View
 pub mod WorkLeft
 pub mod Pushes
 pub mod Entries
-pub mod Readied

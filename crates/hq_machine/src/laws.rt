@@ -1,8 +1,8 @@
-//! Laws of the machine: those of the model, and that a completion can be reached.
+//! Laws of the machine: those of the model.
 
 ghost use Rattle.hq_model.specs.Theorems.{StepsDetermined, BoundLaw};
 ghost use Rattle.hq_model.specs.Journal.{CoarseLaw};
-ghost use Rattle.hq_machine.specs.Readied.{CompletionReached, EntryReadied};
+ghost use Rattle.hq_model.specs.Readied.{CompletionReached, EntryReadied};
 
 use hq_model::machine;
 
@@ -30,9 +30,13 @@ pub fn coarse_law()
 /// In every run a packet that is active can complete, once its own reads and stores and pushes have done what is left.
 pub fn completion_reached()
     ensures { CompletionReached }
-{}
+{
+    machine::completion_reached();
+}
 
 /// In every run a packet that enters can complete so.
 pub fn entry_readied()
     ensures { EntryReadied }
-{}
+{
+    machine::entry_readied();
+}

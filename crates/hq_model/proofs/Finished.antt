@@ -78,7 +78,7 @@ first_apart x xs h i = h 0 (suc (place xs x)) 0 (omega arith) (omega arith) (sym
 rest_apart : (x : ℕ) (xs : List ℕ) → AllPairs (λ p r. p ≢ r) (x ∷ xs) → AllPairs (λ p r. p ≢ r) xs
 rest_apart x xs h = λ i j d lt within. h (suc i) (suc j) d (omega arith) (omega arith)
 
-filtered : (test : ℕ → Bool) (xs : List ℕ) (p : ℕ) → In (filter test xs) p → (test p ≡ true) × In xs p
+pub filtered : (test : ℕ → Bool) (xs : List ℕ) (p : ℕ) → In (filter test xs) p → (test p ≡ true) × In xs p
 filtered test [] p i = absurd (omega arith)
 filtered test (x ∷ xs) p i = elim (cases_Bool (test x)) [
   | inl t ↦ elim (cases_eq x p) [
@@ -91,7 +91,7 @@ filtered test (x ∷ xs) p i = elim (cases_Bool (test x)) [
     more : (test p ≡ true) × In xs p → (test p ≡ true) × In (x ∷ xs) p
     more (t, h) = (t, in_cons x xs p h)
 
-in_below : (n c : ℕ) → In (numbers n) c → c < n
+pub in_below : (n c : ℕ) → In (numbers n) c → c < n
 in_below n c i = place_of_packets (λ k. k < n) (numbers n) c (numbers_below n n (omega arith)) i
 
 dirty_value : (copy : Option Copy) → is_dirty copy ≡ true → (v : ℕ) × (copy ≡ dirty v)

@@ -84,7 +84,7 @@ touching P h (suc (suc zero)) r kind l there c = absurd (idle_first either 2 r k
 touching P h (suc (suc (suc zero))) r kind l there c = absurd (idle_first either 3 r kind refl refl c)
 touching P h (suc (suc (suc (suc p)))) r kind l there c = absurd (omega arith)
 
-either_order : OrderList either (0 ∷ 1 ∷ 2 ∷ 3 ∷ 4 ∷ [])
+pub either_order : OrderList either (0 ∷ 1 ∷ 2 ∷ 3 ∷ 4 ∷ [])
 either_order = order_by_test either (0 ∷ 1 ∷ 2 ∷ 3 ∷ 4 ∷ []) refl (each_once_by_test either (0 ∷ 1 ∷ 2 ∷ 3 ∷ 4 ∷ []) refl refl refl) refl refl refl
 
 pub either_ordered : Ordered either

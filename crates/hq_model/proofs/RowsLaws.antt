@@ -1,11 +1,12 @@
 -- The rows, put together as their laws.
 use Rattle.std.proofs.Common.{refl}
-use Rattle.hq_model.specs.RowsHold.{OrderedRows, ResultsOfRows, RefusedRows, EitherRows, StuckRows, RunsOfRows}
+use Rattle.hq_model.specs.RowsHold.{OrderedRows, ResultsOfRows, RefusedRows, EitherRows, MissedRows, StuckRows, RunsOfRows}
 use Rattle.hq_model.proofs.Rows as plain
 use Rattle.hq_model.proofs.RowsChained as chain
 use Rattle.hq_model.proofs.RowsRings as rings
 use Rattle.hq_model.proofs.RowsMore as more
 use Rattle.hq_model.proofs.RowsEither as choice
+use Rattle.hq_model.proofs.RowsBack as back
 use Rattle.hq_model.proofs.RowsRuns as run
 
 pub rows_are_ordered : OrderedRows
@@ -54,6 +55,17 @@ either_orders = record {
   not_the_first = choice.not_the_first;
   not_the_second = choice.not_the_second;
   not_past_a_free_branch = choice.not_past_a_free_branch;
+}
+
+pub order_may_miss : MissedRows
+order_may_miss = record {
+  either_full = back.either_full;
+  back_valid = back.valid;
+  back_order = back.order;
+  not_full = back.not_full;
+  held = back.held;
+  always = back.always;
+  missed = back.missed;
 }
 
 pub rows_are_stuck : StuckRows

@@ -6,6 +6,7 @@ use Rattle.std.proofs.lemmas.List.Kept.{AllPairs-cons}
 use Rattle.hq_model.specs.Job.{Job, Kind, packet, IsPacket, Earlier, Decrements, completes_on}
 use Rattle.hq_model.specs.Job.Kind.{BarrierAnd, BarrierOr}
 use Rattle.hq_model.specs.Order.{place, Ahead, EachOnce, OrderList}
+use Rattle.hq_model.specs.HoldsBack.{FullOrderList}
 use Rattle.hq_model.proofs.Kept.{signal_is}
 
 -- ---- tests
@@ -118,6 +119,9 @@ keeps_ands job list = all_below (length job.packets) (λ r. implies (is_and (pac
 abbrev pub keeps_ors : Job → List ℕ → Bool
 keeps_ors job list = all_below (length job.packets) (λ r. implies (is_or (packet job r).kind) (some_slot (packet job r).deps (all_decrementers job list r)))
 
+abbrev pub keeps_branches : Job → List ℕ → Bool
+keeps_branches job list = all_below (length job.packets) (λ r. implies (is_or (packet job r).kind) (all_slots (packet job r).deps (all_decrementers job list r)))
+
 module _ (job : Job) (list : List ℕ) where
   decrementer_ahead : (r s : ℕ) → all_decrementers job list r s ≡ true → (d : ℕ) → Decrements job d s → Ahead list d r
   decrementer_ahead r s e d f =
@@ -159,4 +163,15 @@ module _ (job : Job) (list : List ℕ) where
         (implied (is_or (packet job r).kind) (some_slot (packet job r).deps (all_decrementers job list r))
         (below_at (length job.packets) (λ x. implies (is_or (packet job x).kind) (some_slot (packet job x).deps (all_decrementers job list x))) ors r there) (ap is_or k)) in
         (slot, s, record { is_packet = there; signal = is }, decrementer_ahead r s h);
+  }
+
+  pub full_by_test : OrderList job list → keeps_branches job list ≡ true → FullOrderList job list
+  full_by_test order branches = record {
+    order = order;
+    branches = λ r slot s d k w f.
+        decrementer_ahead r s
+        (slots_at (packet job r).deps (all_decrementers job list r)
+        (implied (is_or (packet job r).kind) (all_slots (packet job r).deps (all_decrementers job list r))
+        (below_at (length job.packets) (λ x. implies (is_or (packet job x).kind) (all_slots (packet job x).deps (all_decrementers job list x))) branches r w.is_packet) (ap is_or k))
+        slot s w.signal) d f;
   }

@@ -1,5 +1,5 @@
 -- What holds of the small jobs: so what the definitions promise isn't empty, and what they refuse isn't everything.
-use Rattle.std.specs.Prelude.{◌≡◌, [], ◌∷◌, Some}
+use Rattle.std.specs.Prelude.{◌≡◌, ℕ, List, [], ◌∷◌, Some}
 use Rattle.hq_model.specs.Order.{Before, OrderList, StuckSet}
 use Rattle.hq_model.specs.Fence.{ShownFor, Reason, Ordered}
 use Rattle.hq_model.specs.Fence.Conflict.{WriteRead}
@@ -9,7 +9,8 @@ use Rattle.hq_model.specs.Machine.Phase.{Launched, Complete}
 use Rattle.hq_model.specs.OneByOne.{one_by_one, given}
 use Rattle.hq_model.specs.Certificate.{CertHolds}
 use Rattle.hq_model.specs.Theorems.{Valid, Headline}
-use Rattle.hq_model.specs.Rows.{fill_copy, fill_copy_certificate, without_bits, copy_fill, fence_between, two_agents, two_writers, chained, chained_certificate, unacquired, waits_for_itself, either, either_certificate, free_branch, three_in_ring, stuck_ring, moved_ring, one_byte, unreleased_run, early_fill_run, two_nops, second_first_run, slot_in_use}
+use Rattle.hq_model.specs.HoldsBack.{AlwaysBefore, HoldsBack, FullOrderList}
+use Rattle.hq_model.specs.Rows.{fill_copy, fill_copy_certificate, without_bits, copy_fill, fence_between, two_agents, two_writers, chained, chained_certificate, unacquired, waits_for_itself, either, either_certificate, free_branch, back_branch, three_in_ring, stuck_ring, moved_ring, one_byte, unreleased_run, early_fill_run, two_nops, second_first_run, slot_in_use}
 use Rattle.hq_packet.specs.declared.packet.Scope.TheVariants as scope
 
 -- Jobs that are ordered, by the bit, by a chain on each agent, by a barrier-OR, by their ring, and where only a read comes first.
@@ -57,6 +58,17 @@ pub record EitherRows : Type 0 where
   pub not_the_first : Before either 1 4 → ⊥
   pub not_the_second : Before either 2 4 → ⊥
   pub not_past_a_free_branch : Before free_branch 0 4 → ⊥
+
+-- Where a dependency of a barrier-OR waits for that barrier-OR, no order list is full, and the order may miss a packet
+-- that every run completes first. What holds back doesn't.
+pub record MissedRows : Type 0 where
+  pub either_full : FullOrderList either (0 ∷ 1 ∷ 2 ∷ 3 ∷ 4 ∷ [])
+  pub back_valid : Valid back_branch
+  pub back_order : OrderList back_branch (0 ∷ 1 ∷ 2 ∷ [])
+  pub not_full : (list : List ℕ) → FullOrderList back_branch list → ⊥
+  pub held : HoldsBack back_branch 0 1
+  pub always : AlwaysBefore back_branch 0 1
+  pub missed : Before back_branch 0 1 → ⊥
 
 -- Rings and jobs that can't end.
 pub record StuckRows : Type 0 where

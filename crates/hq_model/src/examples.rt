@@ -1,6 +1,6 @@
 //! Small jobs, worked out.
 
-ghost use Rattle.hq_model.specs.RowsHold.{OrderedRows, ResultsOfRows, RefusedRows, EitherRows, StuckRows, RunsOfRows};
+ghost use Rattle.hq_model.specs.RowsHold.{OrderedRows, ResultsOfRows, RefusedRows, EitherRows, MissedRows, StuckRows, RunsOfRows};
 
 /// These jobs are ordered, and these certificates hold.
 pub fn rows_are_ordered()
@@ -20,6 +20,11 @@ pub fn rows_are_refused()
 /// What a barrier-OR orders, and what it doesn't.
 pub fn either_orders()
     ensures { EitherRows }
+{}
+
+/// A job whose order misses a packet that every run completes first.
+pub fn order_may_miss()
+    ensures { MissedRows }
 {}
 
 /// Which of these jobs have an order list, and which a stuck set.

@@ -3,6 +3,7 @@
 ghost use Rattle.hq_model.specs.Theorems.{StepsDetermined, WithoutRings, OrderLaw, SignalLaw, BoundLaw, StuckLaw, CompletePossible, JournalsRun};
 ghost use Rattle.hq_model.specs.Moves.{CopiesMoveAlways, FillsUnseenAlways, PushesWriteAlways, FenceLaw};
 ghost use Rattle.hq_model.specs.Journal.{CoarseLaw};
+ghost use Rattle.hq_model.specs.Readied.{CompletionReached, EntryReadied};
 
 /// An event leads from a state to one state.
 pub fn steps_determined()
@@ -57,6 +58,16 @@ pub fn stuck_law()
 /// In every run a packet that has read and stored all can complete, once pushes have done what its release asks.
 pub fn complete_possible()
     ensures { CompletePossible }
+{}
+
+/// In every run a packet that is active can complete, once its own reads and stores and pushes have done what is left.
+pub fn completion_reached()
+    ensures { CompletionReached }
+{}
+
+/// In every run a packet that enters can complete so.
+pub fn entry_readied()
+    ensures { EntryReadied }
 {}
 
 /// What a coarse event leaves: all read, all stored, complete, or nothing dirty.

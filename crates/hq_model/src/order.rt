@@ -2,6 +2,7 @@
 
 ghost use Rattle.hq_model.specs.Order.{OrderListsExtend, NoneWhereStuck};
 ghost use Rattle.hq_model.specs.Schedule.{SchedulesSettle, OrderedOrStuck};
+ghost use Rattle.hq_model.specs.HoldsBack.{HoldsBackExact, FullOrderExact};
 
 /// Every order list extends the job's order.
 pub fn order_lists_extend()
@@ -21,4 +22,15 @@ pub fn schedules_settle()
 /// Each job has an order list or a stuck set.
 pub fn ordered_or_stuck()
     ensures { OrderedOrStuck }
+{}
+
+/// Without rings, a packet is complete before another begins, in every run, exactly where it holds that one back.
+pub fn holds_back_exact()
+    ensures { HoldsBackExact }
+{}
+
+/// Without rings, and where an order list has each barrier-OR after the packets of all its dependencies, a packet is
+/// complete before another begins, in every run, exactly where it is before that one.
+pub fn full_order_exact()
+    ensures { FullOrderExact }
 {}

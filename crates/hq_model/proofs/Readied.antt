@@ -14,7 +14,7 @@ use Rattle.hq_model.proofs.Sums.{put_same, put2_same, put2_other}
 use Rattle.hq_model.proofs.Journals.{steps_append}
 use Rattle.hq_model.proofs.Rested.{Each, is_lane_push, is_agent_push, each_lane_push, each_agent_push}
 use Rattle.hq_model.proofs.Finished.{complete_possible}
-use Rattle.hq_machine.specs.Readied.{Readies, SameProgress, Readied, CompletionReached, EntryReadied}
+use Rattle.hq_model.specs.Readied.{Readies, SameProgress, Readied, CompletionReached, EntryReadied}
 
 all_first : {X : Type 0} (P : X → Type 0) (xs ys : List X) → All P (xs ++ ys) → All P xs
 all_first P [] ys all = All-nil P
