@@ -1,5 +1,6 @@
 -- What `fix` and `trim` write of a text.
-use Rattle.std.proofs.Common.{◌≡◌, ℕ, ◌⊎◌, inl, inr, List, Option, length, refl, sym, ◌∙◌, ap, subst}
+use Rattle.std.proofs.Common.{◌≡◌, ℕ, ◌⊎◌, inl, inr, List, Option, Some, None, length, refl, sym, ◌∙◌, ap, subst}
+use Rattle.std.specs.Prelude.{IfSome}
 use Rattle.std.proofs.lemmas.List.{length-map}
 use Rattle.hq_packet.specs.Parts.{head_of}
 use Rattle.hq_change.proofs.Whole.{as_many_values}
@@ -88,3 +89,7 @@ change_reported S left old new a bytes job was mid is answered h same said =
 
 pub change_told : (S : Type 0) (left : S → Option (List ℕ)) (old new : S) (a : Aim) (bytes : List ℕ) (job : JobValue) (it : Changed) → OfReader S left old new (λ text. (text ≡ bytes) × JobText (lines_of text) job) → TellsChange a job it → OfReader S left old new (TellsText a it)
 change_told S left old new a bytes job it h told = record { text = h.text; ended = h.ended; known = h.known; so = (job, h.so.1, told) }
+
+pub change_told_if : (S : Type 0) (left : S → Option (List ℕ)) (old new : S) (a : Aim) (bytes : List ℕ) (job : JobValue) (o : Option Changed) → OfReader S left old new (λ text. (text ≡ bytes) × JobText (lines_of text) job) → IfSome o (TellsChange a job) → IfSome o (λ it. OfReader S left old new (TellsText a it))
+change_told_if S left old new a bytes job None h told = tt
+change_told_if S left old new a bytes job (Some it) h told = change_told S left old new a bytes job it h told

@@ -1,7 +1,7 @@
 use Rattle.std.proofs.Common.{ap, subst}
 use Rattle.hq_engines.specs.Change.{ChangeReport}
 use Rattle.hq_engines.specs.Reports.{Reported}
-use Rattle.hq_engines.proofs.Changes.{change_missing, change_reported}
+use Rattle.hq_engines.proofs.Changes.{change_missing, change_reported, change_told_if}
 use Rattle.hq_engines.proofs.change.change_engine.Goals as goal
 
 pub returns-in-Ok-clause-report : goal.returns-in-Ok-clause-report
@@ -13,3 +13,6 @@ returns-in-Ok-clause-report g c =
 
 pub returns-in-Err-clause-report : goal.returns-in-Err-clause-report
 returns-in-Err-clause-report g c = change_missing _ g.R.Read.remaining c.args.reader.now c.take_job_text.new.reader c.args.aim _ _ c.in-Err.status c.in-Err.ensures.refused
+
+pub returns-in-Ok-clause-told : goal.returns-in-Ok-clause-told
+returns-in-Ok-clause-told g c = change_told_if _ g.R.Read.remaining c.args.reader.now c.take_job_text.new.reader c.args.aim c.in-Ok.text.items c.in-Ok.job c.change_found.result.1 c.in-Ok.ensures.found c.change_found.ensures.told
