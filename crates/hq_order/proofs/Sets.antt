@@ -1,8 +1,10 @@
 -- Rows of bits as sets.
-use Rattle.std.proofs.Common.{◌≡◌, ℕ, not, ◌+◌, ◌*◌, ◌/◌, ◌%◌, ◌^◌, ◌<◌, ◌≤◌, inl, inr, Bool, true, false, ◌||◌, ◌==◌, List, length, refl, sym, ◌∙◌, ap, subst, arith, slice_index, slice_set, bit_or, bit_and, max, min, ◌&&◌, w64, take}
+use Rattle.std.proofs.Common.{◌≡◌, ℕ, not, ◌+◌, ◌*◌, ◌/◌, ◌%◌, ◌^◌, ◌-◌, ◌<◌, ◌≤◌, ◌↔◌, ◌⊎◌, IsTrue, inl, inr, Bool, true, false, ◌||◌, ◌==◌, List, length, refl, sym, ◌∙◌, ap, subst, arith, slice_index, slice_set, bit_or, bit_and, max, min, ◌&&◌, w64, take}
 use Rattle.std.specs.Int.{bit_at}
 use Rattle.std.specs.Int.Bits.{bit_xor}
-use Rattle.std.proofs.lemmas.Bool.{cases_eq, cases_lt, eq-eqb, ne_eqb}
+use Rattle.std.proofs.Math.Nat.{mod-eq_of_lt}
+use Rattle.std.proofs.Math.Pow.{pow_mono}
+use Rattle.std.proofs.lemmas.Bool.{cases_eq, cases_lt, eq-eqb, eqb-true, ne_eqb}
 use Rattle.std.proofs.lemmas.List.{get_or-set_other, get_or_past}
 use Rattle.std.proofs.lemmas.Grind.{get_or-set_at, common_steps}
 use Rattle.std.proofs.lemmas.Nat.Bits.{bit_at_or, bit_at_and, bit_at_set_same, bit_at_set_other, bit_at-lt, bit_at-zero, bit_at_xor}
@@ -138,3 +140,75 @@ has_less old other new p u = elim (cases_lt (p / 64) (length old)) [
       let y : has old p ≡ false = ap (λ w. bit_at w (p % 64) == 1) (beyond old (p / 64) high) ∙ none in
       x ∙ sym (not_or_false (has old p) (has other p) y)
 ]
+
+-- ---- the bits of a word between two
+
+-- a power of 2 as code has it, in words of 128 bits
+pub power_is : (k : ℕ) → k ≤ 64 → 1 * 2 ^ k % 340282366920938463463374607431768211456 ≡ 2 ^ k
+power_is k few =
+    let low : 2 ^ k ≤ 2 ^ 64 = pow_mono few in
+    let one : 1 * 2 ^ k ≡ 2 ^ k = omega arith in
+    ap (λ n. n % 340282366920938463463374607431768211456) one ∙ mod-eq_of_lt (omega (arith, low))
+
+pub powers_in_order : (from to : ℕ) → from ≤ to → to ≤ 64 → 1 * 2 ^ from % 340282366920938463463374607431768211456 ≤ 1 * 2 ^ to % 340282366920938463463374607431768211456
+powers_in_order from to order few = omega (arith, power_is from (omega arith), power_is to few, pow_mono order)
+
+pub mask_is : (from to : ℕ) → from ≤ to → to ≤ 64 → 1 * 2 ^ to % 340282366920938463463374607431768211456 - 1 * 2 ^ from % 340282366920938463463374607431768211456 ≡ 2 ^ to - 2 ^ from
+mask_is from to order few = ap (λ n. n - 1 * 2 ^ from % 340282366920938463463374607431768211456) (power_is to few) ∙ ap (λ n. 2 ^ to - n) (power_is from (omega arith))
+
+-- a bit of a word that is put over another
+pub has_word : (row : List ℕ) (k w p : ℕ) → k < length row → has (slice_set row k (bit_or (slice_index row k) w)) p ≡ (has row p || ((p / 64 == k) && (bit_at w (p % 64) == 1)))
+has_word row k w p low = elim (cases_eq (p / 64) k) [
+  | inl same ↦
+      let old : ℕ = slice_index row k in
+      let here : slice_index (slice_set row k (bit_or old w)) (p / 64) ≡ bit_or old w = get_or-set_at row k (p / 64) (bit_or old w) 0 same low in
+      ap (λ x. bit_at x (p % 64) == 1) here ∙ ap (λ m. m == 1) (bit_at_or old w (p % 64)) ∙ bit_or_bool (bit_at old (p % 64)) (bit_at w (p % 64)) (bit_at-lt old (p % 64)) (bit_at-lt w (p % 64))
+      ∙ ap (λ x. (bit_at x (p % 64) == 1) || (bit_at w (p % 64) == 1)) (ap (slice_index row) (sym same)) ∙ sym (ap (λ b. has row p || (b && (bit_at w (p % 64) == 1))) (eq-eqb (p / 64) k same))
+  | inr other ↦
+      ap (λ x. bit_at x (p % 64) == 1) (get_or-set_other row k (p / 64) (bit_or (slice_index row k) w) 0 other) ∙ sym (ap (λ b. has row p || (b && (bit_at w (p % 64) == 1))) (ne_eqb (p / 64) k other) ∙ or_false (has row p))
+]
+
+or_cases : (a b : Bool) → IsTrue (a || b) ↔ (IsTrue a ⊎ IsTrue b)
+or_cases true b = ((λ t. inl refl), (λ t. refl))
+or_cases false b = ((λ t. inr t), (λ t. elim t [ inl f ↦ absurd (cc (f)) | inr h ↦ h ]))
+
+and_cases : (a b : Bool) → IsTrue (a && b) ↔ (IsTrue a × IsTrue b)
+and_cases true b = ((λ t. (refl, t)), (λ t. t.1))
+and_cases false b = ((λ t. absurd (cc (t))), (λ t. absurd (cc (t.0))))
+
+-- a word more of the numbers from one on up to another
+module _ (old row : List ℕ) (place w start end from to : ℕ) (low : place < length row) (lie : start ≤ end) (reach : place ≤ end / 64) (from_is : from ≡ min (start - place * 64) to) (to_is : to ≡ min (end - place * 64) 64)
+    (inside : (i : ℕ) → from ≤ i → i < to → bit_at w i ≡ 1) (outside : (i : ℕ) → (i < from) ⊎ (to ≤ i) → bit_at w i ≡ 0)
+    (h : (p : ℕ) → IsTrue (has row p) ↔ (IsTrue (has old p) ⊎ ((p / 64 < place) × ((p < end) × (start ≤ p))))) where
+  here : (p : ℕ) → p / 64 ≡ place → bit_at w (p % 64) ≡ 1 → (p < end) × (start ≤ p)
+  here p same bit = elim (cases_lt (p % 64) from) [
+    | inl below ↦ absurd (let z = outside (p % 64) (inl below) in omega (arith, z, bit))
+    | inr above ↦ elim (cases_lt (p % 64) to) [
+      | inl under ↦ (omega (arith, same, under, to_is), omega (arith, same, above, from_is, under))
+      | inr over ↦ absurd (let z = outside (p % 64) (inr (omega (arith, over))) in omega (arith, z, bit))
+    ]
+  ]
+
+  there : (p : ℕ) → p / 64 ≡ place → p < end → start ≤ p → bit_at w (p % 64) ≡ 1
+  there p same below above = inside (p % 64) (omega (arith, same, below, above, from_is, to_is)) (omega (arith, same, below, to_is))
+
+  pub word_more : (p : ℕ) → IsTrue (has (slice_set row place (bit_or (slice_index row place) w)) p) ↔ (IsTrue (has old p) ⊎ ((p / 64 < place + 1) × ((p < end) × (start ≤ p))))
+  word_more p =
+      let is = has_word row place w p low in (
+        λ t. elim ((or_cases (has row p) ((p / 64 == place) && (bit_at w (p % 64) == 1))).0 (subst IsTrue is t)) [
+          | inl r ↦ elim ((h p).0 r) [ inl o ↦ inl o | inr x ↦ inr (omega (arith, x.0), x.1) ]
+          | inr b ↦
+              let both = (and_cases (p / 64 == place) (bit_at w (p % 64) == 1)).0 b in
+              let same : p / 64 ≡ place = eqb-true (p / 64) place both.0 in
+              inr (omega (arith, same), here p same (eqb-true (bit_at w (p % 64)) 1 both.1))
+        ],
+        λ t. subst IsTrue (sym is) ((or_cases (has row p) ((p / 64 == place) && (bit_at w (p % 64) == 1))).1 (elim t [
+          | inl o ↦ inl ((h p).1 (inl o))
+          | inr x ↦ elim (cases_lt (p / 64) place) [
+            | inl less ↦ inl ((h p).1 (inr (less, x.1)))
+            | inr more ↦
+                let same : p / 64 ≡ place = omega (arith, x.0, more) in
+                inr ((and_cases (p / 64 == place) (bit_at w (p % 64) == 1)).1 (eq-eqb (p / 64) place same, eq-eqb (bit_at w (p % 64)) 1 (there p same x.1.0 x.1.1)))
+          ]
+        ])),
+      )

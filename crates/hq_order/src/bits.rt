@@ -49,14 +49,27 @@ pub fn insert(row: &mut [u64], number: usize)
     row[number / 64] |= 1 << (number % 64);
 }
 
+/// The bits of a word from one on up to another.
+fn bits_between(from: usize, to: usize) -> u64
+    requires order { from ≤ to }
+    requires few { to ≤ 64 }
+    ensures inside { (i : ℕ) → from ≤ i → i < to → bit_at result i ≡ 1 }
+    ensures outside { (i : ℕ) → (i < from) ⊎ (to ≤ i) → bit_at result i ≡ 0 }
+{
+    ((1u128 << to) - (1u128 << from)) as u64
+}
+
 /// Takes in the numbers from one on up to another.
 pub fn insert_all(row: &mut [u64], start: usize, end: usize)
     requires room { end ≤ length row.old * 64 }
     requires range { start ≤ end }
     ensures { (p : ℕ) → IsTrue (has row.new p) ↔ (IsTrue (has row.old p) ⊎ ((p < end) × (start ≤ p))) }
 {
-    for number in start..end {
-        insert(row, number);
+    for place in start / 64..row.len().min(end / 64 + 1) {
+        let first = place * 64;
+        let from = start.saturating_sub(first);
+        let to = (end - first).min(64);
+        row[place] |= bits_between(from.min(to), to);
     }
 }
 

@@ -1,10 +1,12 @@
-use Rattle.std.proofs.Common.{◌≤◌, inl, inr, IsTrue, arith}
-use Rattle.hq_order.specs.Bits.{has}
-use Rattle.hq_order.proofs.Rows.{mark_more}
+use Rattle.std.proofs.Common.{◌∙◌, arith}
+use Rattle.std.proofs.lemmas.List.{length-set}
+use Rattle.hq_order.proofs.Sets.{word_more}
 use Rattle.hq_order.proofs.bits.insert_all.Goals as goal
 
-pub loop-number-init : goal.loop-number-init
-loop-number-init c = λ p. (λ h. inl h, λ t. elim t [ inl o ↦ o | inr x ↦ absurd (let l = x.0 in let k = x.1 in omega arith) ])
-
-pub loop-number-preserved : goal.loop-number-preserved
-loop-number-preserved c = λ p. mark_more (IsTrue (has c.args.row.now p)) (λ q. c.args.start ≤ q) p c.loop-number.number (has c.loop-number.row p) (has c.insert.new.row p) (c.loop-number.invariant p) (c.insert.ensures p) (omega arith)
+pub loop-place-preserved : goal.loop-place-preserved
+loop-place-preserved c =
+    let l = c.loop-place in
+    record {
+      len = length-set l.row l.place _ ∙ l.invariant.len;
+      has = word_more c.args.row.now l.row l.place c.bits_between.result c.args.start c.args.end _ _ (omega (arith, c.loop-place-test.true, c.min-place-end.ensures, l.auto.row)) c.requires.range (omega (arith, c.loop-place-test.true, c.min-place-end.ensures)) (omega (arith, c.min.ensures, c.saturating_sub-from.ensures)) (omega (arith, c.min-to.ensures)) c.bits_between.ensures.inside c.bits_between.ensures.outside l.invariant.has;
+    }
