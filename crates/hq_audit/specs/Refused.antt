@@ -72,3 +72,19 @@ abbrev pub IsRefused : Job → AuditNo → Type 0
 IsRefused job (audit.Stuck packets) = AreStuck job packets.items
 IsRefused job (audit.Conflict p r kind why) = ((list : List ℕ) × OrderList job list) × IsFirstUnshown job (record { p = p; r = r; fault = record { kind = kind; why = why } })
 IsRefused job audit.Memory = Unit {0}
+
+-- ---- what each part answers
+
+-- There is no memory, or this is what isn't ordered, as an answer.
+abbrev pub NoOrMemory : (Unshown → Type 0) → AuditNo → Type 0
+NoOrMemory Is answer = (answer ≡ audit.Memory) ⊎ ((u : Unshown) × (answer ≡ no_of_pair u) × Is u)
+
+-- so it is for a pair, for those of a packet with all above it, and for all
+abbrev pub PairRefused : Job → ℕ → ℕ → AuditNo → Type 0
+PairRefused job a b = NoOrMemory (IsUnshown job a b)
+
+abbrev pub RowRefused : Job → ℕ → AuditNo → Type 0
+RowRefused job a = NoOrMemory (IsFirstOfRow job a)
+
+abbrev pub AllRefused : Job → AuditNo → Type 0
+AllRefused job = NoOrMemory (IsFirstUnshown job)

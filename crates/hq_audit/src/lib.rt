@@ -8,6 +8,7 @@
 
 mod auditing;
 mod directed;
+mod drafting;
 mod fault;
 mod grounds;
 pub mod laws;

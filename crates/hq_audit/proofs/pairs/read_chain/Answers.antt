@@ -7,7 +7,7 @@ use Rattle.hq_audit.proofs.Adding.{goes_more}
 use Rattle.hq_audit.proofs.Growing.{cites_more}
 use Rattle.hq_audit.proofs.Fencing.{release_more, acquire_more}
 use Rattle.std.proofs.Common.{length}
-use Rattle.hq_audit.proofs.pairs.chained.Goals as goal
+use Rattle.hq_audit.proofs.pairs.read_chain.Goals as goal
 
 pub returns : goal.returns
 returns c =

@@ -1,12 +1,15 @@
 use Rattle.std.proofs.Common.{◌<◌, ◌-◌, length}
-use Rattle.hq_audit.specs.Paired.{pairs_of, PairsGo, RowPaired}
-use Rattle.hq_audit.proofs.pairs.add_row.Given as goal
+use Rattle.hq_audit.specs.Drafted.{DraftsGo}
+use Rattle.hq_audit.specs.Paired.{pairs_of, RowPaired}
+use Rattle.hq_audit.specs.Refused.{RowShown}
+use Rattle.hq_audit.proofs.drafting.add_row.Given as goal
 
 abbrev pub invariant-others : goal.invariant-others
 invariant-others l = record {
   above : l.a < l.b;
-  goes : PairsGo l.before l.fn.lines l.lines (pairs_of l.fn.pairs) (pairs_of l.pairs);
+  goes : DraftsGo l.before (pairs_of l.fn.pairs) (pairs_of l.pairs);
   paired : RowPaired l.before (pairs_of l.pairs) l.a l.b;
+  shown : RowShown l.before l.a l.b;
 }
 
 abbrev pub decreases-others : goal.decreases-others

@@ -3,7 +3,7 @@ use Rattle.hq_model.specs.Fence.{need}
 use Rattle.hq_audit.specs.Kept.{Goes}
 use Rattle.hq_audit.proofs.Adding.{goes_more}
 use Rattle.hq_audit.proofs.Fencing.{release_fits, acquire_fits, cites_later, says_later}
-use Rattle.hq_audit.proofs.pairs.plain.Goals as goal
+use Rattle.hq_audit.proofs.pairs.write_read.Goals as goal
 
 pub returns : goal.returns
 returns c =
