@@ -41,6 +41,13 @@ pub record IsUnshown (job : Job) (a b : ℕ) (u : Unshown) : Type 0 where
   pub which : (Before job b a × (u.p ≡ b) × (u.r ≡ a)) ⊎ ((¬ Before job b a) × (u.p ≡ a) × (u.r ≡ b))
   pub fault : IsNotShown job u.p u.r u.fault
 
+-- The pair is ordered in neither direction, and is told of with p first.
+pub record IsUntold (job : Job) (p r : ℕ) (u : Unshown) : Type 0 where
+  pub neither : ¬ ShownOneWay job p r
+  pub first : u.p ≡ p
+  pub second : u.r ≡ r
+  pub fault : IsNotShown job p r u.fault
+
 -- The pair of a that is told of is ordered in neither direction, and those of a with lesser packets above it are ordered.
 pub record IsFirstOfRow (job : Job) (a : ℕ) (u : Unshown) : Type 0 where
   pub b : ℕ

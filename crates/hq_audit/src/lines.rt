@@ -12,7 +12,7 @@ ghost use Rattle.hq_audit.specs.Marked.{IsFact};
 ghost use Rattle.hq_audit.specs.Kept.{lines_of, Kept, Numbered, Ruled, Branched, AllBranched};
 
 use crate::grounds::{Ground, branch_of, ground_of};
-use crate::needs::{Fact, Needs};
+use crate::needs::{Fact, LAST, Needs};
 use crate::slots::Slots;
 use hq_cert::{Branches, Citation, Line, Rule};
 use hq_order::Before;
@@ -38,6 +38,18 @@ pub fn round_of(before: &Before, p: usize, r: usize) -> usize
     before.round(p, r).unwrap()
 }
 
+/// The first round in which a fact comes.
+fn round_of_fact(before: &Before, fact: Fact) -> usize
+    requires { IsFact before.now fact }
+    ensures { IsFirstWithin before.now result fact.p fact.r }
+{
+    if fact.round < LAST {
+        fact.round as usize
+    } else {
+        round_of(before, fact.p as usize, fact.r as usize)
+    }
+}
+
 impl Lines {
     /// No lines, with room for those that are needed, so many.
     pub fn new(
@@ -59,7 +71,7 @@ impl Lines {
         })
     }
 
-    /// Adds a line for each fact, and before it those that it cites.
+    /// Adds a line for each fact, and before it those that it cites and that aren't there.
     pub fn add_all(
         &mut self,
         alloc: Global,
@@ -71,7 +83,8 @@ impl Lines {
         ensures { OnOk result (Kept before.now self.new) }
     {
         for fact in facts {
-            self.number(alloc, before, fact.p as usize, fact.r as usize)?;
+            let round = round_of_fact(before, *fact);
+            self.numbered(alloc, before, round, fact.p as usize, fact.r as usize)?;
         }
         Ok(())
     }

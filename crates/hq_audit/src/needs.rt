@@ -10,12 +10,13 @@ ghost use Rattle.hq_audit.specs.Marked.{IsFact};
 use crate::grounds::{Ground, branch_of, ground_of};
 use crate::lines::round_of;
 use hq_order::Before;
+use hq_order::bits::{lowest, without};
 use std::alloc::{AllocError, Global};
 
 /// A round that is noted in place of all later ones.
-const LAST: usize = 0xffff_fffe;
+pub const LAST: u32 = 0xffff_fffe;
 
-/// Packet `p` is before packet `r`, and `round` is the first round in which that comes.
+/// Packet `p` is before packet `r`, and `round` is the first round in which that comes, or `LAST`.
 #[derive(Clone, Copy, Debug)]
 pub struct Fact {
     pub round: u32,
@@ -38,6 +39,17 @@ pub struct Needs {
     bits: Vec<u64>,
 }
 
+/// The round, or `LAST` where it is too late to be noted.
+fn noted(round: usize) -> u32
+    ensures { result < 4294967294 → result ≡ round }
+{
+    if round < LAST as usize {
+        round as u32
+    } else {
+        LAST
+    }
+}
+
 /// Adds the fact that p is before r, if it is one.
 fn push_fact(facts: &mut Vec<Fact>, before: &Before, p: usize, r: usize) -> Result<(), AllocError>
     requires p { p < 1024 }
@@ -46,9 +58,8 @@ fn push_fact(facts: &mut Vec<Fact>, before: &Before, p: usize, r: usize) -> Resu
     ensures { OnOk result (All (IsFact before.now) facts.new.items) }
 {
     if let Some(round) = before.round(p, r) {
-        let round = if round < LAST { round } else { LAST } as u32;
         facts.push(Fact {
-            round,
+            round: noted(round),
             p: p as u16,
             r: r as u16,
         })?;
@@ -69,10 +80,11 @@ fn push_word(
     requires facts { All (IsFact before.now) facts.old.items }
     ensures { OnOk result (All (IsFact before.now) facts.new.items) }
 {
-    for bit in 0..64 {
-        if word >> bit & 1 == 1 {
-            push_fact(facts, before, p, first + bit)?;
-        }
+    let mut rest = word;
+    'each: while rest != 0 {
+        let bit = lowest(rest);
+        push_fact(facts, before, p, first + bit)?;
+        rest = without(rest, bit);
     }
     Ok(())
 }
