@@ -12,6 +12,7 @@ ghost use Rattle.hq_audit.specs.declared.fault.AuditNo.TheVariants.{Memory};
 
 use crate::drafting::draft_all;
 use crate::fault::AuditNo;
+use crate::gathering::add_all;
 use crate::lines::Lines;
 use crate::needs::Needs;
 use crate::pairs::cite_all;
@@ -45,10 +46,8 @@ fn certified(
     requires paired { AllPaired before.now (pairs_of pairs) }
     ensures { IfOk result (λ c. CertHolds before.now c) }
 {
-    let facts = needs.facts(alloc, before)?;
-    let mut lines = Lines::new(alloc, before, needs, facts.len())?;
-    lines.add_all(alloc, before, &facts)?;
-    drop(facts);
+    let mut lines = Lines::new(alloc, before, needs)?;
+    add_all(&mut lines, alloc, before)?;
     cite_all(&mut pairs, &mut lines, alloc, before)?;
     let order = widened(alloc, order)?;
     Ok(Certificate::new(order, lines.into_lines(), pairs))

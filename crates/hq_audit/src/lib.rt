@@ -10,6 +10,7 @@ mod auditing;
 mod directed;
 mod drafting;
 mod fault;
+mod gathering;
 mod grounds;
 pub mod laws;
 mod lines;
