@@ -9,6 +9,7 @@ use hq_fence::{Acquire, Release, Shown};
 use hq_order::Before;
 
 /// A line that p is before x is needed, unless p is x.
+#[inline(always)]
 fn need_upto(needs: &mut Needs, before: &Before, p: usize, x: usize)
     requires upto { model.SameOrBefore before.now p x }
 {
@@ -18,6 +19,7 @@ fn need_upto(needs: &mut Needs, before: &Before, p: usize, x: usize)
 }
 
 /// What a release needs; answers its last packet.
+#[inline(always)]
 fn need_release(needs: &mut Needs, before: &Before, p: usize, r: usize, release: Release) -> usize
     requires release { IsRelease before.now p r release }
     ensures last { result ≡ end_of release }
@@ -36,6 +38,7 @@ fn need_release(needs: &mut Needs, before: &Before, p: usize, r: usize, release:
 }
 
 /// What an acquire needs; answers its first packet.
+#[inline(always)]
 fn need_acquire(needs: &mut Needs, before: &Before, p: usize, r: usize, acquire: Acquire) -> usize
     requires acquire { IsAcquire before.now p r acquire }
     ensures first { result ≡ first_of acquire }
@@ -54,6 +57,7 @@ fn need_acquire(needs: &mut Needs, before: &Before, p: usize, r: usize, acquire:
 }
 
 /// What fences need between a write and a read.
+#[inline(always)]
 fn need_write_read(
     needs: &mut Needs,
     before: &Before,
@@ -69,6 +73,7 @@ fn need_write_read(
 }
 
 /// What fences need between two writes.
+#[inline(always)]
 fn need_write_write(needs: &mut Needs, before: &Before, p: usize, r: usize, release: Release)
     requires fences { ReleasesBefore before.now p r release }
 {
@@ -77,6 +82,7 @@ fn need_write_write(needs: &mut Needs, before: &Before, p: usize, r: usize, rele
 }
 
 /// What the pair lines of p with r need.
+#[inline(always)]
 pub fn need_shown(needs: &mut Needs, before: &Before, p: usize, r: usize, shown: Shown)
     requires shows { Shows before.now p r shown }
 {

@@ -16,7 +16,7 @@ pub const WORDS: usize = 16;
 
 /// The place of r's word in the row of p.
 pub fn place_of(p: usize, r: usize) -> usize {
-    p.saturating_mul(WORDS).saturating_add(r / 64)
+    p.wrapping_mul(WORDS).wrapping_add(r / 64)
 }
 
 /// Which lines are needed.
@@ -63,25 +63,24 @@ impl Needs {
         round_of(before, p, r)
     }
 
-    /// A line that p is before r is needed, and those that it cites.
+    /// A line that p is before r is needed, and those that it cites: none, if it comes in round 0.
     pub fn need(&mut self, before: &Before, p: usize, r: usize)
         requires { order.Before before.now p r }
     {
         if !self.has(p, r) {
             let round = self.note(before, p, r);
-            self.mark_cited(before, round, p, r);
+            if round != 0 {
+                self.mark_cited(before, round, p, r);
+            }
         }
     }
 
-    /// The lines are needed that a line cites that p is before r, first in this round. In round 0 it cites none.
+    /// The lines are needed that a line cites that p is before r, first in this round.
     #[cycle(mark)]
     #[tactic(auto, using(crate::proofs::Founded::within_first))]
     fn mark_cited(&mut self, before: &Before, round: usize, p: usize, r: usize)
         requires first { IsFirstWithin before.now round p r }
     {
-        if round == 0 {
-            return;
-        }
         match ground_of(before, round, p, r) {
             Ground::Or => self.mark_each(before, round, p, &before.job().packet(r).slots),
             Ground::Through(m) => {
@@ -99,7 +98,9 @@ impl Needs {
     {
         if !self.has(p, r) {
             let round = self.note(before, p, r);
-            self.mark_cited(before, round, p, r);
+            if round != 0 {
+                self.mark_cited(before, round, p, r);
+            }
         }
     }
 
