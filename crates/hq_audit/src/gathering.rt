@@ -73,7 +73,7 @@ fn add_one(
 {
     if let Some(round) = before.round(p, r) {
         if round == 0 {
-            lines.numbered(alloc, before, round, p, r)?;
+            lines.add_direct(alloc, before, p, r)?;
         } else {
             push_fact(facts, before, round, p, r)?;
         }
@@ -123,7 +123,9 @@ fn add_first(
     for p in 0..before.len() {
         for place in 0..WORDS {
             let word = lines.word(p * WORDS + place);
-            add_word(lines, alloc, before, facts, p, word, place * 64)?;
+            if word != 0 {
+                add_word(lines, alloc, before, facts, p, word, place * 64)?;
+            }
         }
     }
     Ok(())

@@ -3,18 +3,13 @@
 use crate::needs::{Needs, place_of};
 use std::alloc::{AllocError, Global};
 
-/// A word of the bits that say which lines are needed.
-#[derive(Clone, Copy, Debug)]
-struct Word {
-    bits: u64,
-    /// How many bits there are in the words ahead of it.
-    start: u32,
-}
-
 /// Numbers the needed lines, by the first packet and then by the second.
 #[derive(Drop)]
 pub struct Slots {
-    words: Vec<Word>,
+    /// Which lines are needed.
+    bits: Vec<u64>,
+    /// For each word of these bits how many bits there are in the words ahead of it.
+    starts: Vec<u32>,
     /// How many there are in all.
     count: usize,
 }
@@ -22,16 +17,17 @@ pub struct Slots {
 impl Slots {
     /// A slot for each line that is needed.
     pub fn new(alloc: Global, needs: Needs) -> Result<Slots, AllocError> {
-        let needed = needs.into_bits();
-        let mut words = Vec::with_capacity(alloc, needed.len())?;
-        let mut start = 0u32;
-        for bits in &needed {
-            words.push(Word { bits: *bits, start })?;
-            start = start.saturating_add(bits.count_ones());
+        let bits = needs.into_bits();
+        let mut starts = Vec::with_capacity(alloc, bits.len())?;
+        let mut count = 0u32;
+        for word in &bits {
+            starts.push(count)?;
+            count = count.saturating_add(word.count_ones());
         }
         Ok(Slots {
-            words,
-            count: start as usize,
+            bits,
+            starts,
+            count: count as usize,
         })
     }
 
@@ -41,9 +37,10 @@ impl Slots {
     }
 
     /// The bits of the needed lines at a place, or none where there is no such place.
+    #[inline(always)]
     pub fn word(&self, place: usize) -> u64 {
-        match self.words.get(place) {
-            Some(word) => word.bits,
+        match self.bits.get(place) {
+            Some(word) => *word,
             None => 0,
         }
     }
@@ -51,12 +48,14 @@ impl Slots {
     /// The slot of the line that p is before r, if one is needed.
     #[inline(always)]
     pub fn slot(&self, p: usize, r: usize) -> Option<usize> {
-        let word = *self.words.get(place_of(p, r))?;
+        let place = place_of(p, r);
+        let word = *self.bits.get(place)?;
+        let start = *self.starts.get(place)?;
         let bit = 1 << (r % 64);
-        if word.bits & bit == 0 {
+        if word & bit == 0 {
             return None;
         }
-        let ahead = word.bits & bit.wrapping_sub(1);
-        Some(word.start.wrapping_add(ahead.count_ones()) as usize)
+        let ahead = word & bit.wrapping_sub(1);
+        Some(start.wrapping_add(ahead.count_ones()) as usize)
     }
 }
