@@ -73,7 +73,7 @@ fn add_one(
 {
     if let Some(round) = before.round(p, r) {
         if round == 0 {
-            lines.add_direct(alloc, before, p, r)?;
+            lines.numbered(alloc, before, round, p, r)?;
         } else {
             push_fact(facts, before, round, p, r)?;
         }

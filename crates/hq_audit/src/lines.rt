@@ -1,11 +1,10 @@
 //! The lines of a certificate, gathered.
 
-ghost use Rattle.std.specs.Prelude.{◌≡◌, ℕ, ◌+◌, ◌*◌, ◌^◌, ◌<◌, ◌≤◌, ◌++◌, ◌∷◌, [], IfOk, IfSome, List, MatchOption, Some, length, slice_get};
+ghost use Rattle.std.specs.Prelude.{◌≡◌, ℕ, ◌+◌, ◌*◌, ◌^◌, ◌<◌, ◌++◌, ◌∷◌, [], IfOk, MatchOption, Some, length, slice_get};
 ghost use Rattle.hq_cert.specs.View.{rule_of};
 ghost use Rattle.hq_model.specs.Job.{packet};
 ghost use Rattle.hq_model.specs.Job.{IsPacket};
-ghost use Rattle.hq_model.specs.Certificate as model;
-ghost use Rattle.hq_model.specs.Certificate.{Follows, Says, signals};
+ghost use Rattle.hq_model.specs.Certificate.{Says, signals};
 ghost use Rattle.hq_model.specs.Order as order;
 ghost use Rattle.hq_order.specs.Rounds.{IsFirstWithin, Reaches, ByEither};
 ghost use Rattle.hq_audit.specs.Rests.{Below, ByMiddle};
@@ -36,21 +35,6 @@ pub fn round_of(before: &Before, p: usize, r: usize) -> usize
     ensures { IsFirstWithin before.now result p r }
 {
     before.round(p, r).unwrap()
-}
-
-/// The rule by which p is before r in round 0, if it cites no line.
-#[inline(always)]
-fn direct_rule(before: &Before, p: usize, r: usize) -> Option<Rule>
-    requires few { length before.now.packets ≤ 1024 }
-    requires first { IsFirstWithin before.now 0 p r }
-    ensures { IfSome result (λ rule. (lines : List model.Line) (limit : ℕ) → Follows before.now lines limit p r (rule_of rule)) }
-{
-    match ground_of(before, 0, p, r) {
-        Ground::Bit(j) => Some(Rule::Bit(j as u32)),
-        Ground::Queue => Some(Rule::Queue),
-        Ground::And(slot) => Some(Rule::And(slot as u32)),
-        Ground::Or | Ground::Through(_) => None,
-    }
 }
 
 impl Lines {
@@ -139,25 +123,6 @@ impl Lines {
         let number = number as u32;
         self.remember(p, r, number);
         Ok(number)
-    }
-
-    /// Adds the line that p is before r, which comes in round 0; answers its number.
-    #[inline(always)]
-    pub fn add_direct(
-        &mut self,
-        alloc: Global,
-        before: &Before,
-        p: usize,
-        r: usize,
-    ) -> Result<u32, AllocError>
-        requires kept { Kept before.now self.old }
-        requires first { IsFirstWithin before.now 0 p r }
-        ensures { IfOk result (λ k. Numbered before.now self.old self.new p r k) }
-    {
-        match direct_rule(before, p, r) {
-            Some(rule) => self.add(p, r, rule),
-            None => self.numbered(alloc, before, 0, p, r),
-        }
     }
 
     /// The number of the line that p is before r. Where there is none yet, it goes in, behind those that it cites.
