@@ -17,7 +17,7 @@ use Rattle.hq_audit.specs.declared.fault.AuditNo.TheVariants as audit
 use Rattle.hq_audit.specs.declared.directed.Unshown.{Unshown}
 use Rattle.hq_audit.specs.Kept.{AllFollow}
 use Rattle.hq_audit.specs.Paired.{AllHold, HasAll, AllPaired}
-use Rattle.hq_audit.specs.Refused.{IsUnshown, AllShown, IsFirstUnshown, IsRefused, no_of_order}
+use Rattle.hq_audit.specs.Refused.{IsUnshown, AllShown, IsFirstUnshown, IsRefused, AllRefused, no_of_order}
 use Rattle.hq_audit.specs.Lawful.{OrderedIsNotRefused}
 
 -- ---- the certificate
@@ -88,3 +88,7 @@ order_refused job order.Memory h = tt
 pub err_of : {A : Type 0} (P : AuditNo → Type 0) (result : Result A AuditNo) (v : AuditNo) → IsErrAnd result (λ e. e ≡ v) → P v → IfErr result P
 err_of P (Ok x) v h p = tt
 err_of P (Err e) v h p = subst P (sym h) p
+
+pub all_refused : (job : Job) (list : List ℕ) (answer : AuditNo) → OrderList job list → AllRefused job answer → IsRefused job answer
+all_refused job list answer o (inl m) = subst (IsRefused job) (sym m) tt
+all_refused job list answer o (inr w) = subst (IsRefused job) (sym w.1) ((list, o), w.2)

@@ -6,4 +6,5 @@ pub mod Branching
 pub mod Turning
 pub mod Fencing
 pub mod Pairing
+pub mod Numbering
 pub mod Certifying

@@ -1,5 +1,5 @@
 -- What is known of pair lines as they are gathered.
-use Rattle.std.specs.Prelude.{◌≡◌, ℕ, ◌<◌, ◌⊎◌, List, [], length, map, Some, None, false, slice_get, slice_index, All}
+use Rattle.std.specs.Prelude.{◌≡◌, ℕ, ◌<◌, ◌⊎◌, List, [], length, map, Some, slice_get, slice_index_or, All}
 use Rattle.hq_cert.specs.declared.certificate.Pair.{Pair}
 use Rattle.hq_cert.specs.declared.certificate.Fences.{Fences}
 use Rattle.hq_cert.specs.declared.citation.Citation.{Citation}
@@ -11,7 +11,6 @@ use Rattle.hq_model.specs.Certificate as model
 use Rattle.hq_model.specs.Certificate.{Cites, FencesHold, ReleaseHolds, AcquireHolds, kind_of}
 use Rattle.hq_fence.specs.Judgement.{end_of, first_of}
 use Rattle.hq_fence.specs.declared.shown.Release.{Release}
-use Rattle.hq_fence.specs.declared.shown.Shown.{Shown}
 use Rattle.hq_fence.specs.declared.shown.Acquire.{Acquire}
 use Rattle.hq_audit.specs.declared.pairs.CitedRelease.{CitedRelease}
 use Rattle.hq_audit.specs.declared.pairs.CitedAcquire.{CitedAcquire}
@@ -57,12 +56,6 @@ AllHold job lines pairs = All (λ pair. IsPacket job pair.p × IsPacket job pair
 pub record Longer (old new : List model.Pair) : Type 0 where
   pub pairs : (k : ℕ) (pair : model.Pair) → slice_get old k ≡ Some pair → slice_get new k ≡ Some pair
 
--- what one more step keeps
-pub record PairsGo (job : Job) (old new : Lines) (ps qs : List model.Pair) : Type 0 where
-  pub goes : Goes job old new
-  pub hold : AllHold job (lines_of new) qs
-  pub longer : Longer ps qs
-
 -- one of the pair lines is of this kind of conflict of p with r
 abbrev pub HasPairIn : List model.Pair → ℕ → ℕ → Conflict → Type 0
 HasPairIn pairs p r kind = model.HasPair (record { order = []; lines = []; pairs = pairs }) p r kind
@@ -79,17 +72,17 @@ RowPaired job pairs a b = (s : ℕ) → a < s → s < b → IsPacket job s → H
 abbrev pub RowsPaired : Job → List model.Pair → ℕ → Type 0
 RowsPaired job pairs a = (q s : ℕ) → q < a → q < s → IsPacket job s → HasAll job pairs q s ⊎ HasAll job pairs s q
 
--- no kind of conflict is shown
-pub record ShowsNone (shown : Shown) : Type 0 where
-  pub wr : shown.wr ≡ None
-  pub ww : shown.ww ≡ None
-  pub rw : shown.rw ≡ false
-
--- where a packet is to have no pair lines with those above it, none are needed
-pub record AreRooms (job : Job) (rooms : List ℕ) : Type 0 where
-  pub len : length rooms ≡ length job.packets
-  pub none : (a : ℕ) → a < length rooms → slice_index rooms a ≡ 0 → RowPaired job [] a (length job.packets)
-
 -- and for all pairs
 abbrev pub AllPaired : Job → List model.Pair → Type 0
 AllPaired job pairs = (q s : ℕ) → q < s → IsPacket job s → HasAll job pairs q s ⊎ HasAll job pairs s q
+
+-- the two pair lines are of the same packets and kind of conflict
+pub record IsSameHead (old new : Pair) : Type 0 where
+  pub first : new.p ≡ old.p
+  pub second : new.r ≡ old.r
+  pub kind_is : kind_of (fences_of new.fences) ≡ kind_of (fences_of old.fences)
+
+-- the pair lines are of the same packets and kinds of conflicts, one by one
+pub record SameHeads (old new : List Pair) : Type 0 where
+  pub len : length new ≡ length old
+  pub each : (k : ℕ) (d : Pair) → IsSameHead (slice_index_or old k d) (slice_index_or new k d)

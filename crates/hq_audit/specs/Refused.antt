@@ -41,6 +41,13 @@ pub record IsUnshown (job : Job) (a b : ℕ) (u : Unshown) : Type 0 where
   pub which : (Before job b a × (u.p ≡ b) × (u.r ≡ a)) ⊎ ((¬ Before job b a) × (u.p ≡ a) × (u.r ≡ b))
   pub fault : IsNotShown job u.p u.r u.fault
 
+-- The pair is ordered in neither direction, and is told of with p first.
+pub record IsUntold (job : Job) (p r : ℕ) (u : Unshown) : Type 0 where
+  pub neither : ¬ ShownOneWay job p r
+  pub first : u.p ≡ p
+  pub second : u.r ≡ r
+  pub fault : IsNotShown job p r u.fault
+
 -- The pair of a that is told of is ordered in neither direction, and those of a with lesser packets above it are ordered.
 pub record IsFirstOfRow (job : Job) (a : ℕ) (u : Unshown) : Type 0 where
   pub b : ℕ
@@ -72,3 +79,19 @@ abbrev pub IsRefused : Job → AuditNo → Type 0
 IsRefused job (audit.Stuck packets) = AreStuck job packets.items
 IsRefused job (audit.Conflict p r kind why) = ((list : List ℕ) × OrderList job list) × IsFirstUnshown job (record { p = p; r = r; fault = record { kind = kind; why = why } })
 IsRefused job audit.Memory = Unit {0}
+
+-- ---- what each part answers
+
+-- There is no memory, or this is what isn't ordered, as an answer.
+abbrev pub NoOrMemory : (Unshown → Type 0) → AuditNo → Type 0
+NoOrMemory Is answer = (answer ≡ audit.Memory) ⊎ ((u : Unshown) × (answer ≡ no_of_pair u) × Is u)
+
+-- so it is for a pair, for those of a packet with all above it, and for all
+abbrev pub PairRefused : Job → ℕ → ℕ → AuditNo → Type 0
+PairRefused job a b = NoOrMemory (IsUnshown job a b)
+
+abbrev pub RowRefused : Job → ℕ → AuditNo → Type 0
+RowRefused job a = NoOrMemory (IsFirstOfRow job a)
+
+abbrev pub AllRefused : Job → AuditNo → Type 0
+AllRefused job = NoOrMemory (IsFirstUnshown job)

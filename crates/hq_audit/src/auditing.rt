@@ -5,18 +5,19 @@ ghost use Rattle.hq_job.specs.Plan.{plan};
 ghost use Rattle.hq_model.specs.Certificate.{CertHolds};
 ghost use Rattle.hq_model.specs.Fence.{Ordered};
 ghost use Rattle.hq_model.specs.Order.{OrderList};
-ghost use Rattle.hq_audit.specs.Paired.{AreRooms};
-ghost use Rattle.hq_audit.specs.Parts.{AreParts};
-ghost use Rattle.hq_audit.specs.Refused.{AllShown, IsRefused};
+ghost use Rattle.hq_audit.specs.Drafted.{AllDrafted};
+ghost use Rattle.hq_audit.specs.Paired.{AllPaired, pairs_of};
+ghost use Rattle.hq_audit.specs.Refused.{IsRefused};
 ghost use Rattle.hq_audit.specs.declared.fault.AuditNo.TheVariants.{Memory};
 
+use crate::drafting::draft_all;
 use crate::fault::AuditNo;
+use crate::gathering::add_all;
 use crate::lines::Lines;
-use crate::marking::need_all;
 use crate::needs::Needs;
-use crate::pairs::all_pairs;
+use crate::pairs::cite_all;
 use crate::parts::Parts;
-use hq_cert::Certificate;
+use hq_cert::{Certificate, Pair};
 use hq_job::Job;
 use hq_order::{Before, schedule};
 use std::alloc::{AllocError, Global};
@@ -32,28 +33,22 @@ fn widened(alloc: Global, numbers: &[u16]) -> Result<Vec<u32>, AllocError>
     Ok(wide)
 }
 
-/// The certificate of an order list and of these needs, which has so many pair lines; `rooms` says how many each packet has with
-/// those above it.
+/// The certificate of an order list, of these needs and of pair lines in which no line has its number yet.
 fn certified(
     alloc: Global,
     before: &Before,
-    parts: &Parts,
     order: &[u16],
     needs: Needs,
-    rooms: &[usize],
-    room: usize,
+    mut pairs: Vec<Pair>,
 ) -> Result<Certificate, AllocError>
     requires order { OrderList before.now order.now }
-    requires parts { AreParts before.now parts.now }
-    requires shown { AllShown before.now }
-    requires rooms { AreRooms before.now rooms.now }
+    requires drafted { AllDrafted before.now (pairs_of pairs) }
+    requires paired { AllPaired before.now (pairs_of pairs) }
     ensures { IfOk result (λ c. CertHolds before.now c) }
 {
-    let facts = needs.facts(alloc, before)?;
-    let mut lines = Lines::new(alloc, before, needs, facts.len())?;
-    lines.add_all(alloc, before, &facts)?;
-    drop(facts);
-    let pairs = all_pairs(&mut lines, alloc, before, parts, rooms, room)?;
+    let mut lines = Lines::new(alloc, before, needs)?;
+    add_all(&mut lines, alloc, before)?;
+    cite_all(&mut pairs, &mut lines, alloc, before)?;
     let order = widened(alloc, order)?;
     Ok(Certificate::new(order, lines.into_lines(), pairs))
 }
@@ -75,8 +70,7 @@ pub fn audit(alloc: Global, job: &Job) -> Result<Certificate, AuditNo>
     let before = Before::build(alloc, job)?;
     let parts = Parts::build(alloc, job)?;
     let mut needs = Needs::new(alloc, &before)?;
-    let mut rooms = vec![in alloc; 0; before.len()]?;
-    let room = need_all(&mut needs, &before, &parts, &mut rooms)?;
-    let certificate = certified(alloc, &before, &parts, &order, needs, &rooms, room)?;
+    let pairs = draft_all(&mut needs, alloc, &before, &parts)?;
+    let certificate = certified(alloc, &before, &order, needs, pairs)?;
     Ok(certificate)
 }

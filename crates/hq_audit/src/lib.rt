@@ -8,7 +8,9 @@
 
 mod auditing;
 mod directed;
+mod drafting;
 mod fault;
+mod gathering;
 mod grounds;
 pub mod laws;
 mod lines;

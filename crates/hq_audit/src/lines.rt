@@ -1,6 +1,6 @@
 //! The lines of a certificate, gathered.
 
-ghost use Rattle.std.specs.Prelude.{◌≡◌, ℕ, ◌+◌, ◌*◌, ◌^◌, ◌<◌, ◌++◌, ◌∷◌, [], All, IfOk, OnOk, MatchOption, Some, length, slice_get};
+ghost use Rattle.std.specs.Prelude.{◌≡◌, ℕ, ◌+◌, ◌*◌, ◌^◌, ◌<◌, ◌++◌, ◌∷◌, [], IfOk, MatchOption, Some, length, slice_get};
 ghost use Rattle.hq_cert.specs.View.{rule_of};
 ghost use Rattle.hq_model.specs.Job.{packet};
 ghost use Rattle.hq_model.specs.Job.{IsPacket};
@@ -8,11 +8,10 @@ ghost use Rattle.hq_model.specs.Certificate.{Says, signals};
 ghost use Rattle.hq_model.specs.Order as order;
 ghost use Rattle.hq_order.specs.Rounds.{IsFirstWithin, Reaches, ByEither};
 ghost use Rattle.hq_audit.specs.Rests.{Below, ByMiddle};
-ghost use Rattle.hq_audit.specs.Marked.{IsFact};
 ghost use Rattle.hq_audit.specs.Kept.{lines_of, Kept, Numbered, Ruled, Branched, AllBranched};
 
 use crate::grounds::{Ground, branch_of, ground_of};
-use crate::needs::{Fact, Needs};
+use crate::needs::Needs;
 use crate::slots::Slots;
 use hq_cert::{Branches, Citation, Line, Rule};
 use hq_order::Before;
@@ -39,17 +38,13 @@ pub fn round_of(before: &Before, p: usize, r: usize) -> usize
 }
 
 impl Lines {
-    /// No lines, with room for those that are needed, so many.
-    pub fn new(
-        alloc: Global,
-        before: &Before,
-        needs: Needs,
-        room: usize,
-    ) -> Result<Lines, AllocError>
+    /// No lines, with room for those that are needed.
+    pub fn new(alloc: Global, before: &Before, needs: Needs) -> Result<Lines, AllocError>
         ensures { IfOk result (λ l. Kept before.now l) }
     {
         before.job().valid();
         let slots = Slots::new(alloc, needs)?;
+        let room = slots.count();
         let numbers = vec![in alloc; 0; room]?;
         let lines = Vec::with_capacity(alloc, room)?;
         Ok(Lines {
@@ -59,21 +54,9 @@ impl Lines {
         })
     }
 
-    /// Adds a line for each fact, and before it those that it cites.
-    pub fn add_all(
-        &mut self,
-        alloc: Global,
-        before: &Before,
-        facts: &[Fact],
-    ) -> Result<(), AllocError>
-        requires kept { Kept before.now self.old }
-        requires facts { All (IsFact before.now) facts.now }
-        ensures { OnOk result (Kept before.now self.new) }
-    {
-        for fact in facts {
-            self.number(alloc, before, fact.p as usize, fact.r as usize)?;
-        }
-        Ok(())
+    /// The bits of the needed lines at a place.
+    pub fn word(&self, place: usize) -> u64 {
+        self.slots.word(place)
     }
 
     /// The lines, by number.
@@ -162,7 +145,7 @@ impl Lines {
 
     /// Adds the line that p is before r, which comes first in this round, behind those that it cites; answers its number.
     #[cycle(number)]
-    fn numbered(
+    pub fn numbered(
         &mut self,
         alloc: Global,
         before: &Before,

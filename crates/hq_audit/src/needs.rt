@@ -1,34 +1,22 @@
-//! Which lines a certificate needs, and in which order.
+//! Which lines a certificate needs.
 
-ghost use Rattle.std.specs.Prelude.{◌≡◌, ℕ, ◌+◌, ◌<◌, ◌≤◌, All, IfOk, OnOk, Some, slice_get};
+ghost use Rattle.std.specs.Prelude.{◌≡◌, ℕ, Some, slice_get};
 ghost use Rattle.hq_model.specs.Job.{IsPacket};
 ghost use Rattle.hq_model.specs.Order as order;
 ghost use Rattle.hq_order.specs.Rounds.{IsFirstWithin, Reaches};
 ghost use Rattle.hq_audit.specs.Rests.{Below};
-ghost use Rattle.hq_audit.specs.Marked.{IsFact};
 
 use crate::grounds::{Ground, branch_of, ground_of};
 use crate::lines::round_of;
 use hq_order::Before;
 use std::alloc::{AllocError, Global};
 
-/// A round that is noted in place of all later ones.
-const LAST: usize = 0xffff_fffe;
-
-/// Packet `p` is before packet `r`, and `round` is the first round in which that comes.
-#[derive(Clone, Copy, Debug)]
-pub struct Fact {
-    pub round: u32,
-    pub p: u16,
-    pub r: u16,
-}
-
 /// How many words of bits a packet has.
-const WORDS: usize = 16;
+pub const WORDS: usize = 16;
 
 /// The place of r's word in the row of p.
 pub fn place_of(p: usize, r: usize) -> usize {
-    p.saturating_mul(WORDS).saturating_add(r / 64)
+    p.wrapping_mul(WORDS).wrapping_add(r / 64)
 }
 
 /// Which lines are needed.
@@ -36,45 +24,6 @@ pub fn place_of(p: usize, r: usize) -> usize {
 pub struct Needs {
     /// Bit `r % 64` at the place of p and r tells whether a line that p is before r is needed.
     bits: Vec<u64>,
-}
-
-/// Adds the fact that p is before r, if it is one.
-fn push_fact(facts: &mut Vec<Fact>, before: &Before, p: usize, r: usize) -> Result<(), AllocError>
-    requires p { p < 1024 }
-    requires r { r < 1024 }
-    requires facts { All (IsFact before.now) facts.old.items }
-    ensures { OnOk result (All (IsFact before.now) facts.new.items) }
-{
-    if let Some(round) = before.round(p, r) {
-        let round = if round < LAST { round } else { LAST } as u32;
-        facts.push(Fact {
-            round,
-            p: p as u16,
-            r: r as u16,
-        })?;
-    }
-    Ok(())
-}
-
-/// Adds the facts of p that a word of its row has; the word's first bit is that of packet `first`.
-fn push_word(
-    facts: &mut Vec<Fact>,
-    before: &Before,
-    p: usize,
-    word: u64,
-    first: usize,
-) -> Result<(), AllocError>
-    requires p { p < 1024 }
-    requires first { first + 64 ≤ 1024 }
-    requires facts { All (IsFact before.now) facts.old.items }
-    ensures { OnOk result (All (IsFact before.now) facts.new.items) }
-{
-    for bit in 0..64 {
-        if word >> bit & 1 == 1 {
-            push_fact(facts, before, p, first + bit)?;
-        }
-    }
-    Ok(())
 }
 
 impl Needs {
@@ -90,17 +39,12 @@ impl Needs {
         self.bits
     }
 
-    /// The word at a place, or 0 where there is none.
-    fn word(&self, place: usize) -> u64 {
-        match self.bits.get(place) {
-            Some(word) => *word,
-            None => 0,
-        }
-    }
-
     /// Whether a line that p is before r is needed.
     fn has(&self, p: usize, r: usize) -> bool {
-        self.word(place_of(p, r)) >> (r % 64) & 1 == 1
+        match self.bits.get(place_of(p, r)) {
+            Some(word) => *word >> (r % 64) & 1 == 1,
+            None => false,
+        }
     }
 
     /// A line that p is before r is needed.
@@ -119,13 +63,15 @@ impl Needs {
         round_of(before, p, r)
     }
 
-    /// A line that p is before r is needed, and those that it cites.
+    /// A line that p is before r is needed, and those that it cites: none, if it comes in round 0.
     pub fn need(&mut self, before: &Before, p: usize, r: usize)
         requires { order.Before before.now p r }
     {
         if !self.has(p, r) {
             let round = self.note(before, p, r);
-            self.mark_cited(before, round, p, r);
+            if round != 0 {
+                self.mark_cited(before, round, p, r);
+            }
         }
     }
 
@@ -152,7 +98,9 @@ impl Needs {
     {
         if !self.has(p, r) {
             let round = self.note(before, p, r);
-            self.mark_cited(before, round, p, r);
+            if round != 0 {
+                self.mark_cited(before, round, p, r);
+            }
         }
     }
 
@@ -179,33 +127,5 @@ impl Needs {
         if d != p {
             self.mark_below(before, round, p, d);
         }
-    }
-
-    /// Appends the needed lines that p is before others.
-    fn push_row(&self, facts: &mut Vec<Fact>, before: &Before, p: usize) -> Result<(), AllocError>
-        requires p { p < 1024 }
-        requires facts { All (IsFact before.now) facts.old.items }
-        ensures { OnOk result (All (IsFact before.now) facts.new.items) }
-    {
-        for place in 0..WORDS {
-            let word = self.word(p * WORDS + place);
-            if word != 0 {
-                push_word(facts, before, p, word, place * 64)?;
-            }
-        }
-        Ok(())
-    }
-
-    /// The needed lines, by round, then by the first packet, then by the second.
-    pub fn facts(&self, alloc: Global, before: &Before) -> Result<Vec<Fact>, AllocError>
-        ensures { IfOk result (λ facts. All (IsFact before.now) facts.items) }
-    {
-        before.job().valid();
-        let mut facts = Vec::new(alloc);
-        for p in 0..before.len() {
-            self.push_row(&mut facts, before, p)?;
-        }
-        facts.sort_by_key(|fact| fact.round)?;
-        Ok(facts)
     }
 }

@@ -10,6 +10,8 @@ pub struct Slots {
     bits: Vec<u64>,
     /// For each word of these bits how many bits there are in the words ahead of it.
     starts: Vec<u32>,
+    /// How many there are in all.
+    count: usize,
 }
 
 impl Slots {
@@ -22,10 +24,29 @@ impl Slots {
             starts.push(count)?;
             count = count.saturating_add(word.count_ones());
         }
-        Ok(Slots { bits, starts })
+        Ok(Slots {
+            bits,
+            starts,
+            count: count as usize,
+        })
+    }
+
+    /// How many slots there are.
+    pub fn count(&self) -> usize {
+        self.count
+    }
+
+    /// The bits of the needed lines at a place, or none where there is no such place.
+    #[inline(always)]
+    pub fn word(&self, place: usize) -> u64 {
+        match self.bits.get(place) {
+            Some(word) => *word,
+            None => 0,
+        }
     }
 
     /// The slot of the line that p is before r, if one is needed.
+    #[inline(always)]
     pub fn slot(&self, p: usize, r: usize) -> Option<usize> {
         let place = place_of(p, r);
         let word = *self.bits.get(place)?;
@@ -35,6 +56,6 @@ impl Slots {
             return None;
         }
         let ahead = word & bit.wrapping_sub(1);
-        Some(start.saturating_add(ahead.count_ones()) as usize)
+        Some(start.wrapping_add(ahead.count_ones()) as usize)
     }
 }

@@ -9,6 +9,7 @@ use hq_order::Before;
 use hq_packet::{Head, Scope};
 
 /// Whether a fence of one scope reaches as far as another scope.
+#[inline(always)]
 pub fn reaches(fence: Scope, needed: Scope) -> bool
     ensures { result ≡ reaches fence needed }
 {
@@ -20,6 +21,7 @@ pub fn reaches(fence: Scope, needed: Scope) -> bool
 }
 
 /// The number of the agent of a packet's queue.
+#[inline(always)]
 fn agent_of(before: &Before, p: usize) -> u16
     requires { IsPacket before.now p }
     ensures { result ≡ agent_of before.now p }
@@ -31,6 +33,7 @@ fn agent_of(before: &Before, p: usize) -> u16
 }
 
 /// The scope that a fence between two packets needs.
+#[inline(always)]
 pub fn need(before: &Before, p: usize, r: usize) -> Scope
     requires p_is { IsPacket before.now p }
     requires r_is { IsPacket before.now r }
@@ -44,6 +47,7 @@ pub fn need(before: &Before, p: usize, r: usize) -> Scope
 }
 
 /// The header of a packet.
+#[inline(always)]
 fn head(before: &Before, p: usize) -> Head
     requires { IsPacket before.now p }
     ensures acquire { result.acquire ≡ (packet before.now p).acquire }
@@ -53,6 +57,7 @@ fn head(before: &Before, p: usize) -> Head
 }
 
 /// Whether p is r or comes before it.
+#[inline(always)]
 fn is_same_or_before(before: &Before, p: usize, r: usize) -> bool
     ensures { IsTrue result ↔ SameOrBefore before.now p r }
 {
@@ -60,6 +65,7 @@ fn is_same_or_before(before: &Before, p: usize, r: usize) -> bool
 }
 
 /// Whether two packets stand in one queue.
+#[inline(always)]
 fn same_queue(before: &Before, p: usize, r: usize) -> bool
     requires p_is { IsPacket before.now p }
     requires r_is { IsPacket before.now r }
@@ -70,6 +76,7 @@ fn same_queue(before: &Before, p: usize, r: usize) -> bool
 }
 
 /// Whether x is p, or a packet of p's queue that p comes before, and releases as far as is needed.
+#[inline(always)]
 pub fn releases(before: &Before, p: usize, x: usize, needed: Scope) -> bool
     requires p_is { IsPacket before.now p }
     requires x_is { IsPacket before.now x }
@@ -80,6 +87,7 @@ pub fn releases(before: &Before, p: usize, x: usize, needed: Scope) -> bool
 }
 
 /// Whether y is r, or a packet of r's queue that comes before r, and acquires as far as is needed.
+#[inline(always)]
 pub fn acquires(before: &Before, r: usize, y: usize, needed: Scope) -> bool
     requires r_is { IsPacket before.now r }
     requires y_is { IsPacket before.now y }

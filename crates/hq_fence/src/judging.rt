@@ -14,6 +14,7 @@ use hq_footprint::Kinds;
 use hq_order::Before;
 
 /// How p, which is before r, is released before r. Mostly its own fence does that.
+#[inline(always)]
 fn released(before: &Before, p: usize, r: usize) -> Option<Release>
     requires p_is { IsPacket before.now p }
     requires r_is { IsPacket before.now r }
@@ -31,6 +32,7 @@ fn released(before: &Before, p: usize, r: usize) -> Option<Release>
 }
 
 /// How p is released, and r acquires after that.
+#[inline(always)]
 fn acquired(before: &Before, p: usize, r: usize) -> Option<(Release, Acquire)>
     requires p_is { IsPacket before.now p }
     requires r_is { IsPacket before.now r }
@@ -59,6 +61,7 @@ fn first_kind(kinds: Kinds) -> Option<Kind>
 }
 
 /// Whether the conflict by a write that r reads is shown, where p is before r and there is such a conflict.
+#[inline(always)]
 fn judge_wr(
     before: &Before,
     p: usize,
@@ -90,6 +93,7 @@ fn judge_wr(
 }
 
 /// Whether the conflict by two writes is shown, where p is before r, there is such a conflict, and that ahead of it is shown.
+#[inline(always)]
 fn judge_ww(before: &Before, p: usize, r: usize, there: bool) -> Result<Option<Release>, NotShown>
     requires p_is { IsPacket before.now p }
     requires r_is { IsPacket before.now r }

@@ -56,6 +56,7 @@ pub struct Search<'b, 'a> {
 }
 
 /// The packets of p's queue, of which p comes first.
+#[inline(always)]
 fn queue_of(before: &Before, p: usize) -> Span
     requires { IsPacket before.now p }
     ensures { IsQueueOf before.now p result }
@@ -72,6 +73,7 @@ fn queue_of(before: &Before, p: usize) -> Span
 
 impl<'b, 'a> Search<'b, 'a> {
     /// A search for plain forms.
+    #[inline(always)]
     pub fn new(before: &'b Before<'a>, p: usize, r: usize, goal: Goal) -> Search<'b, 'a>
         requires p_is { IsPacket before.now p }
         requires r_is { IsPacket before.now r }
@@ -96,6 +98,7 @@ impl<'b, 'a> Search<'b, 'a> {
     }
 
     /// Whether y acquires for r as far as is needed, after another packet.
+    #[inline(always)]
     fn acquires_after(&self, needed: Scope, other: usize, y: usize) -> bool
         requires r_is { IsPacket self.now.before.now self.now.r }
         requires y_is { IsPacket self.now.before.now y }
@@ -105,6 +108,7 @@ impl<'b, 'a> Search<'b, 'a> {
     }
 
     /// The first packet of r's queue that acquires as far as is needed, after another packet.
+    #[inline(always)]
     fn acquire_alone(&self, needed: Scope, other: usize) -> Option<usize>
         requires { IsAsked self.now }
         ensures exact { MatchOption result ((y : ℕ) → ¬ FenceAfter self.now needed other y) (FenceAfter self.now needed other) }
@@ -140,6 +144,8 @@ impl<'b, 'a> Search<'b, 'a> {
     }
 
     /// The first acquire of any form after another packet.
+    #[cold]
+    #[inline(never)]
     fn any_acquire(&self, other: usize) -> Option<Acquire>
         requires asked { IsAsked self.now }
         requires system { self.now.needed ≡ scope.System }
@@ -154,6 +160,7 @@ impl<'b, 'a> Search<'b, 'a> {
     }
 
     /// Whether chains count.
+    #[inline(always)]
     fn allows_chains(&self) -> bool
         ensures { IsTrue result ↔ ((self.now.form ≡ form.Any) × (self.now.needed ≡ scope.System)) }
     {
@@ -161,6 +168,7 @@ impl<'b, 'a> Search<'b, 'a> {
     }
 
     /// The first acquire after another packet.
+    #[inline(always)]
     fn acquire(&self, other: usize) -> Option<Acquire>
         requires { IsAsked self.now }
         ensures { MatchOption result ((fences : shown.Acquire) → ¬ Follows self.now self.now.form other fences) (Follows self.now self.now.form other) }
@@ -175,6 +183,7 @@ impl<'b, 'a> Search<'b, 'a> {
     }
 
     /// What is asked for after another packet.
+    #[inline(always)]
     fn ending(&self, other: usize) -> Option<Ending>
         requires { IsAsked self.now }
         ensures { MatchOption result ((end : search.Ending) → ¬ Ends self.now other end) (Ends self.now other) }
@@ -218,6 +227,8 @@ impl<'b, 'a> Search<'b, 'a> {
     }
 
     /// The first release of any form that begins with x, and what is asked for after that.
+    #[cold]
+    #[inline(never)]
     fn any_from(&self, x: usize) -> Option<(Release, Ending)>
         requires asked { IsAsked self.now }
         requires system { self.now.needed ≡ scope.System }
@@ -234,6 +245,7 @@ impl<'b, 'a> Search<'b, 'a> {
     }
 
     /// What is asked for after a release by x alone.
+    #[inline(always)]
     fn alone_from(&self, x: usize) -> Option<Ending>
         requires asked { IsAsked self.now }
         requires x_is { IsPacket self.now.before.now x }
@@ -247,6 +259,7 @@ impl<'b, 'a> Search<'b, 'a> {
     }
 
     /// The first release that begins with x, and what is asked for after that.
+    #[inline(always)]
     fn release_from(&self, x: usize) -> Option<(Release, Ending)>
         requires asked { IsAsked self.now }
         requires x_is { IsPacket self.now.before.now x }
@@ -266,6 +279,7 @@ impl<'b, 'a> Search<'b, 'a> {
     }
 
     /// The first release after which comes what is asked for, and that. There is none where that doesn't come after p itself.
+    #[inline(always)]
     fn release(&self) -> Option<(Release, Ending)>
         requires { IsAsked self.now }
         ensures { MatchOption result ((fences : released.Release) (end : search.Ending) → ¬ Finds self.now self.now.form fences end) (λ a. Finds self.now self.now.form a.0 a.1) }
@@ -286,6 +300,7 @@ impl<'b, 'a> Search<'b, 'a> {
     }
 
     /// The first release after which comes what is asked for, and that; chains count where no plain form does.
+    #[inline(always)]
     pub fn find(&self) -> Option<(Release, Ending)>
         requires asked { IsAsked self.now }
         requires plain { self.now.form ≡ form.Plain }

@@ -14,7 +14,7 @@ use std::alloc::{AllocError, Global};
 const CHOICES: usize = 16;
 
 /// From so many packets on the unions of all choices cost less than to go through the packets one by one.
-const MANY: u32 = 16_384;
+const MANY: u32 = 65_536;
 
 /// What the next round is worked out from.
 #[derive(Clone, Copy)]

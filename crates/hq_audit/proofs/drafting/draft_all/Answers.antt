@@ -1,0 +1,29 @@
+use Rattle.std.proofs.Common.{◌<◌, length, arith}
+use Rattle.hq_audit.specs.Paired.{pairs_of}
+use Rattle.hq_audit.specs.Refused.{IsFirstOfRow, IsFirstUnshown}
+use Rattle.hq_audit.proofs.Pairing.{rows_paired_next}
+use Rattle.hq_audit.proofs.Turning.{rows_next, whole_refused}
+use Rattle.hq_audit.proofs.drafting.draft_all.Goals as goal
+
+pub loop-a-preserved : goal.loop-a-preserved
+loop-a-preserved c =
+    let job = c.args.before.now in
+    let row = c.in_ok-add_row.ensures in
+    record {
+      drafted = row.goes.drafted;
+      paired = rows_paired_next job c.loop-a.a (pairs_of c.loop-a.pairs) (pairs_of c.add_row.new.pairs) c.loop-a.invariant.paired row.goes.longer row.paired;
+      shown = rows_next job c.loop-a.a c.loop-a.invariant.shown row.shown;
+    }
+
+pub returns-clause-paired : goal.returns-clause-paired
+returns-clause-paired c = λ q s above is.
+    let over = c.loop-a-test.false in
+    let count = c.len-a-end.ensures in
+    let low : s < length c.args.before.now.packets = is in
+    c.loop-a.invariant.paired q s (omega arith) above is
+
+pub returns-in_err-add_row-clause-refused : goal.returns-in_err-add_row-clause-refused
+returns-in_err-add_row-clause-refused c =
+    let job = c.args.before.now in
+    whole_refused (IsFirstOfRow job c.loop-a.a) (IsFirstUnshown job) c.from_residual.result c.in_err-add_row.field-0.0 c.from_residual.ensures.1 c.in_err-add_row.ensures.refused
+    (λ u is. record { a = c.loop-a.a; row = is; rows = c.loop-a.invariant.shown })

@@ -1,0 +1,314 @@
+//! Pair lines as pairs are judged, before the lines that they cite have numbers.
+
+ghost use Rattle.std.specs.Prelude.{◌≡◌, ◌<◌, ◌⊎◌, IfErr, IfOk, OnOk, IfSome, IsSome, IsTrue, length};
+ghost use Rattle.hq_model.specs.Job.{IsPacket};
+ghost use Rattle.hq_model.specs.Order as order;
+ghost use Rattle.hq_model.specs.Fence as model;
+ghost use Rattle.hq_model.specs.Certificate.{kind_of};
+ghost use Rattle.hq_cert.specs.View.{cited, fences_of};
+ghost use Rattle.hq_fence.specs.Judgement.{ReleasesBefore, ReleasesToAcquire, Shows};
+ghost use Rattle.hq_packet.specs.declared.packet.Scope.TheVariants as scope;
+ghost use Rattle.hq_audit.specs.Drafted.{acquire_by, release_by, Drafted, AllDrafted, DraftedAs, DraftsGo};
+ghost use Rattle.hq_audit.specs.Paired.{pairs_of, HasPairIn, HasAll, RowPaired, AllPaired};
+ghost use Rattle.hq_audit.specs.Parts.{AreParts};
+ghost use Rattle.hq_audit.specs.Refused.{ShownOneWay, RowShown, PairRefused, RowRefused, AllRefused};
+
+use crate::directed::direct;
+use crate::fault::AuditNo;
+use crate::marking::need_shown;
+use crate::needs::Needs;
+use crate::parts::Parts;
+use hq_cert::{Citation, Fences, Pair, ReadChain, WriteChain};
+use hq_fence::{Acquire, Release, Shown};
+use hq_order::Before;
+use std::alloc::{AllocError, Global};
+
+/// Stands where the number of a line is to come.
+const LATER: u32 = 0;
+
+/// The first and the last packet of a release, and `=` where they are one, else what stands for the line from one to the other.
+fn release_parts(release: Release) -> (u32, u32, Citation)
+    ensures { release_by result.0 result.1 (cited result.2) ≡ release }
+{
+    match release {
+        Release::Alone(x) => (x as u32, x as u32, Citation::same()),
+        Release::Chained(x, x2) => (x as u32, x2 as u32, Citation::line(LATER)),
+    }
+}
+
+/// The same of an acquire.
+fn acquire_parts(acquire: Acquire) -> (u32, u32, Citation)
+    ensures { acquire_by result.0 result.1 (cited result.2) ≡ acquire }
+{
+    match acquire {
+        Acquire::Alone(y) => (y as u32, y as u32, Citation::same()),
+        Acquire::Chained(y2, y) => (y2 as u32, y as u32, Citation::line(LATER)),
+    }
+}
+
+/// What orders a write and a read, where one of the fences is chained.
+fn chained(
+    alloc: Global,
+    before: &Before,
+    p: usize,
+    r: usize,
+    fences: (Release, Acquire),
+) -> Result<Fences, AllocError>
+    requires system { model.need before.now p r ≡ scope.System }
+    requires fences { ReleasesToAcquire before.now p r fences }
+    ensures { IfOk result (DraftedAs before.now model.Conflict.WriteRead p r) }
+{
+    let (x, x2, link) = release_parts(fences.0);
+    let (y2, y, link2) = acquire_parts(fences.1);
+    let chain = ReadChain {
+        x,
+        x2,
+        y2,
+        y,
+        from: Citation::same(),
+        link,
+        between: LATER,
+        link2,
+        to: Citation::same(),
+    };
+    Ok(Fences::WriteReadChained(Box::new(alloc, chain)?))
+}
+
+/// What orders a write and a read: how p is released, and r acquires after that.
+fn write_read(
+    alloc: Global,
+    before: &Before,
+    p: usize,
+    r: usize,
+    fences: (Release, Acquire),
+) -> Result<Fences, AllocError>
+    requires fences { ReleasesToAcquire before.now p r fences }
+    ensures { IfOk result (DraftedAs before.now model.Conflict.WriteRead p r) }
+{
+    match fences {
+        (Release::Alone(x), Acquire::Alone(y)) => Ok(Fences::WriteRead {
+            x: x as u32,
+            y: y as u32,
+            from: Citation::same(),
+            between: LATER,
+            to: Citation::same(),
+        }),
+        (Release::Chained(_, _), _) => chained(alloc, before, p, r, fences),
+        (_, Acquire::Chained(_, _)) => chained(alloc, before, p, r, fences),
+    }
+}
+
+/// What orders two writes: how p is released before r.
+fn write_write(
+    alloc: Global,
+    before: &Before,
+    p: usize,
+    r: usize,
+    release: Release,
+) -> Result<Fences, AllocError>
+    requires released { ReleasesBefore before.now p r release }
+    ensures { IfOk result (DraftedAs before.now model.Conflict.WriteWrite p r) }
+{
+    match release {
+        Release::Alone(x) => Ok(Fences::WriteWrite {
+            x: x as u32,
+            from: Citation::same(),
+            on: LATER,
+        }),
+        Release::Chained(x, x2) => {
+            let chain = WriteChain {
+                x: x as u32,
+                x2: x2 as u32,
+                from: Citation::same(),
+                link: LATER,
+                on: LATER,
+            };
+            Ok(Fences::WriteWriteChained(Box::new(alloc, chain)?))
+        }
+    }
+}
+
+/// Adds a pair line of p with r.
+fn push_pair(
+    pairs: &mut Vec<Pair>,
+    before: &Before,
+    p: usize,
+    r: usize,
+    fences: Fences,
+) -> Result<(), AllocError>
+    requires drafted { AllDrafted before.now (pairs_of pairs.old) }
+    requires p_is { IsPacket before.now p }
+    requires r_is { IsPacket before.now r }
+    requires fences { Drafted before.now p r (fences_of fences) }
+    ensures goes { OnOk result (DraftsGo before.now (pairs_of pairs.old) (pairs_of pairs.new)) }
+    ensures has { OnOk result (HasPairIn (pairs_of pairs.new) p r (kind_of (fences_of fences))) }
+{
+    before.job().valid();
+    let pair = Pair {
+        p: p as u32,
+        r: r as u32,
+        fences,
+    };
+    pairs.push(pair)?;
+    Ok(())
+}
+
+/// Adds the pair line of a write that r reads, if there is one.
+fn add_write_read(
+    pairs: &mut Vec<Pair>,
+    alloc: Global,
+    before: &Before,
+    p: usize,
+    r: usize,
+    fences: Option<(Release, Acquire)>,
+) -> Result<(), AllocError>
+    requires drafted { AllDrafted before.now (pairs_of pairs.old) }
+    requires p_is { IsPacket before.now p }
+    requires r_is { IsPacket before.now r }
+    requires fences { IfSome fences (ReleasesToAcquire before.now p r) }
+    ensures goes { OnOk result (DraftsGo before.now (pairs_of pairs.old) (pairs_of pairs.new)) }
+    ensures has { OnOk result (IsSome fences → HasPairIn (pairs_of pairs.new) p r model.Conflict.WriteRead) }
+{
+    if let Some(fences) = fences {
+        let fences = write_read(alloc, before, p, r, fences)?;
+        push_pair(pairs, before, p, r, fences)?;
+    }
+    Ok(())
+}
+
+/// Adds the pair line of two writes, if there is one.
+fn add_write_write(
+    pairs: &mut Vec<Pair>,
+    alloc: Global,
+    before: &Before,
+    p: usize,
+    r: usize,
+    release: Option<Release>,
+) -> Result<(), AllocError>
+    requires drafted { AllDrafted before.now (pairs_of pairs.old) }
+    requires p_is { IsPacket before.now p }
+    requires r_is { IsPacket before.now r }
+    requires release { IfSome release (ReleasesBefore before.now p r) }
+    ensures goes { OnOk result (DraftsGo before.now (pairs_of pairs.old) (pairs_of pairs.new)) }
+    ensures has { OnOk result (IsSome release → HasPairIn (pairs_of pairs.new) p r model.Conflict.WriteWrite) }
+{
+    if let Some(release) = release {
+        let fences = write_write(alloc, before, p, r, release)?;
+        push_pair(pairs, before, p, r, fences)?;
+    }
+    Ok(())
+}
+
+/// Adds the pair line of a read of what r writes, if there is one.
+fn add_read_write(
+    pairs: &mut Vec<Pair>,
+    before: &Before,
+    p: usize,
+    r: usize,
+    there: bool,
+) -> Result<(), AllocError>
+    requires drafted { AllDrafted before.now (pairs_of pairs.old) }
+    requires p_is { IsPacket before.now p }
+    requires r_is { IsPacket before.now r }
+    requires before { IsTrue there → order.Before before.now p r }
+    ensures goes { OnOk result (DraftsGo before.now (pairs_of pairs.old) (pairs_of pairs.new)) }
+    ensures has { OnOk result (IsTrue there → HasPairIn (pairs_of pairs.new) p r model.Conflict.ReadWrite) }
+{
+    if there {
+        push_pair(pairs, before, p, r, Fences::ReadWrite(LATER))?;
+    }
+    Ok(())
+}
+
+/// Adds the pair lines of p with r, p first.
+fn add_shown(
+    pairs: &mut Vec<Pair>,
+    alloc: Global,
+    before: &Before,
+    p: usize,
+    r: usize,
+    shown: Shown,
+) -> Result<(), AllocError>
+    requires drafted { AllDrafted before.now (pairs_of pairs.old) }
+    requires p_is { IsPacket before.now p }
+    requires r_is { IsPacket before.now r }
+    requires shows { Shows before.now p r shown }
+    ensures goes { OnOk result (DraftsGo before.now (pairs_of pairs.old) (pairs_of pairs.new)) }
+    ensures has { OnOk result (HasAll before.now (pairs_of pairs.new) p r) }
+{
+    add_write_read(pairs, alloc, before, p, r, shown.wr)?;
+    add_write_write(pairs, alloc, before, p, r, shown.ww)?;
+    add_read_write(pairs, before, p, r, shown.rw)?;
+    Ok(())
+}
+
+/// Judges a and b, notes which lines their pair lines need, and adds these.
+fn add_pair(
+    pairs: &mut Vec<Pair>,
+    needs: &mut Needs,
+    alloc: Global,
+    before: &Before,
+    a: usize,
+    b: usize,
+) -> Result<(), AuditNo>
+    requires drafted { AllDrafted before.now (pairs_of pairs.old) }
+    requires a_is { IsPacket before.now a }
+    requires b_is { IsPacket before.now b }
+    ensures goes { OnOk result (DraftsGo before.now (pairs_of pairs.old) (pairs_of pairs.new)) }
+    ensures has { OnOk result (HasAll before.now (pairs_of pairs.new) a b ⊎ HasAll before.now (pairs_of pairs.new) b a) }
+    ensures shown { OnOk result (ShownOneWay before.now a b) }
+    ensures refused { IfErr result (PairRefused before.now a b) }
+{
+    let direction = direct(before, a, b)?;
+    let (p, r) = (direction.first, direction.second);
+    need_shown(needs, before, p, r, direction.shown);
+    add_shown(pairs, alloc, before, p, r, direction.shown)?;
+    Ok(())
+}
+
+/// Adds the pair lines of a with the packets above it.
+fn add_row(
+    pairs: &mut Vec<Pair>,
+    needs: &mut Needs,
+    alloc: Global,
+    before: &Before,
+    parts: &Parts,
+    a: usize,
+) -> Result<(), AuditNo>
+    requires drafted { AllDrafted before.now (pairs_of pairs.old) }
+    requires parts { AreParts before.now parts.now }
+    requires a_is { IsPacket before.now a }
+    ensures goes { OnOk result (DraftsGo before.now (pairs_of pairs.old) (pairs_of pairs.new)) }
+    ensures paired { OnOk result (RowPaired before.now (pairs_of pairs.new) a (length before.now.packets)) }
+    ensures shown { OnOk result (RowShown before.now a (length before.now.packets)) }
+    ensures refused { IfErr result (RowRefused before.now a) }
+{
+    before.job().valid();
+    let row = parts.others(before, a);
+    let mut b = row.next(before, a + 1);
+    'others: while b < before.len() {
+        add_pair(pairs, needs, alloc, before, a, b)?;
+        b = row.next(before, b + 1);
+    }
+    Ok(())
+}
+
+/// The pair lines of all packets, in which no line has its number yet; notes which lines they need. The error is the first two packets
+/// that aren't ordered, or that there is no memory.
+pub fn draft_all(
+    needs: &mut Needs,
+    alloc: Global,
+    before: &Before,
+    parts: &Parts,
+) -> Result<Vec<Pair>, AuditNo>
+    requires parts { AreParts before.now parts.now }
+    ensures drafted { IfOk result (λ pairs. AllDrafted before.now (pairs_of pairs)) }
+    ensures paired { IfOk result (λ pairs. AllPaired before.now (pairs_of pairs)) }
+    ensures refused { IfErr result (AllRefused before.now) }
+{
+    let mut pairs = Vec::new(alloc);
+    for a in 0..before.len() {
+        add_row(&mut pairs, needs, alloc, before, parts, a)?;
+    }
+    Ok(pairs)
+}
