@@ -1,10 +1,8 @@
 -- Two runs that differ, as an answer.
-use Rattle.std.proofs.Common.{◌≡◌, ℕ, inl, inr, refl, sym, subst}
 use Rattle.hq_audit.specs.declared.fault.AuditNo.{AuditNo}
 use Rattle.hq_audit.specs.declared.fault.AuditNo.TheVariants as audit
 use Rattle.hq_audit.specs.Refused.{IsRefused}
 use Rattle.hq_model.specs.Job.{Job}
-use Rattle.hq_witness.specs.declared.fault.WitnessNo.TheVariants as no
 use Rattle.hq_witness.specs.Witness.{IsNo, no_of}
 
 pub no_is : (job : Job) (e : AuditNo) → IsRefused job e → IsNo job (no_of e)

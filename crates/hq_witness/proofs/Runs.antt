@@ -1,15 +1,15 @@
 -- A run that is made step by step.
-use Rattle.std.proofs.Common.{◌≡◌, ℕ, ◌<◌, IsSome, IfSome, List, [], ◌∷◌, ◌++◌, length, map, refl, sym, ◌∙◌, ap, subst, arith, Option, Some, None, All, slice_index_or}
+use Rattle.std.proofs.Common.{◌≡◌, ℕ, ◌<◌, IsSome, IfSome, List, [], ◌∷◌, ◌++◌, length, map, refl, sym, ◌∙◌, ap, subst, Option, Some, None}
 use Rattle.std.proofs.lemmas.List.{map-append}
 use Rattle.hq_machine.specs.declared.event.Event.{Event as MachineEvent}
 use Rattle.hq_machine.specs.Events.{coarse_of, one_of, single_of}
 use Rattle.hq_machine.specs.State.{StateValue}
 use Rattle.hq_machine.specs.View.{IsStateOf, Moved, state_of}
-use Rattle.hq_model.specs.Job.{Job, IsPacket}
+use Rattle.hq_model.specs.Job.{Job}
 use Rattle.hq_model.specs.Journal.{Coarse}
 use Rattle.hq_model.specs.Journal.Coarse.{One, Fetch, Deliver, Complete, Rest}
 use Rattle.hq_model.specs.Machine.{Event, start}
-use Rattle.hq_model.specs.Origins.{Origins, Traced, OriginsOf, all_start, moved}
+use Rattle.hq_model.specs.Origins.{all_start, moved}
 use Rattle.hq_model.proofs.Origins.{traced_more}
 use Rattle.hq_witness.specs.declared.origin.Origin.{Origin}
 use Rattle.hq_witness.specs.declared.place.Place.{Place}
@@ -18,7 +18,7 @@ use Rattle.hq_witness.specs.declared.recording.Recording.{Recording}
 use Rattle.hq_witness.specs.declared.trace.Trace.{Trace}
 use Rattle.hq_witness.specs.Differences.{Has, TellsAt}
 use Rattle.hq_witness.specs.Origins.{named, origin_at, IsPlace}
-use Rattle.hq_witness.specs.Traces.{IsRecording, IsSighting, Tells, Follows}
+use Rattle.hq_witness.specs.Traces.{Comes, IsRecording, IsSighting, Tells, Follows}
 use Rattle.hq_witness.specs.Witness.{IsOver, IsWholeRun}
 
 one_is : (c : Coarse) (e : Event) → one_of c ≡ Some e → c ≡ One e
@@ -60,6 +60,10 @@ module _ (job : Job) (r : Recording) (state : StateValue) (journal : List Machin
         | None ↦ λ is s m f. absurd cc
         | Some e ↦ λ is s m f. taken_one e is h m f pushed
       ] refl some m follows
+
+pub comes : (job : Job) (old new : StateValue) (o : Option Event) → IfSome o (λ e. Moved job old e new) → IfSome o (λ e. Comes job e (state_of job new))
+comes job old new None m = tt
+comes job old new (Some e) m = (state_of job old, m.step)
 
 -- nothing has changed but the state, which is the same
 pub untouched : (job : Job) (r : Recording) (state : StateValue) → state ≡ r.state → IsRecording job r → IsRecording job (record r { state = state })

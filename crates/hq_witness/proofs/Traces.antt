@@ -1,5 +1,5 @@
 -- A trace follows the steps.
-use Rattle.std.proofs.Common.{◌≡◌, ℕ, ◌<◌, ◌≢◌, inl, inr, IsSome, is_some, IfSome, List, [], ◌∷◌, ◌++◌, length, map, set, replicate, refl, sym, ◌∙◌, ap, subst, arith, Bool, true, false, cond, eqb, Option, Some, None, slice_index, slice_index_or, All}
+use Rattle.std.proofs.Common.{◌≡◌, ℕ, ◌<◌, inl, inr, IsSome, is_some, IfSome, List, [], ◌∷◌, ◌++◌, length, set, replicate, refl, sym, ◌∙◌, ap, subst, arith, Bool, true, false, cond, eqb, Option, Some, None, slice_index, slice_index_or, All}
 use Rattle.std.specs.Global.{Vec}
 use Rattle.std.proofs.lemmas.Bool.{cases_eq, true≢false, cond-true, cond-false, eq-eqb, ne_eqb}
 use Rattle.std.proofs.lemmas.List.{length-set, get_or-set_same, get_or-set_other, get_or-replicate, length-replicate}
@@ -8,8 +8,8 @@ use Rattle.hq_machine.specs.declared.event.Event.{Event as MachineEvent}
 use Rattle.hq_machine.specs.declared.event.Event.TheVariants as own
 use Rattle.hq_machine.specs.Events.{single_of}
 use Rattle.hq_model.specs.Job.{Job, packet, IsPacket, agent_of}
-use Rattle.hq_model.specs.Machine.{State, Copy, Event, Step, IsByte, put, put2, start, lane_sees}
-use Rattle.hq_model.specs.Machine.Event.{Submit, Launch, Observe, Enter, Read, Store, PushLane, PushAgent, FillLane, FillAgent, DropLane, DropAgent}
+use Rattle.hq_model.specs.Machine.{State, Copy, IsByte, put2, start, lane_sees}
+use Rattle.hq_model.specs.Machine.Event.{Read, Store, PushLane, PushAgent, FillLane, FillAgent}
 use Rattle.hq_model.specs.Origins as model
 use Rattle.hq_model.specs.Origins.{Origins, all_start, origin_or, agent_origin, lane_origin, moved}
 use Rattle.hq_model.proofs.Sums.{put_same, put_other, put2_same, put2_other}
@@ -93,6 +93,18 @@ there_own (Some copy) own below e = refl
 pub none_below : (copy : Option Copy) (own below : model.Origin) → is_some copy ≡ false → origin_or copy own below ≡ below
 none_below None own below e = refl
 none_below (Some copy) own below e = absurd (true≢false e)
+
+pub agent_there : (job : Job) (state : State) (o : Origins) (t : Trace) (a : ℕ) (x : Origin) → TellsCopies job o t → a < job.agents → is_some (state.agent a t.byte) ≡ true → x ≡ slice_index_or t.agents a origin.Start → agent_origin state o a t.byte ≡ named x
+agent_there job state o t a x k l some is = there_own (state.agent a t.byte) (o.agent a t.byte) (o.memory t.byte) some ∙ k.agents a origin.Start l ∙ ap named (sym is)
+
+pub agent_below : (job : Job) (state : State) (o : Origins) (t : Trace) (a : ℕ) → TellsCopies job o t → is_some (state.agent a t.byte) ≡ false → agent_origin state o a t.byte ≡ named t.memory
+agent_below job state o t a k none = none_below (state.agent a t.byte) (o.agent a t.byte) (o.memory t.byte) none ∙ k.memory
+
+pub lane_there : (job : Job) (state : State) (o : Origins) (t : Trace) (p : ℕ) (x : Origin) → TellsCopies job o t → IsPacket job p → is_some (state.lane p t.byte) ≡ true → x ≡ slice_index_or t.lanes p origin.Start → lane_origin job state o p t.byte ≡ named x
+lane_there job state o t p x k l some is = there_own (state.lane p t.byte) (o.lane p t.byte) (agent_origin state o (agent_of job p) t.byte) some ∙ k.lanes p origin.Start l ∙ ap named (sym is)
+
+pub lane_below : (job : Job) (state : State) (o : Origins) (t : Trace) (p a : ℕ) (x : Origin) → a ≡ agent_of job p → is_some (state.lane p t.byte) ≡ false → agent_origin state o a t.byte ≡ named x → lane_origin job state o p t.byte ≡ named x
+lane_below job state o t p a x is none below = none_below (state.lane p t.byte) (o.lane p t.byte) (agent_origin state o (agent_of job p) t.byte) none ∙ ap (λ b. agent_origin state o b t.byte) (sym is) ∙ below
 
 -- ---- the start
 

@@ -14,7 +14,9 @@ use std::alloc::{AllocError, Global};
 
 /// No packet has more slots, read entries and written bytes than these.
 const MOST_SLOTS: u32 = 5;
+
 const MOST_READS: u32 = 131_072;
+
 const MOST_WRITES: u32 = 65_536;
 
 impl Recording {
@@ -194,12 +196,7 @@ fn is_apart(before: &Before, packet: u32, number: u16) -> bool {
 }
 
 /// The run that takes the packets of an order list one by one.
-pub fn in_order(
-    alloc: Global,
-    job: &Job,
-    order: &[u16],
-    byte: u32,
-) -> Result<Recording, AllocError>
+pub fn in_order(alloc: Global, job: &Job, order: &[u16], byte: u32) -> Result<Recording, AllocError>
     requires { IsByte (plan job.now) byte }
     ensures { IfOk result (λ r. IsRecording (plan job.now) r) }
 {

@@ -1,6 +1,6 @@
 //! The search for a witness.
 
-ghost use Rattle.std.specs.Prelude.{◌≡◌, IfErr, IfOk, IfSome, length};
+ghost use Rattle.std.specs.Prelude.{◌≡◌, ◌<◌, IfErr, IfOk, IfSome, length};
 ghost use Rattle.hq_audit.specs.declared.fault.AuditNo.TheVariants.{Conflict};
 ghost use Rattle.hq_audit.specs.Refused.{IsRefused};
 ghost use Rattle.hq_job.specs.Plan.{plan};
@@ -21,7 +21,9 @@ use std::alloc::{AllocError, Global};
 
 /// At most so many attempts are made in all, of one pair, and where packets read and write many bytes.
 const MOST: u32 = 24;
+
 const MOST_OF_PAIR: u32 = 6;
+
 const MOST_OF_LARGE: u32 = 3;
 
 /// From so many bytes on that packets read and write a job is large.
@@ -88,10 +90,12 @@ fn show_row(
     a: usize,
     left: &mut u32,
 ) -> Result<Option<Found>, AllocError>
-    requires { known.bytes ≡ length (plan job.now).memory }
+    requires packet { a < length known.before.now.packets }
+    requires bytes { known.bytes ≡ length (plan job.now).memory }
     ensures { IfOk result (λ found. IfSome found (AreFound (plan job.now))) }
 {
-    for b in a + 1..known.before.len() {
+    let count = known.before.len();
+    for b in a + 1..count {
         if *left == 0 {
             return Ok(None);
         }
@@ -181,9 +185,7 @@ pub fn witness(alloc: Global, job: &Job) -> Result<Witness, WitnessNo>
     ordered_is_not_refused();
     match verdict(alloc, job) {
         Ok(()) => Err(WitnessNo::Ordered),
-        Err(AuditNo::Conflict { p, r, kind, why }) => {
-            witness_of(alloc, job, p, r, kind, why)
-        }
+        Err(AuditNo::Conflict { p, r, kind, why }) => { witness_of(alloc, job, p, r, kind, why) }
         Err(no) => Err(WitnessNo::from(no)),
     }
 }

@@ -1,6 +1,6 @@
 //! A run in which a byte is taken early and written back late: of a conflict whose packets are ordered, but not by fences.
 
-ghost use Rattle.std.specs.Prelude.{◌≡◌, IfOk, OnOk};
+ghost use Rattle.std.specs.Prelude.{◌≤◌, IfOk, OnOk};
 ghost use Rattle.hq_job.specs.Plan.{plan};
 ghost use Rattle.hq_model.specs.Machine.{IsByte};
 ghost use Rattle.hq_witness.specs.Traces.{IsRecording};
@@ -40,7 +40,9 @@ fn writes_back(job: &Job, before: &Before, target: &Target, packet: u32) -> bool
 }
 
 /// How much of what the target's second packet may see a packet's acquire fence keeps.
-fn kept(job: &Job, target: &Target, packet: u32) -> u32 {
+fn kept(job: &Job, target: &Target, packet: u32) -> u32
+    ensures { result ≤ 2 }
+{
     if agent_of(job, packet) != agent_of(job, target.r) {
         return 2;
     }
@@ -101,6 +103,18 @@ impl Recording {
         Ok(())
     }
 
+    /// Of two writes, writes what the target's second packet wrote down to memory, and what the first one wrote over it.
+    fn overwrite(&mut self, job: &Job, target: &Target, packet: u32) -> Result<(), AllocError>
+        requires { IsRecording (plan job.now) self.old }
+        ensures { OnOk result (IsRecording (plan job.now) self.new) }
+    {
+        if packet != target.r || target.kind != Kind::WriteWrite {
+            return Ok(());
+        }
+        self.push_down(job, target.r, target.byte)?;
+        self.push_down(job, target.p, target.byte)
+    }
+
     /// Takes a packet that has entered to its completion, with no push of the target's byte that isn't asked for.
     fn go_on_lazily(&mut self, job: &Job, target: &Target, packet: u32) -> Result<(), AllocError>
         requires { IsRecording (plan job.now) self.old }
@@ -110,10 +124,7 @@ impl Recording {
         self.read_all(job, packet)?;
         self.store_all(job, packet)?;
         self.push_all_but(job, packet, Some(target.byte))?;
-        if packet == target.r && target.kind == Kind::WriteWrite {
-            self.push_down(job, target.r, target.byte)?;
-            self.push_down(job, target.p, target.byte)?;
-        }
+        self.overwrite(job, target, packet)?;
         self.release(job, packet, target.byte)?;
         self.take(job, Event::Finish { packet })?;
         self.advance(job)?;

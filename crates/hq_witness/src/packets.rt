@@ -2,8 +2,8 @@
 
 ghost use Rattle.std.specs.Prelude.{◌≡◌, length};
 
-use hq_job::{Job, Placed};
 use hq_footprint::Range as ByteRange;
+use hq_job::{Job, Placed};
 use hq_packet::Scope;
 use std::ops::Range;
 

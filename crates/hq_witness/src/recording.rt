@@ -100,7 +100,13 @@ impl Recording {
         requires { IsRecording (plan job.now) self.now }
         ensures { IsTrue result → IsOver (plan job.now) (state_of (plan job.now) self.now.state) }
     {
-        self.state.all_complete(0..self.state.packets()) && self.state.work_left(job).is_none()
+        if !self.state.all_complete(0..self.state.packets()) {
+            return false;
+        }
+        match self.state.work_left(job) {
+            Some(_left) => false,
+            None => true,
+        }
     }
 
     /// The events.

@@ -129,8 +129,7 @@ impl Trace {
         ensures { self.new ≡ record self.old { lanes = noted self.old (slice_index (packet_of (plan job.now) packet).writes entry) self.old.lanes packet (StoredBy packet) } }
     {
         if write_at(job, packet as usize, entry as usize) == self.byte as usize {
-            self.lanes
-                .put(packet as usize, Origin::StoredBy { packet });
+            self.lanes.put(packet as usize, Origin::StoredBy { packet });
         }
     }
 
