@@ -100,7 +100,8 @@ impl Recording {
         requires { IsRecording (plan job.now) self.now }
         ensures { IsTrue result → IsOver (plan job.now) (state_of (plan job.now) self.now.state) }
     {
-        if !self.state.all_complete(0..self.state.packets()) {
+        let count = self.state.packets();
+        if !self.state.all_complete(0..count) {
             return false;
         }
         match self.state.work_left(job) {

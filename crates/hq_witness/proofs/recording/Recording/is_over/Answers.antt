@@ -7,6 +7,6 @@ pub returns-in-None : goal.returns-in-None
 returns-in-None c _ =
     let job = plan c.args.job.now in
     record {
-      complete = λ p there. (c.all_complete.ensures (first_phase job)).0 c.if-not-all_complete.false p (omega arith) (omega (arith, c.packets.ensures, c.requires.is.lengths.phases));
+      complete = λ p there. (c.all_complete.ensures (first_phase job)).0 c.if-not-all_complete.false p (omega arith) (omega (arith, c.packets-count.ensures, c.requires.is.lengths.phases));
       rest = c.in-None.ensures;
     }
