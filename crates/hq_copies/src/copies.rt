@@ -1,6 +1,6 @@
 //! Memory and the maps of copies.
 
-ghost use Rattle.std.specs.Prelude.{◌≡◌, ◌↔◌, ◌<◌, ◌≤◌, ◌+◌, ℕ, ◌-◌, Some, length, All, IsTrue, IfOk, IfErr, OnOk, OnErr, MatchOption, slice_index, ◌⊎◌, replicate, false};
+ghost use Rattle.std.specs.Prelude.{◌≡◌, is_some, ◌↔◌, ◌<◌, ◌≤◌, ◌+◌, ℕ, ◌-◌, Some, length, All, IsTrue, IfOk, IfErr, OnOk, OnErr, MatchOption, slice_index, ◌⊎◌, replicate, false};
 ghost use Rattle.std.specs.FinMap as finite;
 ghost use Rattle.hq_model.specs.Job.{reaches};
 ghost use Rattle.hq_model.specs.Machine.{is_dirty};
@@ -148,6 +148,22 @@ impl Copies {
         self.holding = self.holding.with(lane);
         self.marked = self.marked.with(lane);
         Ok(())
+    }
+
+    /// Whether a lane holds a copy of a byte.
+    pub fn lane_holds(&self, lane: usize, byte: usize) -> bool
+        requires { IsLaneByte self.now lane byte }
+        ensures { result ≡ is_some (copies_of self.now.lanes lane byte) }
+    {
+        self.lanes[lane].holds(self.number(byte))
+    }
+
+    /// Whether an agent holds a copy of a byte.
+    pub fn agent_holds(&self, agent: usize, byte: usize) -> bool
+        requires { IsAgentByte self.now agent byte }
+        ensures { result ≡ is_some (copies_of self.now.agents agent byte) }
+    {
+        self.agents[agent].holds(self.number(byte))
     }
 
     /// The writes of bytes through a lane, from a byte on: all of them or none.

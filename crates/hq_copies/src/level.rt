@@ -1,6 +1,6 @@
 //! What one agent or one lane holds.
 
-ghost use Rattle.std.specs.Prelude.{◌≡◌, ℕ, ◌+◌, ◌<◌, ◌≤◌, ◌^◌, ◌↔◌, if◌then◌else◌, true, false, Some, None, IsTrue, IfOk, OnOk, OnErr, MatchOption, length, slice_index};
+ghost use Rattle.std.specs.Prelude.{◌≡◌, is_some, ℕ, ◌+◌, ◌<◌, ◌≤◌, ◌^◌, ◌↔◌, if◌then◌else◌, true, false, Some, None, IsTrue, IfOk, OnOk, OnErr, MatchOption, length, slice_index};
 ghost use Rattle.std.specs.FinMap as finite;
 ghost use Rattle.hq_model.specs.Machine.{value_or};
 ghost use Rattle.hq_copies.specs.Copies.{a_copy, dirty_only, IsClean, IsDirty, IsAbsent, NoneDirty, IsFirstDirty, IsRunCount, begins_run, cleaned, taken, written};
@@ -93,6 +93,13 @@ impl Level {
             Some(byte) => !byte.dirty,
             None => false,
         }
+    }
+
+    /// Whether a byte is held of a number.
+    pub fn holds(&self, number: u32) -> bool
+        ensures { result ≡ is_some (finite.get self.now number) }
+    {
+        self.get(number).is_some()
     }
 
     /// Whether nothing is held of a number.

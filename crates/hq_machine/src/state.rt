@@ -1,7 +1,7 @@
 //! The state of a run.
 
-ghost use Rattle.std.specs.Prelude.{◌≡◌, ◌+◌, ◌^◌, ◌<◌, ◌≤◌, ◌↔◌, ℕ, Some, slice_index, [], false, length, IfOk, IfErr, IsTrue, map, replicate};
-ghost use Rattle.hq_copies.specs.Copies.{IsLaneByte};
+ghost use Rattle.std.specs.Prelude.{◌≡◌, ◌+◌, ◌^◌, ◌<◌, ◌≤◌, ◌↔◌, ℕ, Some, slice_index, [], false, length, IfOk, IfErr, IsTrue, is_some, map, replicate};
+ghost use Rattle.hq_copies.specs.Copies.{IsAgentByte, IsLaneByte};
 ghost use Rattle.hq_job.specs.Plan.{plan};
 ghost use Rattle.hq_model.specs.Job.{Job as JobOfNumbers, IsPacket, agent_of};
 ghost use Rattle.hq_model.specs.Machine as machine;
@@ -202,6 +202,22 @@ impl State {
         ensures { (job : JobOfNumbers) → IsStateOf job self.now → result ≡ lane_sees job (state_of job self.now) packet byte }
     {
         self.copies.read(packet, byte)
+    }
+
+    /// Whether a packet's lane holds a copy of a byte.
+    pub fn lane_holds(&self, packet: usize, byte: usize) -> bool
+        requires { IsLaneByte self.now.copies packet byte }
+        ensures { (job : JobOfNumbers) → result ≡ is_some ((state_of job self.now).lane packet byte) }
+    {
+        self.copies.lane_holds(packet, byte)
+    }
+
+    /// Whether an agent holds a copy of a byte.
+    pub fn agent_holds(&self, agent: usize, byte: usize) -> bool
+        requires { IsAgentByte self.now.copies agent byte }
+        ensures { (job : JobOfNumbers) → result ≡ is_some ((state_of job self.now).agent agent byte) }
+    {
+        self.copies.agent_holds(agent, byte)
     }
 
     /// Writes into the slice the bytes that are seen through a packet's lane from a byte on.

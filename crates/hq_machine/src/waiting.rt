@@ -157,7 +157,7 @@ impl State {
     }
 
     /// Whether the packet may enter.
-    pub(crate) fn may_enter(&self, job: &Job, packet: usize) -> bool
+    pub fn may_enter(&self, job: &Job, packet: usize) -> bool
         requires { IsStateOf (plan job.now) self.now }
         ensures { IsTrue result ↔ MayEnter (plan job.now) (state_of (plan job.now) self.now) packet }
     {

@@ -4,6 +4,7 @@ ghost use Rattle.hq_model.specs.Theorems.{StepsDetermined, WithoutRings, OrderLa
 ghost use Rattle.hq_model.specs.Moves.{CopiesMoveAlways, FillsUnseenAlways, PushesWriteAlways, FenceLaw};
 ghost use Rattle.hq_model.specs.Journal.{CoarseLaw};
 ghost use Rattle.hq_model.specs.Readied.{CompletionReached, EntryReadied};
+ghost use Rattle.hq_model.specs.Origins.{OriginsTell, RunsHaveOrigins};
 
 /// An event leads from a state to one state.
 pub fn steps_determined()
@@ -78,4 +79,15 @@ pub fn coarse_law()
 /// A journal's coarse events are a run of the machine's steps.
 pub fn journals_run()
     ensures { JournalsRun }
+{}
+
+/// In every run each byte of memory, each copy and each entry that was read is what its origin made it: as memory starts there, or
+/// as the packet stored it.
+pub fn origins_tell()
+    ensures { OriginsTell }
+{}
+
+/// Each run has origins, and no others, and only runs have some.
+pub fn runs_have_origins()
+    ensures { RunsHaveOrigins }
 {}

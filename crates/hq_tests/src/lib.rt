@@ -30,4 +30,6 @@ mod reports;
 #[cfg(test)]
 mod timelines;
 #[cfg(test)]
+mod witnesses;
+#[cfg(test)]
 mod words;

@@ -1,0 +1,180 @@
+ghost use Rattle.hq_job.specs.Plan.{plan};
+ghost use Rattle.hq_machine.specs.View.{IsStateOf};
+
+use hq_job::{Job, read_text};
+use hq_machine::{Event, Journal, State, StepFault};
+use hq_timeline::replay;
+use hq_witness::{Kind, Origin, Place, Why, Witness, WitnessNo, witness};
+use std::alloc::Global;
+use std::process::Abort;
+use std::test::*;
+
+/// A fill of four bytes and a copy of them in one queue; the copy has no acquire fence.
+const NO_ACQUIRE: &[u8] =
+    b"hsaq 1\nagent a\nbuffer b 4096 8\nargs k0 256 00100000000000000700000000000000\nargs k1 512 00100000000000000410000000000000\nkernel f 1 fill\nkernel c 2 copy\nqueue q a 4\npacket 02150100010001000100000004000000010000000100000000000000000000000100000000000000000100000000000000000000000000000000000000000000\npacket 02110100010001000100000004000000010000000100000000000000000000000200000000000000000200000000000000000000000000000000000000000000\nend";
+
+/// The same with both fences, and without the barrier bit.
+const NO_BIT: &[u8] =
+    b"hsaq 1\nagent a\nbuffer b 4096 8\nargs k0 256 00100000000000000700000000000000\nargs k1 512 00100000000000000410000000000000\nkernel f 1 fill\nkernel c 2 copy\nqueue q a 4\npacket 02140100010001000100000004000000010000000100000000000000000000000100000000000000000100000000000000000000000000000000000000000000\npacket 02140100010001000100000004000000010000000100000000000000000000000200000000000000000200000000000000000000000000000000000000000000\nend";
+
+/// Both fences and the bit.
+const ORDERED: &[u8] =
+    b"hsaq 1\nagent a\nbuffer b 4096 8\nargs k0 256 00100000000000000700000000000000\nargs k1 512 00100000000000000410000000000000\nkernel f 1 fill\nkernel c 2 copy\nqueue q a 4\npacket 02150100010001000100000004000000010000000100000000000000000000000100000000000000000100000000000000000000000000000000000000000000\npacket 02150100010001000100000004000000010000000100000000000000000000000200000000000000000200000000000000000000000000000000000000000000\nend";
+
+/// As without the bit, in a ring of one slot.
+const RING: &[u8] =
+    b"hsaq 2\nagent a\nbuffer b 4096 8\nargs k0 256 00100000000000000700000000000000\nargs k1 512 00100000000000000410000000000000\nkernel f 1 fill\nkernel c 2 copy\nqueue q a 1\npacket 02140100010001000100000004000000010000000100000000000000000000000100000000000000000100000000000000000000000000000000000000000000\npacket 02100100010001000100000004000000010000000100000000000000000000000200000000000000000200000000000000000000000000000000000000000000\nend";
+
+/// Two fills of the same bytes on two agents, the first without a release fence.
+const OLDER: &[u8] =
+    b"hsaq 1\nagent a\nbuffer b 4096 8\nargs k0 256 00100000000000000700000000000000\nargs k1 512 00100000000000000410000000000000\nkernel f 1 fill\nkernel c 2 copy\nagent c\nargs k2 768 00100000000000000900000000000000\nsignal s 9 1\nqueue p a 4\npacket 02000100010001000100000004000000010000000100000000000000000000000100000000000000000100000000000000000000000000000900000000000000\nqueue r c 4\npacket 03000000000000000900000000000000000000000000000000000000000000000000000000000000000000000000000000000000000000000000000000000000\npacket 02140100010001000100000004000000010000000100000000000000000000000100000000000000000300000000000000000000000000000000000000000000\nend";
+
+/// A fill on one agent and a copy on another, with a release that goes on, and an acquire that doesn't come from the system.
+const CHAIN: &[u8] =
+    b"hsaq 1\nagent a\nbuffer b 4096 8\nargs k0 256 00100000000000000700000000000000\nargs k1 512 00100000000000000410000000000000\nkernel f 1 fill\nkernel c 2 copy\nagent c\nsignal s 9 1\nsignal t 10 1\nsignal u 11 1\nqueue p a 4\npacket 02080100010001000100000004000000010000000100000000000000000000000100000000000000000100000000000000000000000000000900000000000000\nqueue m a 4\npacket 03100000000000000900000000000000000000000000000000000000000000000000000000000000000000000000000000000000000000000a00000000000000\nqueue n c 4\npacket 03000000000000000a00000000000000000000000000000000000000000000000000000000000000000000000000000000000000000000000b00000000000000\nqueue r c 4\npacket 03000000000000000b00000000000000000000000000000000000000000000000000000000000000000000000000000000000000000000000000000000000000\npacket 02020100010001000100000004000000010000000100000000000000000000000200000000000000000200000000000000000000000000000000000000000000\nend";
+
+/// A barrier packet whose signal is never lowered since a packet of its own queue lowers it.
+const STUCK: &[u8] =
+    b"hsaq 1\nagent a\nsignal s 9 1\nqueue q a 4\npacket 03000000000000000900000000000000000000000000000000000000000000000000000000000000000000000000000000000000000000000000000000000000\npacket 04000280000000000000000000000000000000000000000000000000000000000000000000000000000000000000000000000000000000000900000000000000\nend";
+
+/// What two runs are told to differ in: the pair, its kind and why; the place, and the origins and bytes there.
+#[derive(Clone, Copy)]
+struct Told {
+    pair: (u16, u16),
+    kind: Kind,
+    why: Why,
+    place: Place,
+    origins: (Origin, Origin),
+    bytes: (u8, u8),
+}
+
+/// Makes the events happen.
+fn walk(state: &mut State, job: &Job, events: &[Event]) -> Result<(), StepFault>
+    requires { IsStateOf (plan job.now) state.old }
+    ensures { IsStateOf (plan job.now) state.new }
+{
+    for event in events {
+        state.apply(job, *event)?;
+    }
+    Ok(())
+}
+
+/// The byte that a packet has read as an entry after a run.
+fn read_after(
+    alloc: Global,
+    job: &Job,
+    journal: &Journal,
+    packet: u32,
+    entry: u32,
+) -> Result<Option<u8>, StepFault> {
+    let mut state = State::start(alloc, job)?;
+    walk(&mut state, job, journal.events())?;
+    let packet = packet as usize;
+    if packet >= state.packets() {
+        return Ok(None);
+    }
+    Ok(state.read_byte(packet, entry as usize))
+}
+
+/// The byte of a place after a run: a read one, or one of memory as a replay leaves it.
+fn byte_after(alloc: Global, job: &Job, journal: &Journal, place: Place) -> Option<u8> {
+    let Ok(memory) = replay(alloc, job, journal) else {
+        return None;
+    };
+    match place {
+        Place::Memory { byte } => memory.get(byte as usize).copied(),
+        Place::Read { packet, entry } => match read_after(alloc, job, journal, packet, entry) {
+            Ok(byte) => byte,
+            Err(_) => None,
+        },
+    }
+}
+
+/// Whether a witness says so, and both runs replay to these bytes.
+fn is_told(rt: &impl Abort, alloc: Global, job: &Job, witness: &Witness, told: &Told) {
+    assert!(rt; witness.pair() == told.pair);
+    assert!(rt; witness.kind() == told.kind && witness.why() == told.why);
+    assert!(rt; witness.place() == told.place);
+    assert!(rt; witness.good_origin() == told.origins.0);
+    assert!(rt; witness.bad_origin() == told.origins.1);
+    assert!(rt; byte_after(alloc, job, witness.good(), told.place) == Some(told.bytes.0));
+    assert!(rt; byte_after(alloc, job, witness.bad(), told.place) == Some(told.bytes.1));
+}
+
+/// Whether a job's witness says so.
+fn shows(rt: &impl Abort, alloc: Global, text: &[u8], told: &Told) {
+    let Ok(job) = read_text(alloc, text) else {
+        assert!(rt; false);
+        return;
+    };
+    match witness(alloc, &job) {
+        Ok(witness) => is_told(rt, alloc, &job, &witness, told),
+        Err(_) => assert!(rt; false),
+    }
+}
+
+#[test]
+fn old_byte_read(rt: HostRuntime) {
+    let told = Told {
+        pair: (0, 1),
+        kind: Kind::WriteRead,
+        why: Why::NotAcquired,
+        place: Place::Read {
+            packet: 1,
+            entry: 0,
+        },
+        origins: (Origin::StoredBy { packet: 0 }, Origin::Start),
+        bytes: (7, 0),
+    };
+    shows(&rt, rt.alloc(), NO_ACQUIRE, &told);
+    let unordered = Told {
+        why: Why::Unordered,
+        ..told
+    };
+    shows(&rt, rt.alloc(), NO_BIT, &unordered);
+    shows(&rt, rt.alloc(), RING, &unordered);
+}
+
+#[test]
+fn old_byte_read_past_a_chain(rt: HostRuntime) {
+    let told = Told {
+        pair: (0, 4),
+        kind: Kind::WriteRead,
+        why: Why::NotAcquired,
+        place: Place::Read {
+            packet: 4,
+            entry: 0,
+        },
+        origins: (Origin::StoredBy { packet: 0 }, Origin::Start),
+        bytes: (7, 0),
+    };
+    shows(&rt, rt.alloc(), CHAIN, &told);
+}
+
+#[test]
+fn older_byte_last(rt: HostRuntime) {
+    let told = Told {
+        pair: (0, 2),
+        kind: Kind::WriteWrite,
+        why: Why::NotReleased,
+        place: Place::Memory { byte: 0 },
+        origins: (
+            Origin::StoredBy { packet: 2 },
+            Origin::StoredBy { packet: 0 },
+        ),
+        bytes: (9, 7),
+    };
+    shows(&rt, rt.alloc(), OLDER, &told);
+}
+
+#[test]
+fn none_where_ordered_or_stuck(rt: HostRuntime) -> Result<(), Fail> {
+    let job = read_text(rt.alloc(), ORDERED)?;
+    assert!(rt; matches!(witness(rt.alloc(), &job), Err(WitnessNo::Ordered)));
+    let job = read_text(rt.alloc(), STUCK)?;
+    let Err(WitnessNo::Stuck(packets)) = witness(rt.alloc(), &job) else {
+        return Err("not stuck".into());
+    };
+    assert!(rt; packets.as_slice() == [0, 1].as_slice());
+    Ok(())
+}

@@ -1,0 +1,3 @@
+pub mod Traces
+pub mod Runs
+pub mod Answering

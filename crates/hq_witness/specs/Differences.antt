@@ -1,0 +1,34 @@
+-- Where two traces differ, and runs that were found to.
+use Rattle.std.specs.Prelude.{◌≡◌, ◌≢◌, ℕ, ◌<◌, List, length, slice_index_or}
+use Rattle.hq_model.specs.Job.{Job}
+use Rattle.hq_witness.specs.declared.attempt.Found.{Found}
+use Rattle.hq_witness.specs.declared.difference.Difference.{Difference}
+use Rattle.hq_witness.specs.declared.origin.Origin.{Origin}
+use Rattle.hq_witness.specs.declared.place.Place.{Place}
+use Rattle.hq_witness.specs.declared.place.Place.TheVariants as place
+use Rattle.hq_witness.specs.declared.trace.Sighting.{Sighting}
+use Rattle.hq_witness.specs.declared.trace.Trace.{Trace}
+use Rattle.hq_witness.specs.Origins.{IsPlace}
+use Rattle.hq_witness.specs.Witness.{IsWholeRun}
+
+-- it is one of the list
+abbrev pub Has : List Sighting → Sighting → Type 0
+Has xs s = (k : ℕ) × (k < length xs) × (s ≡ slice_index_or xs k s)
+
+-- The trace has this origin for the place.
+abbrev pub TellsAt : Trace → Place → Origin → Type 0
+TellsAt t (place.Read p i) x = Has t.reads.items (record { packet = p; entry = i; origin = x })
+TellsAt t (place.Memory b) x = (b ≡ t.byte) × (t.memory ≡ x)
+
+-- Each trace has the origin that is told of, and the two differ.
+pub record TellApart (good bad : Trace) (d : Difference) : Type 0 where
+  pub in_good : TellsAt good d.place d.good
+  pub in_bad : TellsAt bad d.place d.bad
+  pub differ : d.good ≢ d.bad
+
+-- two whole runs that differ in a place
+pub record AreFound (job : Job) (f : Found) : Type 0 where
+  pub place : IsPlace job f.difference.place
+  pub good : IsWholeRun job f.good f.difference.place f.difference.good
+  pub bad : IsWholeRun job f.bad f.difference.place f.difference.bad
+  pub differ : f.difference.good ≢ f.difference.bad

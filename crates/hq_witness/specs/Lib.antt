@@ -1,0 +1,4 @@
+pub mod Origins
+pub mod Traces
+pub mod Witness
+pub mod Differences

@@ -1,0 +1,96 @@
+//! One attempt to show a conflict.
+
+ghost use Rattle.std.specs.Prelude.{IfOk, IfSome};
+ghost use Rattle.hq_job.specs.Plan.{plan};
+ghost use Rattle.hq_model.specs.Machine.{IsByte};
+ghost use Rattle.hq_witness.specs.Differences.{AreFound};
+ghost use Rattle.hq_witness.specs.Traces.{IsRecording};
+
+use crate::difference::{Difference, apart};
+use crate::eager::{in_order, with_first};
+use crate::late::late;
+use crate::recording::Recording;
+use crate::target::Target;
+use hq_fence::Why;
+use hq_job::Job;
+use hq_machine::Journal;
+use hq_order::Before;
+use std::alloc::{AllocError, Global};
+
+/// Two runs, and where they differ.
+#[derive(Drop)]
+pub struct Found {
+    pub difference: Difference,
+    pub good: Journal,
+    pub bad: Journal,
+}
+
+/// The two runs, where both are over and they differ.
+fn compare(job: &Job, good: Recording, bad: Recording) -> Option<Found>
+    requires good { IsRecording (plan job.now) good }
+    requires bad { IsRecording (plan job.now) bad }
+    ensures { IfSome result (AreFound (plan job.now)) }
+{
+    if !good.is_over(job) || !bad.is_over(job) {
+        return None;
+    }
+    let difference = apart(&good.trace, &bad.trace)?;
+    Some(Found {
+        difference,
+        good: good.into_journal(),
+        bad: bad.into_journal(),
+    })
+}
+
+/// Two runs of a conflict whose packets nothing orders: with the one first, and with the other first.
+fn exchanged(
+    alloc: Global,
+    job: &Job,
+    before: &Before,
+    order: &[u16],
+    target: &Target,
+) -> Result<Option<Found>, AllocError>
+    requires { IsByte (plan job.now) target.now.byte }
+    ensures { IfOk result (λ found. IfSome found (AreFound (plan job.now))) }
+{
+    let good = with_first(alloc, job, before, order, target.p, target.r, target.byte)?;
+    let bad = with_first(alloc, job, before, order, target.r, target.p, target.byte)?;
+    Ok(compare(job, good, bad))
+}
+
+/// Two runs of a conflict whose packets are ordered, but not by fences: one by one, and with the byte written back late.
+fn delayed(
+    alloc: Global,
+    job: &Job,
+    before: &Before,
+    order: &[u16],
+    target: &Target,
+) -> Result<Option<Found>, AllocError>
+    requires { IsByte (plan job.now) target.now.byte }
+    ensures { IfOk result (λ found. IfSome found (AreFound (plan job.now))) }
+{
+    let good = in_order(alloc, job, order, target.byte)?;
+    let bad = late(alloc, job, before, order, target)?;
+    Ok(compare(job, good, bad))
+}
+
+/// Two runs that differ in the target's byte, if those that are built for it do. Where packets aren't ordered, but can't be exchanged
+/// since they need each other's slot, they may be shown as if they were.
+pub fn attempt(
+    alloc: Global,
+    job: &Job,
+    before: &Before,
+    order: &[u16],
+    target: &Target,
+) -> Result<Option<Found>, AllocError>
+    requires { IsByte (plan job.now) target.now.byte }
+    ensures { IfOk result (λ found. IfSome found (AreFound (plan job.now))) }
+{
+    if target.why == Why::Unordered {
+        let found = exchanged(alloc, job, before, order, target)?;
+        if found.is_some() || !job.rings() {
+            return Ok(found);
+        }
+    }
+    delayed(alloc, job, before, order, target)
+}

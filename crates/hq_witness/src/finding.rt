@@ -1,0 +1,191 @@
+//! The search for a witness.
+
+ghost use Rattle.std.specs.Prelude.{◌≡◌, ◌<◌, IfErr, IfOk, IfSome, length};
+ghost use Rattle.hq_audit.specs.declared.fault.AuditNo.TheVariants.{Conflict};
+ghost use Rattle.hq_audit.specs.Refused.{IsRefused};
+ghost use Rattle.hq_job.specs.Plan.{plan};
+ghost use Rattle.hq_model.specs.Fence.{Ordered};
+ghost use Rattle.hq_witness.specs.Differences.{AreFound};
+ghost use Rattle.hq_witness.specs.Witness.{IsNo, IsOrderedOrMemory, IsWitness};
+
+use crate::attempt::{Found, attempt};
+use crate::fault::WitnessNo;
+use crate::target::Target;
+use crate::value::Witness;
+use hq_audit::laws::ordered_is_not_refused;
+use hq_audit::{AuditNo, direct, verdict};
+use hq_fence::{Kind, Why};
+use hq_job::Job;
+use hq_order::{Before, schedule};
+use std::alloc::{AllocError, Global};
+
+/// At most so many attempts are made in all, of one pair, and where packets read and write many bytes.
+const MOST: u32 = 24;
+
+const MOST_OF_PAIR: u32 = 6;
+
+const MOST_OF_LARGE: u32 = 3;
+
+/// From so many bytes on that packets read and write a job is large.
+const LARGE: u64 = 200_000;
+
+/// What an attempt needs of the job: its order, and how many bytes of memory it has.
+#[derive(Clone, Copy)]
+struct Known<'a> {
+    before: &'a Before<'a>,
+    order: &'a [u16],
+    bytes: usize,
+}
+
+/// How many bytes memory has.
+fn byte_total(alloc: Global, job: &Job) -> Result<usize, AllocError>
+    ensures { IfOk result (λ n. n ≡ length (plan job.now).memory) }
+{
+    let memory = job.memory(alloc)?;
+    Ok(memory.len())
+}
+
+/// How many attempts are made.
+fn attempts(job: &Job) -> u32 {
+    let mut bytes: u64 = 0;
+    for placed in job.packets() {
+        let [first, second] = placed.bytes.reads;
+        for range in [first, second, placed.bytes.write] {
+            bytes = bytes.saturating_add(range.len);
+        }
+    }
+    if bytes < LARGE { MOST } else { MOST_OF_LARGE }
+}
+
+/// Two runs that show the conflict of a pair by one of its bytes, with so many attempts left.
+fn show_pair(
+    alloc: Global,
+    job: &Job,
+    known: Known,
+    mut target: Target,
+    left: &mut u32,
+) -> Result<Option<Found>, AllocError>
+    requires { known.bytes ≡ length (plan job.now).memory }
+    ensures { IfOk result (λ found. IfSome found (AreFound (plan job.now))) }
+{
+    let least = left.saturating_sub(MOST_OF_PAIR);
+    for byte in target.bytes(job) {
+        target.byte = byte;
+        if *left > least && (byte as usize) < known.bytes && target.is_shared(job) {
+            *left -= 1;
+            let found = attempt(alloc, job, known.before, known.order, &target)?;
+            if found.is_some() {
+                return Ok(found);
+            }
+        }
+    }
+    Ok(None)
+}
+
+/// Two runs that show a conflict of a packet with one above it.
+fn show_row(
+    alloc: Global,
+    job: &Job,
+    known: Known,
+    a: usize,
+    left: &mut u32,
+) -> Result<Option<Found>, AllocError>
+    requires packet { a < length known.before.now.packets }
+    requires bytes { known.bytes ≡ length (plan job.now).memory }
+    ensures { IfOk result (λ found. IfSome found (AreFound (plan job.now))) }
+{
+    let count = known.before.len();
+    for b in a + 1..count {
+        if *left == 0 {
+            return Ok(None);
+        }
+        if let Err(unshown) = direct(known.before, a, b) {
+            let target = Target {
+                p: unshown.p as u32,
+                r: unshown.r as u32,
+                kind: unshown.fault.kind,
+                why: unshown.fault.why,
+                byte: 0,
+            };
+            let found = show_pair(alloc, job, known, target, left)?;
+            if found.is_some() {
+                return Ok(found);
+            }
+        }
+    }
+    Ok(None)
+}
+
+/// Two runs that show some conflict that isn't ordered: the first one, or one behind it.
+fn show(alloc: Global, job: &Job) -> Result<Option<Found>, AllocError>
+    ensures { IfOk result (λ found. IfSome found (AreFound (plan job.now))) }
+{
+    let Ok(order) = schedule(alloc, job) else {
+        return Err(AllocError);
+    };
+    let Ok(before) = Before::build(alloc, job) else {
+        return Err(AllocError);
+    };
+    let known = Known {
+        before: &before,
+        order: &order,
+        bytes: byte_total(alloc, job)?,
+    };
+    let mut left = attempts(job);
+    for a in 0..before.len() {
+        let found = show_row(alloc, job, known, a, &mut left)?;
+        if found.is_some() {
+            return Ok(found);
+        }
+    }
+    Ok(None)
+}
+
+/// The two runs that show that the conflict which the audit refuses may go wrong.
+fn witness_of(
+    alloc: Global,
+    job: &Job,
+    p: u16,
+    r: u16,
+    kind: Kind,
+    why: Why,
+) -> Result<Witness, WitnessNo>
+    requires { IsRefused (plan job.now) (Conflict p r kind why) }
+    ensures is { IfOk result (λ w. IsWitness (plan job.now) w) }
+    ensures no { IfErr result (λ no. IsNo (plan job.now) no) }
+{
+    let Some(found) = show(alloc, job)? else {
+        return Err(WitnessNo::None { p, r, kind, why });
+    };
+    Ok(Witness {
+        p,
+        r,
+        kind,
+        why,
+        place: found.difference.place,
+        good: found.good,
+        good_origin: found.difference.good,
+        bad: found.bad,
+        bad_origin: found.difference.bad,
+    })
+}
+
+/// Two runs of a job that isn't ordered in which an entry that a packet reads, or a byte of memory at the end, comes from elsewhere.
+///
+/// # Errors
+///
+/// `Ordered`, exactly where the job is ordered. `Stuck` with the packets that can never complete, as an
+/// audit says them. `None` with the conflict that an audit refuses, where no two runs were found; nothing is said of whether there are
+/// some. `Memory`.
+pub fn witness(alloc: Global, job: &Job) -> Result<Witness, WitnessNo>
+    ensures is { IfOk result (λ w. IsWitness (plan job.now) w) }
+    ensures no { IfErr result (λ no. IsNo (plan job.now) no) }
+    ensures ordered { Ordered (plan job.now) → IfErr result IsOrderedOrMemory }
+{
+    ordered_is_not_refused();
+    match verdict(alloc, job) {
+        Ok(()) => Err(WitnessNo::Ordered),
+        Err(AuditNo::Conflict { p, r, kind, why }) => { witness_of(alloc, job, p, r, kind, why) }
+        Err(no) => Err(WitnessNo::from(no)),
+    }
+}
