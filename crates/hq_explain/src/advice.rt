@@ -70,6 +70,51 @@ fn push(list: &mut Vec<Advice>, advice: Advice) -> Result<(), ExplainFault>
     Ok(())
 }
 
+/// Puts behind an empty list what of each packet would order a and b by itself, where `bits` has the packets whose bit would.
+fn advise(
+    mut trial: Trial,
+    job: &Job,
+    bits: &[u64],
+    a: usize,
+    b: usize,
+    list: &mut Vec<Advice>,
+) -> Result<(), ExplainFault>
+    requires trial { IsTrial (plan job.now) trial }
+    requires a_is { a < length (plan job.now).packets }
+    requires b_is { b < length (plan job.now).packets }
+    requires bits { (p : ℕ) → IsTrue (has bits.now p) ↔ Orders (plan job.now) a b p change.Bit }
+    requires empty { list.old.items ≡ [] }
+    ensures memory { IfErr result (λ e. e ≡ Memory) }
+    ensures advice { OnOk result (AreAdvice (plan job.now) a b list.new.items) }
+{
+    for p in 0..job.packets().len() {
+        let (advice, next) = advice_of(trial, job, bits, a, b, p);
+        push(list, advice)?;
+        trial = next;
+    }
+    Ok(())
+}
+
+/// What of each packet would order a and b by itself, where `bits` has the packets whose bit would.
+fn advice_with(
+    alloc: Global,
+    job: &Job,
+    bits: &[u64],
+    a: usize,
+    b: usize,
+) -> Result<Vec<Advice>, ExplainFault>
+    requires a_is { a < length (plan job.now).packets }
+    requires b_is { b < length (plan job.now).packets }
+    requires bits { (p : ℕ) → IsTrue (has bits.now p) ↔ Orders (plan job.now) a b p change.Bit }
+    ensures memory { IfErr result (λ e. e ≡ Memory) }
+    ensures advice { IfOk result (λ list. AreAdvice (plan job.now) a b list.items) }
+{
+    let mut list = Vec::with_capacity(alloc, job.packets().len())?;
+    let trial = Trial::build(alloc, job)?;
+    advise(trial, job, bits, a, b, &mut list)?;
+    Ok(list)
+}
+
 /// What of each packet would order a and b by itself.
 pub fn advice_on(alloc: Global, job: &Job, a: usize, b: usize) -> Result<Vec<Advice>, ExplainFault>
     requires a_is { a < length (plan job.now).packets }
@@ -77,14 +122,6 @@ pub fn advice_on(alloc: Global, job: &Job, a: usize, b: usize) -> Result<Vec<Adv
     ensures memory { IfErr result (λ e. e ≡ Memory) }
     ensures advice { IfOk result (λ list. AreAdvice (plan job.now) a b list.items) }
 {
-    let count = job.packets().len();
     let bits = bits_of(alloc, job, a, b)?;
-    let mut list = Vec::with_capacity(alloc, count)?;
-    let mut trial = Trial::build(alloc, job)?;
-    for p in 0..count {
-        let (advice, next) = advice_of(trial, job, &bits, a, b, p);
-        push(&mut list, advice)?;
-        trial = next;
-    }
-    Ok(list)
+    advice_with(alloc, job, &bits, a, b)
 }

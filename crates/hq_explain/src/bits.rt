@@ -29,6 +29,17 @@ fn set_bits(job: &mut Job, lo: usize, hi: usize)
     }
 }
 
+/// Whether a job orders a and b.
+fn orders(alloc: Global, job: &Job, a: usize, b: usize) -> Result<bool, ExplainFault>
+    requires a_is { IsPacket (plan job.now) a }
+    requires b_is { IsPacket (plan job.now) b }
+    ensures memory { IfErr result (λ e. e ≡ Memory) }
+    ensures ordered { IfOk result (λ yes. IsTrue yes ↔ ShownOneWay (plan job.now) a b) }
+{
+    let before = Before::build(alloc, job)?;
+    Ok(is_ordered(&before, a, b))
+}
+
 /// Whether the barrier bits of the packets from `lo` up to `hi`, all of them together, order a and b.
 fn bits_order(
     alloc: Global,
@@ -47,8 +58,7 @@ fn bits_order(
 {
     let mut copy = job.copy(alloc)?;
     set_bits(&mut copy, lo, hi);
-    let before = Before::build(alloc, &copy)?;
-    Ok(is_ordered(&before, a, b))
+    orders(alloc, &copy, a, b)
 }
 
 /// Notes the packet where its bit isn't set: with it, a and b are ordered.

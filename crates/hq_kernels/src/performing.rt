@@ -1,6 +1,6 @@
 //! A packet's pieces go through its body.
 
-ghost use Rattle.std.specs.Prelude.{◌≡◌, ◌+◌, ◌≤◌, true, [], ◌++◌, length, vec_len, vec_capacity, IfOk, OnOk};
+ghost use Rattle.std.specs.Prelude.{◌≡◌, ◌+◌, ◌≤◌, ◌<◌, true, [], ◌++◌, length, vec_len, vec_capacity, IfOk, OnOk};
 ghost use Rattle.hq_kernels.specs.Bodies.{Performs, pieces_of};
 ghost use Rattle.hq_kernels.specs.Kits.{value_of};
 
@@ -25,6 +25,24 @@ impl Body {
         Ok(())
     }
 
+    /// Takes the first piece from the body.
+    fn unload_one(&mut self, pieces: &mut Vec<Piece>)
+        requires some { 0 < length (value_of (λ b. kernel b) (λ b. service b) self.old).held }
+        requires room { vec_len pieces.old < vec_capacity pieces.old }
+        ensures task { (value_of (λ b. kernel b) (λ b. service b) self.new).task ≡ (value_of (λ b. kernel b) (λ b. service b) self.old).task }
+        ensures ran { (value_of (λ b. kernel b) (λ b. service b) self.new).ran ≡ (value_of (λ b. kernel b) (λ b. service b) self.old).ran }
+        ensures held { pieces.new.items ++ (value_of (λ b. kernel b) (λ b. service b) self.new).held ≡ pieces.old.items ++ (value_of (λ b. kernel b) (λ b. service b) self.old).held }
+        ensures count { vec_len pieces.new ≡ vec_len pieces.old + 1 }
+        ensures room { vec_capacity pieces.old ≤ vec_capacity pieces.new }
+    {
+        let Some(piece) = self.give_back() else {
+            unreachable!()
+        };
+        if pieces.push(piece).is_err() {
+            unreachable!()
+        }
+    }
+
     /// Takes so many pieces from the body, from the first on.
     fn unload(&mut self, count: usize, pieces: &mut Vec<Piece>)
         requires count { count ≤ length (value_of (λ b. kernel b) (λ b. service b) self.old).held }
@@ -35,12 +53,7 @@ impl Body {
         ensures count { vec_len pieces.new ≡ vec_len pieces.old + count }
     {
         for _ in 0..count {
-            let Some(piece) = self.give_back() else {
-                unreachable!()
-            };
-            if pieces.push(piece).is_err() {
-                unreachable!()
-            }
+            self.unload_one(pieces);
         }
     }
 

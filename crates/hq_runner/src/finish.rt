@@ -1,7 +1,10 @@
 //! The end of a run: what the processors did is compared with the journal.
 
-ghost use Rattle.std.specs.Prelude.{◌≡◌, ℕ, ◌<◌, None, IfOk, IfErr, IfNone, OnOk, length};
+ghost use Rattle.std.specs.Prelude.{◌≡◌, ℕ, ◌<◌, List, None, IfOk, IfErr, IfNone, OnOk, length};
+ghost use Rattle.hq_hall.specs.View.{AddsAlone};
 ghost use Rattle.hq_job.specs.Plan.{plan};
+ghost use Rattle.hq_job.specs.declared.rows.Placed.{Placed};
+ghost use Rattle.hq_machine.specs.declared.event.Event.TheVariants as event;
 ghost use Rattle.hq_machine.specs.View.{state_of};
 ghost use Rattle.hq_model.specs.Job.{IsPacket};
 ghost use Rattle.hq_model.specs.Machine.{Phase as phase};
@@ -119,6 +122,31 @@ fn check(job: &Job, hall: &Hall, host: &Hosted, all: &[Ended]) -> Result<(), Run
     }
 }
 
+/// Makes the rest happen.
+fn rest(hall: &mut Hall) -> Result<(), RunFault>
+    ensures rests { OnOk result (AddsAlone hall.old event.Rest hall.new) }
+    ensures counted { IfErr result (λ e. (packets : List Placed) → IsCounted packets e) }
+{
+    match hall.rest() {
+        Ok(()) => Ok(()),
+        Err(HallFault::Memory) => Err(RunFault::Memory),
+        Err(_) => Err(RunFault::Unfinished),
+    }
+}
+
+/// Makes the rest happen, and copies out the memory that it leaves.
+fn rested(alloc: Global, hall: &mut Hall) -> Result<Vec<u8>, RunFault>
+    ensures rests { OnOk result (AddsAlone hall.old event.Rest hall.new) }
+    ensures memory { IfOk result (λ memory. memory.items ≡ hall.new.state.copies.memory) }
+    ensures counted { IfErr result (λ e. (packets : List Placed) → IsCounted packets e) }
+{
+    rest(hall)?;
+    match hall.memory().to_vec(alloc) {
+        Ok(memory) => Ok(memory),
+        Err(_) => Err(RunFault::Memory),
+    }
+}
+
 /// Rests, and takes out what the run leaves.
 fn close(
     alloc: Global,
@@ -136,21 +164,18 @@ fn close(
 {
     accepted.ordered();
     hall.run_so_far();
-    match hall.rest() {
-        Ok(()) => {}
-        Err(HallFault::Memory) => return Err(RunFault::Memory),
-        Err(_) => return Err(RunFault::Unfinished),
+    match rested(alloc, &mut hall) {
+        Ok(memory) => {
+            hall.run_so_far();
+            let journal = hall.into_journal();
+            Ok(Outcome {
+                memory,
+                journal,
+                kits,
+            })
+        }
+        Err(fault) => Err(fault),
     }
-    hall.run_so_far();
-    let Ok(memory) = hall.memory().to_vec(alloc) else {
-        return Err(RunFault::Memory);
-    };
-    let journal = hall.into_journal();
-    Ok(Outcome {
-        memory,
-        journal,
-        kits,
-    })
 }
 
 /// What is told of a run in which this fault was met.

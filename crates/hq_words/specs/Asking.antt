@@ -32,6 +32,14 @@ AsksWith name job certificate timeline out copies pair second all (Fix a) = (nam
 AsksWith name job certificate timeline out copies pair second all (Trim a) = (name ≡ codes "trim") × (job ≡ Some a.now)
 AsksWith name job certificate timeline out copies pair second all (Explain a b c d) = (name ≡ codes "explain") × (job ≡ Some a.now) × (pair ≡ option_map (λ p. p.now) b) × (second ≡ option_map (λ p. p.now) c) × (d ≡ is_set all)
 
+-- a command that takes a job alone, whatever other words there are
+abbrev pub AsksAlone : Text → Text → Asked → Type 0
+AsksAlone name job asked = (certificate timeline out copies pair second all : Option Text) → AsksWith name (Some job) certificate timeline out copies pair second all asked
+
+-- a command that takes a job and a second file, whatever is said of pairs
+abbrev pub AsksOfTwo : Text → Text → Option Text → Option Text → Option Text → Option Text → Asked → Type 0
+AsksOfTwo name job certificate timeline out copies asked = (pair second all : Option Text) → AsksWith name (Some job) certificate timeline out copies pair second all asked
+
 -- so it is with the words that stand for the arguments
 abbrev pub AsksOf : Text → List Row → Asked → Type 0
 AsksOf name rows asked =

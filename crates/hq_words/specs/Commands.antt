@@ -74,9 +74,18 @@ program_app =
     let new = new_app (codes "hsaq") in
     record new { top = record new.top { has_version = true; no_binary_name = true; subcommand_required = true } }
 
+-- the program with the commands that judge a job, then those of runs, those that explain a job, those that change it, and all
+abbrev pub judging_app : App
+judging_app = with_subcommand (with_subcommand program_app audit_app.top) check_app.top
+
+abbrev pub running_app : App
+running_app = with_subcommand (with_subcommand (with_subcommand judging_app run_app.top) replay_app.top) chart_app.top
+
+abbrev pub telling_app : App
+telling_app = with_subcommand (with_subcommand running_app graph_app.top) explain_app.top
+
+abbrev pub changing_app : App
+changing_app = with_subcommand (with_subcommand telling_app fix_app.top) trim_app.top
+
 abbrev pub hsaq_app : App
-hsaq_app =
-    let judging = with_subcommand (with_subcommand program_app audit_app.top) check_app.top in
-    let running = with_subcommand (with_subcommand (with_subcommand judging run_app.top) replay_app.top) chart_app.top in
-    let changing = with_subcommand (with_subcommand (with_subcommand (with_subcommand running graph_app.top) explain_app.top) fix_app.top) trim_app.top in
-    with_subcommand (with_subcommand changing show_app.top) pack_app.top
+hsaq_app = with_subcommand (with_subcommand changing_app show_app.top) pack_app.top

@@ -1,9 +1,9 @@
 //! The program's commands as `clap` reads them.
 
 ghost use Rattle.std.specs.Prelude.{◌≡◌, IfOk, IsOkAnd, false};
-ghost use Rattle.clap.specs.Words.{app_of, rule_of, with_rule, with_subcommand};
+ghost use Rattle.clap.specs.Words.{app_of, new_app, rule_of, with_rule, with_subcommand};
 ghost use Rattle.clap.specs.declared.builder.command.Command.TheViews.{out-Command as fields_of};
-ghost use Rattle.hq_words.specs.Commands.{job_rule, file_rule, timeline_rule, show_app, audit_app, check_app, out_rule, pack_app, replay_app, copies_rule, chart_app, graph_app, pair_rule, second_rule, all_rule, explain_app, fix_app, trim_app, run_app, program_app, hsaq_app};
+ghost use Rattle.hq_words.specs.Commands.{job_rule, file_rule, timeline_rule, show_app, audit_app, check_app, out_rule, pack_app, replay_app, copies_rule, chart_app, graph_app, pair_rule, second_rule, all_rule, explain_app, fix_app, trim_app, run_app, program_app, judging_app, running_app, telling_app, changing_app, hsaq_app};
 
 use clap::{Arg, ArgAction, Command};
 use std::alloc::{AllocError, Global};
@@ -142,16 +142,36 @@ fn all<'a>(alloc: Global) -> Arg<'a>
         .help("Explains all pairs that conflict, and not only the first hundred")
 }
 
+/// A command of this name on a job: what it does, how it is called, and what its exit status says.
+fn of_job<'a>(
+    alloc: Global,
+    name: &'a str,
+    about: &'a str,
+    usage: &'a str,
+    status: &'a str,
+) -> Result<Command<'a>, AllocError>
+    ensures app { IfOk result (λ c. app_of c ≡ with_rule (new_app name.entry.now) job_rule) }
+    ensures local { IfOk result (λ c. (fields_of c).has_globals ≡ false) }
+{
+    Command::new(alloc, name)
+        .about(about)
+        .override_usage(usage)
+        .after_help(status)
+        .arg(job(alloc))
+}
+
 /// `show JOB`
 fn show<'a>(alloc: Global) -> Result<Command<'a>, AllocError>
     ensures app { IfOk result (λ c. app_of c ≡ show_app) }
     ensures local { IfOk result (λ c. (fields_of c).has_globals ≡ false) }
 {
-    Command::new(alloc, "show")
-        .about("Prints a job's packets, one line each")
-        .override_usage("hsaq show <JOB>")
-        .after_help(SHOW_STATUS)
-        .arg(job(alloc))
+    of_job(
+        alloc,
+        "show",
+        "Prints a job's packets, one line each",
+        "hsaq show <JOB>",
+        SHOW_STATUS,
+    )
 }
 
 /// `audit JOB`
@@ -159,13 +179,13 @@ fn audit<'a>(alloc: Global) -> Result<Command<'a>, AllocError>
     ensures app { IfOk result (λ c. app_of c ≡ audit_app) }
     ensures local { IfOk result (λ c. (fields_of c).has_globals ≡ false) }
 {
-    Command::new(alloc, "audit")
-        .about(
-            "Prints a certificate that orders every conflict, or the conflict that nothing orders",
-        )
-        .override_usage("hsaq audit <JOB>")
-        .after_help(AUDIT_STATUS)
-        .arg(job(alloc))
+    of_job(
+        alloc,
+        "audit",
+        "Prints a certificate that orders every conflict, or the conflict that nothing orders",
+        "hsaq audit <JOB>",
+        AUDIT_STATUS,
+    )
 }
 
 /// `check JOB CERT`
@@ -173,12 +193,14 @@ fn check<'a>(alloc: Global) -> Result<Command<'a>, AllocError>
     ensures app { IfOk result (λ c. app_of c ≡ check_app) }
     ensures local { IfOk result (λ c. (fields_of c).has_globals ≡ false) }
 {
-    Command::new(alloc, "check")
-        .about("Checks a certificate against a job")
-        .override_usage("hsaq check <JOB> <CERT>")
-        .after_help(CHECK_STATUS)
-        .arg(job(alloc))?
-        .arg(certificate(alloc))
+    of_job(
+        alloc,
+        "check",
+        "Checks a certificate against a job",
+        "hsaq check <JOB> <CERT>",
+        CHECK_STATUS,
+    )?
+    .arg(certificate(alloc))
 }
 
 /// `run JOB [--timeline OUT]`
@@ -186,14 +208,14 @@ fn run<'a>(alloc: Global) -> Result<Command<'a>, AllocError>
     ensures app { IfOk result (λ c. app_of c ≡ run_app) }
     ensures local { IfOk result (λ c. (fields_of c).has_globals ≡ false) }
 {
-    Command::new(alloc, "run")
-        .about(
-            "Audits and checks a job, runs it with a thread for each queue, and prints the buffers as the run leaves them",
-        )
-        .override_usage("hsaq run <JOB> [--timeline <OUT>]")
-        .after_help(RUN_STATUS)
-        .arg(job(alloc))?
-        .arg(out(alloc))
+    of_job(
+        alloc,
+        "run",
+        "Audits and checks a job, runs it with a thread for each queue, and prints the buffers as the run leaves them",
+        "hsaq run <JOB> [--timeline <OUT>]",
+        RUN_STATUS,
+    )?
+    .arg(out(alloc))
 }
 
 /// `replay JOB TIMELINE`
@@ -201,12 +223,14 @@ fn replay<'a>(alloc: Global) -> Result<Command<'a>, AllocError>
     ensures app { IfOk result (λ c. app_of c ≡ replay_app) }
     ensures local { IfOk result (λ c. (fields_of c).has_globals ≡ false) }
 {
-    Command::new(alloc, "replay")
-        .about("Replays a timeline on a job, and prints the buffers as it leaves them")
-        .override_usage("hsaq replay <JOB> <TIMELINE>")
-        .after_help(REPLAY_STATUS)
-        .arg(job(alloc))?
-        .arg(timeline(alloc))
+    of_job(
+        alloc,
+        "replay",
+        "Replays a timeline on a job, and prints the buffers as it leaves them",
+        "hsaq replay <JOB> <TIMELINE>",
+        REPLAY_STATUS,
+    )?
+    .arg(timeline(alloc))
 }
 
 /// `chart JOB TIMELINE [--copies]`
@@ -214,13 +238,15 @@ fn chart<'a>(alloc: Global) -> Result<Command<'a>, AllocError>
     ensures app { IfOk result (λ c. app_of c ≡ chart_app) }
     ensures local { IfOk result (λ c. (fields_of c).has_globals ≡ false) }
 {
-    Command::new(alloc, "chart")
-        .about("Draws a timeline as an SVG picture: what each packet did when")
-        .override_usage("hsaq chart <JOB> <TIMELINE> [--copies]")
-        .after_help(CHART_STATUS)
-        .arg(job(alloc))?
-        .arg(timeline(alloc))?
-        .arg(copies(alloc))
+    of_job(
+        alloc,
+        "chart",
+        "Draws a timeline as an SVG picture: what each packet did when",
+        "hsaq chart <JOB> <TIMELINE> [--copies]",
+        CHART_STATUS,
+    )?
+    .arg(timeline(alloc))?
+    .arg(copies(alloc))
 }
 
 /// `graph JOB`
@@ -228,11 +254,13 @@ fn graph<'a>(alloc: Global) -> Result<Command<'a>, AllocError>
     ensures app { IfOk result (λ c. app_of c ≡ graph_app) }
     ensures local { IfOk result (λ c. (fields_of c).has_globals ≡ false) }
 {
-    Command::new(alloc, "graph")
-        .about("Draws a job's order as a DOT graph: what is before what, and each conflict")
-        .override_usage("hsaq graph <JOB>")
-        .after_help(GRAPH_STATUS)
-        .arg(job(alloc))
+    of_job(
+        alloc,
+        "graph",
+        "Draws a job's order as a DOT graph: what is before what, and each conflict",
+        "hsaq graph <JOB>",
+        GRAPH_STATUS,
+    )
 }
 
 /// A command with `--pair P R`.
@@ -248,13 +276,13 @@ fn explain<'a>(alloc: Global) -> Result<Command<'a>, AllocError>
     ensures app { IfOk result (λ c. app_of c ≡ explain_app) }
     ensures local { IfOk result (λ c. (fields_of c).has_globals ≡ false) }
 {
-    let of_job = Command::new(alloc, "explain")
-        .about(
-            "Says why each conflict is ordered or isn't, and which single changes would order it",
-        )
-        .override_usage("hsaq explain <JOB> [--pair <P> <R>] [--all]")
-        .after_help(EXPLAIN_STATUS)
-        .arg(job(alloc))?;
+    let of_job = of_job(
+        alloc,
+        "explain",
+        "Says why each conflict is ordered or isn't, and which single changes would order it",
+        "hsaq explain <JOB> [--pair <P> <R>] [--all]",
+        EXPLAIN_STATUS,
+    )?;
     let of_pair = with_pair(alloc, of_job)?;
     of_pair.arg(all(alloc))
 }
@@ -264,13 +292,13 @@ fn fix<'a>(alloc: Global) -> Result<Command<'a>, AllocError>
     ensures app { IfOk result (λ c. app_of c ≡ fix_app) }
     ensures local { IfOk result (λ c. (fields_of c).has_globals ≡ false) }
 {
-    Command::new(alloc, "fix")
-        .about(
-            "Prints the job with the barrier bits and fences that it lacks, and none that it can do without",
-        )
-        .override_usage("hsaq fix <JOB>")
-        .after_help(FIX_STATUS)
-        .arg(job(alloc))
+    of_job(
+        alloc,
+        "fix",
+        "Prints the job with the barrier bits and fences that it lacks, and none that it can do without",
+        "hsaq fix <JOB>",
+        FIX_STATUS,
+    )
 }
 
 /// `trim JOB`
@@ -278,11 +306,13 @@ fn trim<'a>(alloc: Global) -> Result<Command<'a>, AllocError>
     ensures app { IfOk result (λ c. app_of c ≡ trim_app) }
     ensures local { IfOk result (λ c. (fields_of c).has_globals ≡ false) }
 {
-    Command::new(alloc, "trim")
-        .about("Prints the job without the barrier bits and fences that it doesn't need")
-        .override_usage("hsaq trim <JOB>")
-        .after_help(TRIM_STATUS)
-        .arg(job(alloc))
+    of_job(
+        alloc,
+        "trim",
+        "Prints the job without the barrier bits and fences that it doesn't need",
+        "hsaq trim <JOB>",
+        TRIM_STATUS,
+    )
 }
 
 /// `pack WORDS..`
@@ -326,13 +356,38 @@ fn with<'a>(
     command?.subcommand(below)
 }
 
+/// `hsaq` with the commands that judge a job.
+fn judging<'a>(alloc: Global) -> Result<Command<'a>, AllocError>
+    ensures { IfOk result (λ c. app_of c ≡ judging_app) }
+{
+    with(with(Ok(program(alloc)), audit(alloc)), check(alloc))
+}
+
+/// `hsaq` with those and the commands of runs.
+fn running<'a>(alloc: Global) -> Result<Command<'a>, AllocError>
+    ensures { IfOk result (λ c. app_of c ≡ running_app) }
+{
+    let with_replay = with(with(judging(alloc), run(alloc)), replay(alloc));
+    with(with_replay, chart(alloc))
+}
+
+/// `hsaq` with those and the commands that explain a job.
+fn telling<'a>(alloc: Global) -> Result<Command<'a>, AllocError>
+    ensures { IfOk result (λ c. app_of c ≡ telling_app) }
+{
+    with(with(running(alloc), graph(alloc)), explain(alloc))
+}
+
+/// `hsaq` with those and the commands that change a job.
+fn changing<'a>(alloc: Global) -> Result<Command<'a>, AllocError>
+    ensures { IfOk result (λ c. app_of c ≡ changing_app) }
+{
+    with(with(telling(alloc), fix(alloc)), trim(alloc))
+}
+
 /// `hsaq` with all its commands.
 pub fn hsaq<'a>(alloc: Global) -> Result<Command<'a>, AllocError>
     ensures { IfOk result (λ c. app_of c ≡ hsaq_app) }
 {
-    let judging = with(with(Ok(program(alloc)), audit(alloc)), check(alloc));
-    let running = with(with(with(judging, run(alloc)), replay(alloc)), chart(alloc));
-    let telling = with(with(running, graph(alloc)), explain(alloc));
-    let changing = with(with(telling, fix(alloc)), trim(alloc));
-    with(with(changing, show(alloc)), pack(alloc))
+    with(with(changing(alloc), show(alloc)), pack(alloc))
 }

@@ -3,7 +3,7 @@
 ghost use Rattle.std.specs.Prelude.{◌≡◌, ◌≢◌, [], Some, true, codes, map, option_map, IfOk, IfErr, IfSome};
 ghost use Rattle.clap.specs.Words.{all_of, found_of, rows_of, subcommand_of, subcommand_rows_of, takes};
 ghost use Rattle.hq_words.specs.Commands.{hsaq_app};
-ghost use Rattle.hq_words.specs.Asking.{Asks, AsksFor, AsksWith, is_set, words_or_audit, IsWords};
+ghost use Rattle.hq_words.specs.Asking.{Asks, AsksAlone, AsksFor, AsksOfTwo, AsksWith, is_set, words_or_audit, IsWords};
 
 use crate::command::hsaq;
 use clap::error::ErrorKind;
@@ -146,21 +146,10 @@ fn is_set(flag: Option<&str>) -> bool
     }
 }
 
-/// What the command of a name asks for with these files and these flags.
-fn asked_of_files<'a>(
-    name: &str,
-    job: Option<&'a str>,
-    certificate: Option<&'a str>,
-    timeline: Option<&'a str>,
-    out: Option<&'a str>,
-    copies: Option<&'a str>,
-    pair: Option<&'a str>,
-    second: Option<&'a str>,
-    all: Option<&'a str>,
-) -> Option<Asked<'a>>
-    ensures { IfSome result (AsksWith name.now (option_map (λ j. j.now) job.entry) (option_map (λ c. c.now) certificate.entry) (option_map (λ t. t.now) timeline.entry) (option_map (λ o. o.now) out.entry) (option_map (λ f. f.now) copies.entry) (option_map (λ p. p.now) pair.entry) (option_map (λ p. p.now) second.entry) (option_map (λ f. f.now) all.entry)) }
+/// What the command of a name asks for with a job alone.
+fn asked_of_job<'a>(name: &str, job: &'a str) -> Option<Asked<'a>>
+    ensures { IfSome result (AsksAlone name.now job.entry.now) }
 {
-    let job = job?;
     if name == "show" {
         return Some(Asked::Show { job });
     }
@@ -176,15 +165,20 @@ fn asked_of_files<'a>(
     if name == "trim" {
         return Some(Asked::Trim { job });
     }
-    if name == "explain" {
-        let all = is_set(all);
-        return Some(Asked::Explain {
-            job,
-            pair,
-            second,
-            all,
-        });
-    }
+    None
+}
+
+/// What the command of a name asks for with a job and a second file.
+fn asked_of_two<'a>(
+    name: &str,
+    job: &'a str,
+    certificate: Option<&'a str>,
+    timeline: Option<&'a str>,
+    out: Option<&'a str>,
+    copies: Option<&'a str>,
+) -> Option<Asked<'a>>
+    ensures { IfSome result (AsksOfTwo name.now job.entry.now (option_map (λ c. c.now) certificate.entry) (option_map (λ t. t.now) timeline.entry) (option_map (λ o. o.now) out.entry) (option_map (λ f. f.now) copies.entry)) }
+{
     if name == "run" {
         return Some(Asked::Run { job, timeline: out });
     }
@@ -206,6 +200,36 @@ fn asked_of_files<'a>(
         });
     }
     None
+}
+
+/// What the command of a name asks for with these files and these flags.
+fn asked_of_files<'a>(
+    name: &str,
+    job: Option<&'a str>,
+    certificate: Option<&'a str>,
+    timeline: Option<&'a str>,
+    out: Option<&'a str>,
+    copies: Option<&'a str>,
+    pair: Option<&'a str>,
+    second: Option<&'a str>,
+    all: Option<&'a str>,
+) -> Option<Asked<'a>>
+    ensures { IfSome result (AsksWith name.now (option_map (λ j. j.now) job.entry) (option_map (λ c. c.now) certificate.entry) (option_map (λ t. t.now) timeline.entry) (option_map (λ o. o.now) out.entry) (option_map (λ f. f.now) copies.entry) (option_map (λ p. p.now) pair.entry) (option_map (λ p. p.now) second.entry) (option_map (λ f. f.now) all.entry)) }
+{
+    let job = job?;
+    if name == "explain" {
+        let all = is_set(all);
+        return Some(Asked::Explain {
+            job,
+            pair,
+            second,
+            all,
+        });
+    }
+    match asked_of_job(name, job) {
+        Some(asked) => Some(asked),
+        None => asked_of_two(name, job, certificate, timeline, out, copies),
+    }
 }
 
 /// What is asked for where `clap` accepts words.

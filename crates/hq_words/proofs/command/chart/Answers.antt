@@ -1,9 +1,14 @@
-use Rattle.std.proofs.Common.{ap, ap₂, ◌∙◌}
+use Rattle.std.proofs.Common.{ap₂, ◌∙◌, ◌||◌}
 use Rattle.std.proofs.lemmas.Result.{IfOk-weaker}
 use Rattle.clap.specs.Words.{with_rule}
-use Rattle.clap.specs.Simple.{app_of_fields}
 use Rattle.hq_words.proofs.command.chart.Goals as goal
 
 pub returns-clause-app : goal.returns-clause-app
 returns-clause-app c =
-    IfOk-weaker c.arg-3.result _ _ (λ r adds. adds.shape c.copies.ensures.local ∙ ap₂ with_rule (c.in_ok-arg-2.ensures.shape c.timeline.ensures.local ∙ ap₂ with_rule (c.in_ok-arg.ensures.shape c.job.ensures.local ∙ ap₂ with_rule (ap app_of_fields c.after_help.ensures ∙ ap app_of_fields c.override_usage.ensures ∙ ap app_of_fields c.about.ensures ∙ c.new.ensures.app) c.job.ensures.rule) c.timeline.ensures.rule) c.copies.ensures.rule) c.arg-3.ensures
+    IfOk-weaker c.arg-2.result _ _ (λ r adds.
+    adds.shape c.copies.ensures.local ∙ ap₂ with_rule (c.in_ok-arg.ensures.shape c.timeline.ensures.local ∙ ap₂ with_rule c.in_ok-of_job.ensures.app c.timeline.ensures.rule) c.copies.ensures.rule) c.arg-2.ensures
+
+pub returns-clause-local : goal.returns-clause-local
+returns-clause-local c =
+    IfOk-weaker c.arg-2.result _ _ (λ r adds.
+    adds.globals ∙ ap₂ (λ a b. a || b) (c.in_ok-arg.ensures.globals ∙ ap₂ (λ a b. a || b) c.in_ok-of_job.ensures.local c.timeline.ensures.local) c.copies.ensures.local) c.arg-2.ensures

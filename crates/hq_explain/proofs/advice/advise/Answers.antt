@@ -1,20 +1,15 @@
-use Rattle.std.proofs.Common.{◌≡◌, ◌↔◌, ◌∙◌, ◌+◌, ◌∷◌, [], ◌++◌, ℕ, IsTrue, List, length, slice_get, Some, ap, sym, subst, arith}
+use Rattle.std.proofs.Common.{◌≡◌, ◌∙◌, ◌+◌, ◌∷◌, [], ◌++◌, ℕ, List, length, slice_get, Some, ap, sym, subst, arith}
 use Rattle.std.proofs.lemmas.List.{length_push}
 use Rattle.hq_job.specs.Plan.{plan}
-use Rattle.hq_order.specs.Bits.{has}
 use Rattle.hq_order.proofs.Filling.{packets_count}
 use Rattle.hq_explain.specs.declared.advice.Advice.{Advice}
 use Rattle.hq_explain.specs.Advised.{IsAdvice}
-use Rattle.hq_explain.specs.Changes.{Orders}
-use Rattle.hq_explain.specs.declared.change.Change.TheVariants as change
 use Rattle.hq_explain.specs.declared.fault.ExplainFault.TheVariants.{Memory}
 use Rattle.hq_explain.proofs.Lists.{each_push, handed_on}
-use Rattle.hq_explain.proofs.advice.advice_on.Goals as goal
+use Rattle.hq_explain.proofs.advice.advise.Goals as goal
 
 pub advice_of-next-requires-clause-bits : goal.advice_of-next-requires-clause-bits
-advice_of-next-requires-clause-bits c =
-    let p = c.loop-p.p in
-    subst (λ set. IsTrue (has set p) ↔ Orders (plan c.args.job.now) c.args.a c.args.b p change.Bit) (sym c.deref.ensures.value) (c.in_ok-bits.ensures.exact p)
+advice_of-next-requires-clause-bits c = c.requires.bits c.loop-p.p
 
 pub loop-p-preserved : goal.loop-p-preserved
 loop-p-preserved c =
@@ -31,9 +26,9 @@ loop-p-preserved c =
 
 pub returns-clause-advice : goal.returns-clause-advice
 returns-clause-advice c = record {
-  len = omega (arith, c.loop-p.invariant.1, c.loop-p-test.false, c.loop-p.auto.p-end, packets_count c.args.job.now, ap length c.packets-count.ensures);
+  len = omega (arith, c.loop-p.invariant.1, c.loop-p-test.false, c.loop-p.auto.p-end, packets_count c.args.job.now, ap length c.packets-p-end.ensures);
   each = c.loop-p.invariant.2;
 }
 
 pub returns-in_err-push-clause-memory : goal.returns-in_err-push-clause-memory
-returns-in_err-push-clause-memory c = handed_on (λ e. e ≡ Memory) c.from_residual-in_err-push.result c.in_err-push.field-0.0 c.from_residual-in_err-push.ensures.1 c.in_err-push.ensures.memory
+returns-in_err-push-clause-memory c = handed_on (λ e. e ≡ Memory) c.from_residual.result c.in_err-push.field-0.0 c.from_residual.ensures.1 c.in_err-push.ensures.memory

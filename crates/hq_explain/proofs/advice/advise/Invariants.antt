@@ -3,7 +3,7 @@ use Rattle.hq_job.specs.Plan.{plan}
 use Rattle.hq_explain.specs.declared.advice.Advice.{Advice}
 use Rattle.hq_explain.specs.Advised.{IsAdvice}
 use Rattle.hq_explain.specs.Trials.{IsTrial}
-use Rattle.hq_explain.proofs.advice.advice_on.Given as goal
+use Rattle.hq_explain.proofs.advice.advise.Given as goal
 
 abbrev pub invariant-loop-p : goal.invariant-loop-p
 invariant-loop-p l =
