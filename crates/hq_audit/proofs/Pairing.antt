@@ -1,6 +1,6 @@
 -- Pair lines are added.
-use Rattle.std.proofs.Common.{◌≡◌, ℕ, ◌+◌, ◌<◌, ◌⊎◌, inl, inr, List, [], ◌∷◌, ◌++◌, length, refl, sym, ◌∙◌, ap, subst, arith, Some, Result, Ok, Err, slice_get, map}
-use Rattle.std.specs.Prelude.{IsTrue, IsSome, OnOk}
+use Rattle.std.proofs.Common.{◌≡◌, ℕ, ◌+◌, ◌<◌, ◌⊎◌, inl, inr, List, [], ◌∷◌, ◌++◌, length, refl, sym, ◌∙◌, ap, subst, arith, Some, slice_get, map}
+use Rattle.std.specs.Prelude.{IsTrue, IsSome}
 use Rattle.std.specs.Global.{Vec}
 use Rattle.std.proofs.lemmas.Bool.{cases_eq}
 use Rattle.std.proofs.lemmas.List.{map-append}
@@ -87,10 +87,6 @@ one_of job a b d ps i h = elim i.which [
   | inl w ↦ inl (subst (λ x. HasAll job ps x b) w.0 (subst (λ x. HasAll job ps d.first x) w.1 h))
   | inr w ↦ inr (subst (λ x. HasAll job ps x a) w.0 (subst (λ x. HasAll job ps d.first x) w.1 h))
 ]
-
-pub result_has : {A E : Type 0} (job : Job) (a b : ℕ) (d : Directed) (ps : List model.Pair) (result : Result A E) → IsDirected job a b d → OnOk result (HasAll job ps d.first d.second) → OnOk result (HasAll job ps a b ⊎ HasAll job ps b a)
-result_has job a b d ps (Ok x) i h = one_of job a b d ps i h
-result_has job a b d ps (Err e) i h = tt
 
 pub one_later : (job : Job) (ps qs : List model.Pair) (p r : ℕ) → Longer ps qs → HasAll job ps p r ⊎ HasAll job ps r p → HasAll job qs p r ⊎ HasAll job qs r p
 one_later job ps qs p r l (inl h) = inl (all_later job ps qs p r l h)

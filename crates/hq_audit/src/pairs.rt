@@ -1,7 +1,6 @@
 //! The lines that pair lines cite.
 
 ghost use Rattle.std.specs.Prelude.{◌≡◌, ◌<◌, IfOk, OnOk, map};
-ghost use Rattle.hq_model.specs.Job.{IsPacket};
 ghost use Rattle.hq_model.specs.Order as order;
 ghost use Rattle.hq_model.specs.Fence as model;
 ghost use Rattle.hq_model.specs.Certificate.{kind_of};

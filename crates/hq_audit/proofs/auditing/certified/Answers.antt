@@ -1,4 +1,4 @@
-use Rattle.std.proofs.Common.{◌≡◌, length, sym, ◌∙◌, ap, subst, map}
+use Rattle.std.proofs.Common.{sym, ◌∙◌, ap, subst, map}
 use Rattle.hq_cert.specs.View.{line_of, pair_of}
 use Rattle.hq_audit.specs.Kept.{lines_of}
 use Rattle.hq_audit.specs.Paired.{SameHeads}
