@@ -94,6 +94,15 @@ fn show_pair(
     Ok(None)
 }
 
+/// Whether one of two packets reads what the other writes.
+fn meet_in_a_read(known: Known, a: usize, b: usize) -> bool
+    requires a_is { a < length known.before.now.packets }
+    requires b_is { b < length known.before.now.packets }
+{
+    let kinds = known.before.job().kinds(a, b);
+    kinds.wr || kinds.rw
+}
+
 /// The conflict of two packets that isn't ordered, if there is one.
 fn target_of(known: Known, a: usize, b: usize) -> Option<Target>
     requires a_is { a < length known.before.now.packets }
@@ -129,12 +138,13 @@ fn show_row(
         if *left == 0 {
             return Ok(None);
         }
+        if reads_only && !meet_in_a_read(known, a, b) {
+            continue;
+        }
         if let Some(target) = target_of(known, a, b) {
-            if target.is_read() || !reads_only {
-                let found = show_pair(alloc, job, known, target, left)?;
-                if found.is_some() {
-                    return Ok(found);
-                }
+            let found = show_pair(alloc, job, known, target, left)?;
+            if found.is_some() {
+                return Ok(found);
             }
         }
     }

@@ -24,14 +24,6 @@ impl Target {
         }
     }
 
-    /// Whether it is about a byte that one packet writes and the other reads.
-    pub fn is_read(&self) -> bool {
-        match self.kind {
-            Kind::WriteRead | Kind::ReadWrite => true,
-            Kind::WriteWrite => false,
-        }
-    }
-
     /// Whether the conflict is about its byte.
     pub fn is_shared(&self, job: &Job) -> bool {
         match self.kind {
