@@ -10,7 +10,7 @@ pub data Origin : Type 0 where
   Start : Origin
   StoredBy : (p : ℕ) → Origin
 
--- the origin of each byte of memory, of each agent's and each lane's copy of it, and of each entry that a packet has read
+-- the origin of each byte of memory, of each agent's and each lane's copy of it, and of each entry that was read
 pub record Origins : Type 0 where
   pub memory : ℕ → Origin
   pub agent : ℕ → ℕ → Origin
@@ -32,10 +32,11 @@ agent_origin state o a b = origin_or (state.agent a b) (o.agent a b) (o.memory b
 abbrev pub lane_origin : Job → State → Origins → ℕ → ℕ → Origin
 lane_origin job state o p b = origin_or (state.lane p b) (o.lane p b) (agent_origin state o (agent_of job p) b)
 
--- A read has the origin of what is seen; a store is an origin of its own; pushes and fills carry the origin as they carry the
--- byte. All else leaves the origins as they are.
+-- A read has the origin of what is seen; a store is an origin of its own; pushes and fills carry the origin as they
+-- carry the byte. All else leaves the origins as they are.
 abbrev pub moved : Job → State → Origins → Event → Origins
-moved job old o (Read p i) = record o { read = put2 o.read p i (lane_origin job old o p (slice_index (packet job p).reads i)) }
+moved job old o (Read p i) =
+    record o { read = put2 o.read p i (lane_origin job old o p (slice_index (packet job p).reads i)) }
 moved job old o (Store p i) = record o { lane = put2 o.lane p (slice_index (packet job p).writes i) (StoredBy p) }
 moved job old o (PushLane p b) = record o { agent = put2 o.agent (agent_of job p) b (o.lane p b) }
 moved job old o (PushAgent a b) = record o { memory = put o.memory b (o.agent a b) }
@@ -46,7 +47,8 @@ moved job old o _ = o
 -- From old with its origins, the events are enabled in their order and leave new with its origins.
 abbrev pub Traced : Job → State → Origins → List Event → State → Origins → Type 0
 Traced job old o [] new n = (new ≡ old) × (n ≡ o)
-Traced job old o (event ∷ events) new n = (mid : State) × Step job old event mid × Traced job mid (moved job old o event) events new n
+Traced job old o (event ∷ events) new n =
+    (mid : State) × Step job old event mid × Traced job mid (moved job old o event) events new n
 
 -- The run leads to the state, and there to these origins.
 abbrev pub OriginsOf : Job → List Event → State → Origins → Type 0
@@ -67,18 +69,24 @@ abbrev pub ComesFrom : Job → State → ℕ → Origin → ℕ → Type 0
 ComesFrom job state b Start byte = byte ≡ slice_index job.memory b
 ComesFrom job state b (StoredBy p) byte = IsStoreOf job state p b byte
 
+-- So it is of an entry that was read.
+abbrev pub ReadFrom : Job → State → Origins → ℕ → ℕ → ℕ → Type 0
+ReadFrom job state o p i byte = ComesFrom job state (slice_index (packet job p).reads i) (o.read p i) byte
+
 -- So it is of each byte of memory, of each copy that is there, and of each entry that was read.
 pub record OriginsHold (job : Job) (state : State) (o : Origins) : Type 0 where
   pub memory : (b : ℕ) → ComesFrom job state b (o.memory b) (state.memory b)
   pub agents : (a b : ℕ) → IfSome (state.agent a b) (λ copy. ComesFrom job state b (o.agent a b) copy.value)
   pub lanes : (p b : ℕ) → IfSome (state.lane p b) (λ copy. ComesFrom job state b (o.lane p b) copy.value)
-  pub reads : (p i : ℕ) → IfSome (state.read p i) (λ byte. ComesFrom job state (slice_index (packet job p).reads i) (o.read p i) byte)
+  pub reads : (p i : ℕ) → IfSome (state.read p i) (ReadFrom job state o p i)
 
 -- ---- the laws
 
 -- In every run the bytes are what their origins made them.
 abbrev pub OriginsTell : Type 0
-OriginsTell = (job : Job) (events : List Event) (state : State) (o : Origins) → Valid job → OriginsOf job events state o → OriginsHold job state o
+OriginsTell =
+    (job : Job) (events : List Event) (state : State) (o : Origins)
+    → Valid job → OriginsOf job events state o → OriginsHold job state o
 
 -- Where events have origins they are a run, and each run has its origins, and no others.
 pub record RunHasOrigins (job : Job) (events : List Event) (state : State) : Type 0 where

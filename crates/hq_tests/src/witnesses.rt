@@ -178,3 +178,33 @@ fn none_where_ordered_or_stuck(rt: HostRuntime) -> Result<(), Fail> {
     assert!(rt; packets.as_slice() == [0, 1].as_slice());
     Ok(())
 }
+
+/// The job of a text. It asks twice for memory.
+fn read_again(alloc: Global, text: &[u8]) -> Option<Job> {
+    match read_text(alloc, text) {
+        Ok(job) => Some(job),
+        Err(_) => read_text(alloc, text).ok(),
+    }
+}
+
+/// Whether a job has a witness of this pair. It asks twice for memory.
+fn shows_again(alloc: Global, text: &[u8], pair: (u16, u16)) -> bool {
+    let Some(job) = read_again(alloc, text) else {
+        return false;
+    };
+    match witness(alloc, &job) {
+        Ok(witness) => witness.pair() == pair,
+        Err(WitnessNo::Memory) => match witness(alloc, &job) {
+            Ok(witness) => witness.pair() == pair,
+            Err(_) => false,
+        },
+        Err(_) => false,
+    }
+}
+
+// Here no allocation is refused; `tests/refuse` refuses each in turn.
+#[test]
+fn what_is_refused_is_asked_for_once_more(rt: HostRuntime) {
+    assert!(rt; shows_again(rt.alloc(), NO_BIT, (0, 1)));
+    assert!(rt; shows_again(rt.alloc(), OLDER, (0, 2)));
+}

@@ -1,4 +1,4 @@
--- What is known of a trace: one byte's origins, in memory, in each agent's and each lane's copy, and in the reads of it.
+-- What is known of a trace: one byte's origins, in memory, in each agent's and each lane's copy, and in its reads.
 use Rattle.std.specs.Prelude.{◌≡◌, ℕ, ◌<◌, ◌==◌, if◌then◌else◌, IsSome, List, length, map, set, slice_index_or, All}
 use Rattle.hq_machine.specs.Events.{coarse_of}
 use Rattle.hq_machine.specs.View.{IsStateOf, state_of}
@@ -38,7 +38,9 @@ pub record Tells (job : Job) (state : State) (o : Origins) (t : Trace) : Type 0 
 
 -- After a step that leads to this state the trace tells as the other did before it.
 abbrev pub Follows : Job → Trace → Event → State → Trace → Type 0
-Follows job before event new after = (old : State) (o : Origins) → Step job old event new → Tells job old o before → Tells job new (moved job old o event) after
+Follows job before event new after =
+    (old : State) (o : Origins) → Step job old event new → Tells job old o before
+    → Tells job new (moved job old o event) after
 
 -- such a step is possible
 abbrev pub Comes : Job → Event → State → Type 0

@@ -21,7 +21,8 @@ use Rattle.hq_witness.specs.declared.origin.Origin.{Origin}
 use Rattle.hq_witness.specs.declared.place.Place.{Place}
 use Rattle.hq_witness.specs.Origins.{named, origin_at, IsPlace}
 
--- What contracts see of a witness: the conflict that an audit refuses; two runs, where they differ, and the origin there in each.
+-- What contracts see of a witness: the conflict that an audit refuses; two runs, where they differ, and the origin there
+-- in each.
 pub record WitnessValue : Type 0 where
   pub p : ℕ
   pub r : ℕ
@@ -38,8 +39,8 @@ pub record IsOver (job : Job) (state : State) : Type 0 where
   pub complete : (p : ℕ) → IsPacket job p → state.phase p ≡ Complete
   pub rest : NoWorkLeft job state
 
--- The journal is a run of single steps that completes every packet and to which no work is left, and in it the place has this
--- origin.
+-- The journal is a run of single steps that completes every packet and to which no work is left, and in it the place
+-- has this origin.
 pub record IsWholeRun (job : Job) (journal : List Event) (place : Place) (origin : Origin) : Type 0 where
   pub events : List machine.Event
   pub singles : map coarse_of journal ≡ map One events
@@ -65,7 +66,8 @@ no_of (audit.Stuck packets) = no.Stuck packets
 no_of (audit.Conflict p r kind why) = no.None p r kind why
 no_of audit.Memory = no.Memory
 
--- The answer is so: the job is ordered, these packets are the stuck ones, or this conflict is the one that the audit refuses.
+-- The answer is so: the job is ordered, these packets are the stuck ones, or this conflict is the one that the audit
+-- refuses.
 abbrev pub IsNo : Job → WitnessNo → Type 0
 IsNo job no.Ordered = Ordered job
 IsNo job (no.Stuck packets) = AreStuck job packets.items

@@ -19,22 +19,34 @@ use hq_job::Job;
 use hq_order::{Before, schedule};
 use std::alloc::{AllocError, Global};
 
-/// At most so many attempts are made in all, of one pair, and where packets read and write many bytes.
-const MOST: u32 = 24;
+/// At most so many attempts are made in all and of one pair; the second numbers are of large jobs.
+const MOST: Attempts = Attempts {
+    in_all: 24,
+    of_pair: 6,
+};
 
-const MOST_OF_PAIR: u32 = 6;
-
-const MOST_OF_LARGE: u32 = 3;
+const MOST_OF_LARGE: Attempts = Attempts {
+    in_all: 4,
+    of_pair: 1,
+};
 
 /// From so many bytes on that packets read and write a job is large.
 const LARGE: u64 = 200_000;
 
-/// What an attempt needs of the job: its order, and how many bytes of memory it has.
+/// How many attempts are made.
+#[derive(Clone, Copy)]
+struct Attempts {
+    in_all: u32,
+    of_pair: u32,
+}
+
+/// What an attempt needs of the job: its order, and how many bytes of memory it has; and how many attempts are made of one pair.
 #[derive(Clone, Copy)]
 struct Known<'a> {
     before: &'a Before<'a>,
     order: &'a [u16],
     bytes: usize,
+    of_pair: u32,
 }
 
 /// How many bytes memory has.
@@ -46,7 +58,7 @@ fn byte_total(alloc: Global, job: &Job) -> Result<usize, AllocError>
 }
 
 /// How many attempts are made.
-fn attempts(job: &Job) -> u32 {
+fn attempts_for(job: &Job) -> Attempts {
     let mut bytes: u64 = 0;
     for placed in job.packets() {
         let [first, second] = placed.bytes.reads;
@@ -68,7 +80,7 @@ fn show_pair(
     requires { known.bytes ≡ length (plan job.now).memory }
     ensures { IfOk result (λ found. IfSome found (AreFound (plan job.now))) }
 {
-    let least = left.saturating_sub(MOST_OF_PAIR);
+    let least = left.saturating_sub(known.of_pair);
     for byte in target.bytes(job) {
         target.byte = byte;
         if *left > least && (byte as usize) < known.bytes && target.is_shared(job) {
@@ -82,12 +94,39 @@ fn show_pair(
     Ok(None)
 }
 
-/// Two runs that show a conflict of a packet with one above it.
+/// Whether one of two packets reads what the other writes.
+fn meet_in_a_read(known: Known, a: usize, b: usize) -> bool
+    requires a_is { a < length known.before.now.packets }
+    requires b_is { b < length known.before.now.packets }
+{
+    let kinds = known.before.job().kinds(a, b);
+    kinds.wr || kinds.rw
+}
+
+/// The conflict of two packets that isn't ordered, if there is one.
+fn target_of(known: Known, a: usize, b: usize) -> Option<Target>
+    requires a_is { a < length known.before.now.packets }
+    requires b_is { b < length known.before.now.packets }
+{
+    match direct(known.before, a, b) {
+        Ok(_directed) => None,
+        Err(unshown) => Some(Target {
+            p: unshown.p as u32,
+            r: unshown.r as u32,
+            kind: unshown.fault.kind,
+            why: unshown.fault.why,
+            byte: 0,
+        }),
+    }
+}
+
+/// Two runs that show a conflict of a packet with one above it, if asked so only one in which a packet reads what the other writes.
 fn show_row(
     alloc: Global,
     job: &Job,
     known: Known,
     a: usize,
+    reads_only: bool,
     left: &mut u32,
 ) -> Result<Option<Found>, AllocError>
     requires packet { a < length known.before.now.packets }
@@ -99,14 +138,10 @@ fn show_row(
         if *left == 0 {
             return Ok(None);
         }
-        if let Err(unshown) = direct(known.before, a, b) {
-            let target = Target {
-                p: unshown.p as u32,
-                r: unshown.r as u32,
-                kind: unshown.fault.kind,
-                why: unshown.fault.why,
-                byte: 0,
-            };
+        if reads_only && !meet_in_a_read(known, a, b) {
+            continue;
+        }
+        if let Some(target) = target_of(known, a, b) {
             let found = show_pair(alloc, job, known, target, left)?;
             if found.is_some() {
                 return Ok(found);
@@ -116,8 +151,73 @@ fn show_row(
     Ok(None)
 }
 
-/// Two runs that show some conflict that isn't ordered: the first one, or one behind it.
-fn show(alloc: Global, job: &Job) -> Result<Option<Found>, AllocError>
+/// Two runs that show a conflict in which a packet reads what another writes, the first ones first.
+fn show_reads(
+    alloc: Global,
+    job: &Job,
+    known: Known,
+    left: &mut u32,
+) -> Result<Option<Found>, AllocError>
+    requires { known.bytes ≡ length (plan job.now).memory }
+    ensures { IfOk result (λ found. IfSome found (AreFound (plan job.now))) }
+{
+    for a in 0..known.before.len() {
+        let found = show_row(alloc, job, known, a, true, left)?;
+        if found.is_some() {
+            return Ok(found);
+        }
+    }
+    Ok(None)
+}
+
+/// Two runs that show a conflict, the last ones first: what is written last isn't written over.
+fn show_last(
+    alloc: Global,
+    job: &Job,
+    known: Known,
+    left: &mut u32,
+) -> Result<Option<Found>, AllocError>
+    requires { known.bytes ≡ length (plan job.now).memory }
+    ensures { IfOk result (λ found. IfSome found (AreFound (plan job.now))) }
+{
+    let count = known.before.len();
+    for behind in 0..count {
+        let a = count - 1 - behind;
+        let found = show_row(alloc, job, known, a, false, left)?;
+        if found.is_some() {
+            return Ok(found);
+        }
+    }
+    Ok(None)
+}
+
+/// Two runs that show a conflict: this one, or another.
+fn show_some(
+    alloc: Global,
+    job: &Job,
+    known: Known,
+    target: Target,
+    attempts: u32,
+) -> Result<Option<Found>, AllocError>
+    requires { known.bytes ≡ length (plan job.now).memory }
+    ensures { IfOk result (λ found. IfSome found (AreFound (plan job.now))) }
+{
+    let mut left = attempts;
+    let found = show_pair(alloc, job, known, target, &mut left)?;
+    if found.is_some() {
+        return Ok(found);
+    }
+    let mut half = left / 2;
+    let found = show_reads(alloc, job, known, &mut half)?;
+    if found.is_some() {
+        return Ok(found);
+    }
+    let mut rest = left - left / 2;
+    show_last(alloc, job, known, &mut rest)
+}
+
+/// Two runs that show a conflict that isn't ordered: this one, or another.
+fn show(alloc: Global, job: &Job, target: Target) -> Result<Option<Found>, AllocError>
     ensures { IfOk result (λ found. IfSome found (AreFound (plan job.now))) }
 {
     let Ok(order) = schedule(alloc, job) else {
@@ -126,19 +226,14 @@ fn show(alloc: Global, job: &Job) -> Result<Option<Found>, AllocError>
     let Ok(before) = Before::build(alloc, job) else {
         return Err(AllocError);
     };
+    let most = attempts_for(job);
     let known = Known {
         before: &before,
         order: &order,
         bytes: byte_total(alloc, job)?,
+        of_pair: most.of_pair,
     };
-    let mut left = attempts(job);
-    for a in 0..before.len() {
-        let found = show_row(alloc, job, known, a, &mut left)?;
-        if found.is_some() {
-            return Ok(found);
-        }
-    }
-    Ok(None)
+    show_some(alloc, job, known, target, most.in_all)
 }
 
 /// The two runs that show that the conflict which the audit refuses may go wrong.
@@ -154,7 +249,14 @@ fn witness_of(
     ensures is { IfOk result (λ w. IsWitness (plan job.now) w) }
     ensures no { IfErr result (λ no. IsNo (plan job.now) no) }
 {
-    let Some(found) = show(alloc, job)? else {
+    let target = Target {
+        p: p as u32,
+        r: r as u32,
+        kind,
+        why,
+        byte: 0,
+    };
+    let Some(found) = show(alloc, job, target)? else {
         return Err(WitnessNo::None { p, r, kind, why });
     };
     Ok(Witness {
