@@ -34,11 +34,13 @@ AsksWith name job certificate timeline out copies pair second all (Explain a b c
 
 -- a command that takes a job alone, whatever other words there are
 abbrev pub AsksAlone : Text → Text → Asked → Type 0
-AsksAlone name job asked = (certificate timeline out copies pair second all : Option Text) → AsksWith name (Some job) certificate timeline out copies pair second all asked
+AsksAlone name job asked =
+    (certificate timeline out copies pair second all : Option Text) → AsksWith name (Some job) certificate timeline out copies pair second all asked
 
 -- a command that takes a job and a second file, whatever is said of pairs
 abbrev pub AsksOfTwo : Text → Text → Option Text → Option Text → Option Text → Option Text → Asked → Type 0
-AsksOfTwo name job certificate timeline out copies asked = (pair second all : Option Text) → AsksWith name (Some job) certificate timeline out copies pair second all asked
+AsksOfTwo name job certificate timeline out copies asked =
+    (pair second all : Option Text) → AsksWith name (Some job) certificate timeline out copies pair second all asked
 
 -- so it is with the words that stand for the arguments
 abbrev pub AsksOf : Text → List Row → Asked → Type 0

@@ -3,7 +3,7 @@
 ghost use Rattle.std.specs.Prelude.{◌≡◌, IfOk, IsOkAnd, false};
 ghost use Rattle.clap.specs.Words.{app_of, new_app, rule_of, with_rule, with_subcommand};
 ghost use Rattle.clap.specs.declared.builder.command.Command.TheViews.{out-Command as fields_of};
-ghost use Rattle.hq_words.specs.Commands.{job_rule, file_rule, timeline_rule, show_app, audit_app, check_app, out_rule, pack_app, replay_app, copies_rule, chart_app, graph_app, pair_rule, second_rule, all_rule, explain_app, fix_app, trim_app, run_app, program_app, judging_app, running_app, telling_app, changing_app, hsaq_app};
+ghost use Rattle.hq_words.specs.Commands.{job_rule, file_rule, timeline_rule, show_app, audit_app, check_app, out_rule, pack_app, replay_app, copies_rule, chart_app, graph_app, pair_rule, second_rule, all_rule, words_rule, explain_app, fix_app, trim_app, run_app, program_app, judging_app, running_app, telling_app, changing_app, hsaq_app};
 
 use clap::{Arg, ArgAction, Command};
 use std::alloc::{AllocError, Global};
@@ -140,6 +140,17 @@ fn all<'a>(alloc: Global) -> Arg<'a>
         .long("all")
         .action(ArgAction::SetTrue)
         .help("Explains all pairs that conflict, and not only the first hundred")
+}
+
+/// The argument WORDS.
+fn fields<'a>(alloc: Global) -> Arg<'a>
+    ensures rule { rule_of result ≡ words_rule }
+    ensures local { result.global ≡ false }
+{
+    Arg::new(alloc, "WORDS")
+        .required(true)
+        .action(ArgAction::Append)
+        .help("The packet's kind, and then its fields in turn")
 }
 
 /// A command of this name on a job: what it does, how it is called, and what its exit status says.
@@ -320,15 +331,11 @@ fn pack<'a>(alloc: Global) -> Result<Command<'a>, AllocError>
     ensures app { IfOk result (λ c. app_of c ≡ pack_app) }
     ensures local { IfOk result (λ c. (fields_of c).has_globals ≡ false) }
 {
-    let fields = Arg::new(alloc, "WORDS")
-        .required(true)
-        .action(ArgAction::Append)
-        .help("The packet's kind, and then its fields in turn");
     Command::new(alloc, "pack")
         .about("Prints the 64 bytes of a packet as hexadecimal digits")
         .override_usage("hsaq pack <WORDS>...")
         .after_help(PACK_WORDS)
-        .arg(fields)
+        .arg(fields(alloc))
 }
 
 /// `hsaq` without its commands. The words that it is given leave out the program's name.
