@@ -1,3 +1,2 @@
 pub mod Traces
 pub mod Runs
-pub mod Answering

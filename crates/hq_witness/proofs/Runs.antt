@@ -4,7 +4,7 @@ use Rattle.std.proofs.lemmas.List.{map-append}
 use Rattle.hq_machine.specs.declared.event.Event.{Event as MachineEvent}
 use Rattle.hq_machine.specs.Events.{coarse_of, one_of, single_of}
 use Rattle.hq_machine.specs.State.{StateValue}
-use Rattle.hq_machine.specs.View.{IsStateOf, Moved, state_of}
+use Rattle.hq_machine.specs.View.{Moved, state_of}
 use Rattle.hq_model.specs.Job.{Job}
 use Rattle.hq_model.specs.Journal.{Coarse}
 use Rattle.hq_model.specs.Journal.Coarse.{One, Fetch, Deliver, Complete, Rest}
@@ -18,7 +18,7 @@ use Rattle.hq_witness.specs.declared.recording.Recording.{Recording}
 use Rattle.hq_witness.specs.declared.trace.Trace.{Trace}
 use Rattle.hq_witness.specs.Differences.{Has, TellsAt}
 use Rattle.hq_witness.specs.Origins.{named, origin_at, IsPlace}
-use Rattle.hq_witness.specs.Traces.{Comes, IsRecording, IsSighting, Tells, Follows}
+use Rattle.hq_witness.specs.Traces.{Comes, IsRecording, IsSighting, Follows}
 use Rattle.hq_witness.specs.Witness.{IsOver, IsWholeRun}
 
 one_is : (c : Coarse) (e : Event) → one_of c ≡ Some e → c ≡ One e
@@ -27,16 +27,6 @@ one_is (Fetch p) e h = absurd cc
 one_is (Deliver p) e h = absurd cc
 one_is (Complete p) e h = absurd cc
 one_is Rest e h = absurd cc
-
-pub started : (job : Job) (state : StateValue) (trace : Trace) (journal : List MachineEvent) → IsStateOf job state → state_of job state ≡ start job → journal ≡ [] → Tells job (start job) all_start trace → IsRecording job (record { state = state; journal = journal; trace = trace })
-started job state trace journal is begun none tells = record {
-  is = is;
-  events = [];
-  singles = ap (map coarse_of) none;
-  origins = all_start;
-  run = (begun, refl);
-  tells = subst (λ s. Tells job s all_start trace) (sym begun) tells;
-}
 
 module _ (job : Job) (r : Recording) (state : StateValue) (journal : List MachineEvent) (trace : Trace) (event : MachineEvent) where
   taken_one : (e : Event) → single_of event ≡ Some e → IsRecording job r → Moved job r.state e state → Follows job r.trace e (state_of job state) trace → journal ≡ r.journal ++ event ∷ [] → IsRecording job (record { state = state; journal = journal; trace = trace })
@@ -64,10 +54,6 @@ module _ (job : Job) (r : Recording) (state : StateValue) (journal : List Machin
 pub comes : (job : Job) (old new : StateValue) (o : Option Event) → IfSome o (λ e. Moved job old e new) → IfSome o (λ e. Comes job e (state_of job new))
 comes job old new None m = tt
 comes job old new (Some e) m = (state_of job old, m.step)
-
--- nothing has changed but the state, which is the same
-pub untouched : (job : Job) (r : Recording) (state : StateValue) → state ≡ r.state → IsRecording job r → IsRecording job (record r { state = state })
-untouched job r state same h = subst (λ s. IsRecording job (record r { state = s })) (sym same) h
 
 -- ---- what a trace tells at a place
 

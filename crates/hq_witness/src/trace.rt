@@ -1,6 +1,6 @@
 //! Where one byte comes from, along a run.
 
-ghost use Rattle.std.specs.Prelude.{◌≡◌, ◌<◌, ◌==◌, ℕ, ◌↔◌, IfOk, IfSome, IsTrue, OnOk, if◌then◌else◌, length, slice_index, slice_index_or};
+ghost use Rattle.std.specs.Prelude.{◌≡◌, ◌<◌, ◌==◌, ◌↔◌, IfOk, IfSome, IsTrue, OnOk, if◌then◌else◌, length, slice_index, slice_index_or};
 ghost use Rattle.hq_job.specs.Plan.{plan};
 ghost use Rattle.hq_machine.specs.Events.{single_of};
 ghost use Rattle.hq_machine.specs.View.{IsStateOf, state_of};
