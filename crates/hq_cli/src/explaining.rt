@@ -258,3 +258,73 @@ pub fn explain_explained(rt: &HostRuntime, status: Status, answer: &str) {
 pub fn explain_unopened(rt: &HostRuntime, path: &str, error: &io::Error) {
     let _ = eprintln!(rt; "hsaq: {path}: {error}");
 }
+
+/// Where a byte comes from, by the word for its origin.
+#[derive(Clone, Copy, Debug)]
+struct Origin<'a>(&'a str);
+
+impl<'a> fmt::Display for Origin<'a> {
+    fn fmt<W: fmt::Write>(&self, f: &mut fmt::Formatter<W>) -> fmt::Result {
+        let word = self.0;
+        if word == "start" {
+            write!(f, "as it was at the start")
+        } else {
+            write!(f, "as packet {word} stored it")
+        }
+    }
+}
+
+/// Where two runs differ in plain words, by the words of the answer's second line.
+#[derive(Clone, Copy, Debug)]
+struct Difference<'a> {
+    what: &'a str,
+    first: &'a str,
+    second: &'a str,
+    good: Origin<'a>,
+    bad: Origin<'a>,
+}
+
+impl<'a> Difference<'a> {
+    /// The difference that a line tells of.
+    fn of_line(line: &'a str) -> Option<Difference<'a>> {
+        let mut words = line.split_ascii_whitespace();
+        Some(Difference {
+            what: words.next()?,
+            first: words.next()?,
+            second: words.next()?,
+            good: Origin(words.next()?),
+            bad: Origin(words.next()?),
+        })
+    }
+}
+
+impl<'a> fmt::Display for Difference<'a> {
+    fn fmt<W: fmt::Write>(&self, f: &mut fmt::Formatter<W>) -> fmt::Result {
+        let Difference {
+            what,
+            first,
+            second,
+            good,
+            bad,
+        } = *self;
+        if what == "read" {
+            write!(
+                f,
+                "packet {first} can read entry {second} {good}, and in another run {bad}"
+            )
+        } else {
+            write!(
+                f,
+                "{first}+{second} can end {good}, and in another run {bad}"
+            )
+        }
+    }
+}
+
+/// Says how two runs of a job differ; or, where none were found, what its conflict is. Where standard error fails, nothing is said.
+pub fn explain_witness(rt: &HostRuntime, first: &str, second: &str) {
+    let _ = match Difference::of_line(second) {
+        Some(difference) => eprintln!(rt; "hsaq: {difference}"),
+        None => explain_conflict(rt, first),
+    };
+}

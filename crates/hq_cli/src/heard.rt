@@ -6,6 +6,14 @@ use std::{io, str};
 /// How many bytes of an answer are kept: more than the first line of a refusal or a conflict has.
 const KEPT: usize = 64;
 
+/// The first line of a text.
+fn first_of(text: &str) -> &str {
+    match text.split_once('\n') {
+        Some((line, _)) => line,
+        None => text,
+    }
+}
+
 /// How an answer begins.
 #[derive(Clone, Copy, Debug)]
 struct Start {
@@ -25,15 +33,11 @@ impl Start {
         self.count = self.count.saturating_add(bytes.len()).min(KEPT);
     }
 
-    /// The first line, as far as it was kept.
-    fn line(&self) -> &str {
-        let text = match str::from_utf8(&self.bytes) {
+    /// What was kept.
+    fn text(&self) -> &str {
+        match str::from_utf8(&self.bytes) {
             Ok(text) => text,
             Err(_) => "",
-        };
-        match text.split_once('\n') {
-            Some((line, _)) => line,
-            None => text,
         }
     }
 }
@@ -59,7 +63,15 @@ impl<W: Write> Heard<W> {
 
     /// The first line of the answer, as far as it was kept.
     pub fn first_line(&self) -> &str {
-        self.start.line()
+        first_of(self.start.text())
+    }
+
+    /// The second line of the answer, as far as it was kept.
+    pub fn second_line(&self) -> &str {
+        match self.start.text().split_once('\n') {
+            Some((_, behind)) => first_of(behind),
+            None => "",
+        }
     }
 }
 

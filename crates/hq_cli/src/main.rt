@@ -9,12 +9,12 @@ mod output;
 mod progress;
 
 use changing::{say_changes, say_unmended};
-use explaining::{explain, explain_explained, explain_unopened};
+use explaining::{explain, explain_explained, explain_unopened, explain_witness};
 use heard::Heard;
 use hq_engines::{
     Aim, Status, audit_engine, change_engine, chart_engine, check_engine, explain_engine,
     graph_engine, job_engine, pack_engine, replay_engine, run_engine, say_file, say_memory,
-    show_engine,
+    show_engine, witness_engine,
 };
 use hq_explain::Which;
 use hq_job::Job;
@@ -219,6 +219,43 @@ fn run<W: Write>(
     }
 }
 
+/// Shows two runs of a job, whose timelines' files are made before they are looked for.
+fn witness_found<W: Write>(
+    rt: &HostRuntime,
+    job: &Job,
+    good: Option<&str>,
+    bad: Option<&str>,
+    writer: &mut W,
+) -> Status {
+    let mut right = match create_timeline(rt, good) {
+        Ok(out) => out,
+        Err(error) => return say_unopened(rt, good.unwrap_or(""), &error, writer),
+    };
+    let mut wrong = match create_timeline(rt, bad) {
+        Ok(out) => out,
+        Err(error) => return say_unopened(rt, bad.unwrap_or(""), &error, writer),
+    };
+    witness_engine(rt.alloc(), job, &mut right, &mut wrong, writer)
+}
+
+/// Reads the job before it makes the timelines' files.
+fn witness<W: Write>(
+    rt: &HostRuntime,
+    job: &str,
+    good: Option<&str>,
+    bad: Option<&str>,
+    writer: &mut W,
+) -> Status {
+    let mut input = match open(rt, job) {
+        Ok(input) => input,
+        Err(error) => return say_unopened(rt, job, &error, writer),
+    };
+    match job_engine(rt.alloc(), &mut input, writer) {
+        Ok(job) => witness_found(rt, &job, good, bad, writer),
+        Err(status) => status,
+    }
+}
+
 /// Does what is asked for, and writes the answer.
 fn answer<W: Write>(
     rt: &HostRuntime,
@@ -239,6 +276,7 @@ fn answer<W: Write>(
             copies,
         } => chart(rt, job, timeline, *copies, writer),
         Asked::Graph { job } => graph(rt, job, writer),
+        Asked::Witness { job, good, bad } => witness(rt, job, *good, *bad, writer),
         Asked::Fix { job } => change(rt, job, Aim::Fix, writer),
         Asked::Trim { job } => change(rt, job, Aim::Trim, writer),
         Asked::Explain {
@@ -264,6 +302,9 @@ fn answer_on_stdout(
             let status = flushed(&mut writer, status);
             match asked {
                 Asked::Explain { .. } => explain_explained(rt, status, writer.first_line()),
+                Asked::Witness { .. } if status == Status::Conflict => {
+                    explain_witness(rt, writer.first_line(), writer.second_line())
+                }
                 _ => explain(rt, status, writer.first_line()),
             }
             status

@@ -11,3 +11,4 @@ pub mod Charts
 pub mod Graphs
 pub mod Changes
 pub mod Explanations
+pub mod Witnesses

@@ -12,3 +12,4 @@ pub mod Chart
 pub mod Graph
 pub mod Change
 pub mod Explain
+pub mod Witness

@@ -22,6 +22,7 @@ mod show;
 mod status;
 mod stuck;
 mod taking;
+mod witness;
 
 pub use accepting::accept;
 pub use audit::audit_engine;
@@ -38,3 +39,4 @@ pub use saying::{say_file, say_memory};
 pub use show::show_engine;
 pub use status::Status;
 pub use taking::take_job as job_engine;
+pub use witness::witness_engine;

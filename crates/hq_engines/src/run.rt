@@ -57,7 +57,7 @@ fn say_fault<W: Write>(writer: &mut W, fault: &RunFault) -> Status
 }
 
 /// Writes the text of a journal, where there is a writer for it. All memory is taken before the first byte is written.
-fn write_timeline<T: Write>(
+pub fn write_timeline<T: Write>(
     alloc: Global,
     timeline: &mut Option<T>,
     journal: &Journal,

@@ -27,4 +27,5 @@ pub use change::{Change, Fence};
 pub use explaining::explain;
 pub use fault::ExplainFault;
 pub use hq_graph::Found;
+pub use sharing::{Spot, spot_of};
 pub use which::Which;

@@ -53,7 +53,7 @@ fn run_of(kind: Kind, p: &Footprint, r: &Footprint) -> Option<Range>
 }
 
 /// Where the byte of a number lies.
-fn spot_of(buffers: &[Block], number: u64) -> Option<Spot>
+pub fn spot_of(buffers: &[Block], number: u64) -> Option<Spot>
     ensures { result ≡ spot_of (blocks_of buffers.now) number }
 {
     let (first, rest) = buffers.split_first()?;

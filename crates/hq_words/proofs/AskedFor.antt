@@ -3,11 +3,12 @@ use Rattle.std.proofs.Common.{◌≡◌, List, Option, codes, sym, ap, ◌∙◌
 use Rattle.clap.specs.Words.{Row, Text, first_of}
 use Rattle.hq_words.specs.Asking.{AsksFor, AsksWith, is_set}
 use Rattle.hq_words.specs.declared.words.Asked.{Asked}
-use Rattle.hq_words.specs.declared.words.Asked.TheVariants.{Show, Pack, Audit, Check, Run, Replay, Chart, Graph, Explain, Fix, Trim}
+use Rattle.hq_words.specs.declared.words.Asked.TheVariants.{Show, Pack, Audit, Check, Run, Replay, Chart, Graph, Explain, Witness, Fix, Trim}
 
 pub asks_for : (name : Text) (rows : List Row) (job certificate timeline out copies pair second all : Option Text) (asked : Asked) → job ≡ first_of (codes "JOB") rows → certificate ≡ first_of (codes "CERT") rows → timeline ≡ first_of (codes "TIMELINE") rows → out ≡ first_of (codes "OUT") rows → copies ≡ first_of (codes "COPIES") rows → pair ≡ first_of (codes "PAIR") rows → second ≡ first_of (codes "SECOND") rows → all ≡ first_of (codes "ALL") rows → AsksWith name job certificate timeline out copies pair second all asked → AsksFor name rows asked
 asks_for name rows job certificate timeline out copies pair second all (Show a) e f g h i j l k with_files = (with_files.0, sym e ∙ with_files.1)
 asks_for name rows job certificate timeline out copies pair second all (Pack words) e f g h i j l k with_files = absurd with_files
+asks_for name rows job certificate timeline out copies pair second all (Witness a b c) e f g h i j l k with_files = absurd with_files
 asks_for name rows job certificate timeline out copies pair second all (Audit a) e f g h i j l k with_files = (with_files.0, sym e ∙ with_files.1)
 asks_for name rows job certificate timeline out copies pair second all (Check a b) e f g h i j l k with_files = (with_files.0, sym e ∙ with_files.1, sym f ∙ with_files.2)
 asks_for name rows job certificate timeline out copies pair second all (Run a b) e f g h i j l k with_files = (with_files.0, sym e ∙ with_files.1, sym h ∙ with_files.2)

@@ -3,7 +3,7 @@ use Rattle.std.specs.Prelude.{◌≡◌, Bool, false, List, [], ◌∷◌, Optio
 use Rattle.std.specs.Str.{bytes_eq}
 use Rattle.clap.specs.Words.{Row, Text, first_of, all_of}
 use Rattle.hq_words.specs.declared.words.Asked.{Asked}
-use Rattle.hq_words.specs.declared.words.Asked.TheVariants.{Show, Pack, Audit, Check, Run, Replay, Chart, Graph, Explain, Fix, Trim}
+use Rattle.hq_words.specs.declared.words.Asked.TheVariants.{Show, Pack, Audit, Check, Run, Replay, Chart, Graph, Explain, Witness, Fix, Trim}
 use Rattle.hq_words.specs.declared.words.WordsFault.{WordsFault}
 use Rattle.hq_words.specs.declared.words.WordsFault.TheVariants.{Words, Memory}
 
@@ -22,6 +22,7 @@ is_set (Some word) = bytes_eq word (codes "true")
 abbrev pub AsksWith : Text → Option Text → Option Text → Option Text → Option Text → Option Text → Option Text → Option Text → Option Text → Asked → Type 0
 AsksWith name job certificate timeline out copies pair second all (Show a) = (name ≡ codes "show") × (job ≡ Some a.now)
 AsksWith name job certificate timeline out copies pair second all (Pack words) = ⊥
+AsksWith name job certificate timeline out copies pair second all (Witness a b c) = ⊥
 AsksWith name job certificate timeline out copies pair second all (Audit a) = (name ≡ codes "audit") × (job ≡ Some a.now)
 AsksWith name job certificate timeline out copies pair second all (Check a b) = (name ≡ codes "check") × (job ≡ Some a.now) × (certificate ≡ Some b.now)
 AsksWith name job certificate timeline out copies pair second all (Run a b) = (name ≡ codes "run") × (job ≡ Some a.now) × (out ≡ option_map (λ o. o.now) b)
@@ -51,6 +52,8 @@ AsksOf name rows asked =
 -- the command of this name, with these arguments, is what is asked for
 abbrev pub AsksFor : Text → List Row → Asked → Type 0
 AsksFor name rows (Pack words) = (name ≡ codes "pack") × (all_of (codes "WORDS") rows ≡ Some (map (λ w. w.now) words.items))
+AsksFor name rows (Witness a b c) =
+    (name ≡ codes "witness") × (first_of (codes "JOB") rows ≡ Some a.now) × (first_of (codes "GOOD") rows ≡ option_map (λ o. o.now) b) × (first_of (codes "BAD") rows ≡ option_map (λ o. o.now) c)
 AsksFor name rows (Show a) = AsksOf name rows (Show a)
 AsksFor name rows (Audit a) = AsksOf name rows (Audit a)
 AsksFor name rows (Check a b) = AsksOf name rows (Check a b)

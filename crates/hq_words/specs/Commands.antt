@@ -49,6 +49,16 @@ all_rule = record (new_rule (codes "ALL")) { long = Some (codes "all"); action =
 abbrev pub explain_app : App
 explain_app = with_rule (with_rule (with_rule (with_rule (new_app (codes "explain")) job_rule) pair_rule) second_rule) all_rule
 
+-- not words by their places, but the ones behind `--good` and `--bad`
+abbrev pub good_rule : Rule
+good_rule = record (new_rule (codes "GOOD")) { long = Some (codes "good"); action = Some Set }
+
+abbrev pub bad_rule : Rule
+bad_rule = record (new_rule (codes "BAD")) { long = Some (codes "bad"); action = Some Set }
+
+abbrev pub witness_app : App
+witness_app = with_rule (with_rule (with_rule (new_app (codes "witness")) job_rule) good_rule) bad_rule
+
 abbrev pub fix_app : App
 fix_app = with_rule (new_app (codes "fix")) job_rule
 
@@ -82,7 +92,7 @@ abbrev pub running_app : App
 running_app = with_subcommand (with_subcommand (with_subcommand judging_app run_app.top) replay_app.top) chart_app.top
 
 abbrev pub telling_app : App
-telling_app = with_subcommand (with_subcommand running_app graph_app.top) explain_app.top
+telling_app = with_subcommand (with_subcommand (with_subcommand running_app graph_app.top) explain_app.top) witness_app.top
 
 abbrev pub changing_app : App
 changing_app = with_subcommand (with_subcommand telling_app fix_app.top) trim_app.top

@@ -3,7 +3,7 @@
 ghost use Rattle.std.specs.Prelude.{◌≡◌, IfOk, IsOkAnd, false};
 ghost use Rattle.clap.specs.Words.{app_of, new_app, rule_of, with_rule, with_subcommand};
 ghost use Rattle.clap.specs.declared.builder.command.Command.TheViews.{out-Command as fields_of};
-ghost use Rattle.hq_words.specs.Commands.{job_rule, file_rule, timeline_rule, show_app, audit_app, check_app, out_rule, pack_app, replay_app, copies_rule, chart_app, graph_app, pair_rule, second_rule, all_rule, words_rule, explain_app, fix_app, trim_app, run_app, program_app, judging_app, running_app, telling_app, changing_app, hsaq_app};
+ghost use Rattle.hq_words.specs.Commands.{job_rule, file_rule, timeline_rule, show_app, audit_app, check_app, out_rule, pack_app, replay_app, copies_rule, chart_app, graph_app, pair_rule, second_rule, all_rule, words_rule, explain_app, good_rule, bad_rule, witness_app, fix_app, trim_app, run_app, program_app, judging_app, running_app, telling_app, changing_app, hsaq_app};
 
 use clap::{Arg, ArgAction, Command};
 use std::alloc::{AllocError, Global};
@@ -34,6 +34,11 @@ const GRAPH_STATUS: &str =
 const EXPLAIN_STATUS: &str = "Pairs are told of in number order, without --all the first hundred.
 
 Exit status: 0 where every conflict is ordered, 4 with a conflict that nothing orders, 5 with packets that can never complete; 3 where the text is no job. With --pair that of these two packets.";
+
+const WITNESS_STATUS: &str =
+    "Each run completes every packet. Where none were found, the conflict is printed as `audit` does; nothing is said of whether there are some.
+
+Exit status: 0 where every conflict is ordered, 4 with a conflict that nothing orders, 5 with packets that can never complete; 3 where the text is no job.";
 
 const FIX_STATUS: &str =
     "The text is the one that was read but for the digits of changed headers; each change is told on standard error.
@@ -140,6 +145,28 @@ fn all<'a>(alloc: Global) -> Arg<'a>
         .long("all")
         .action(ArgAction::SetTrue)
         .help("Explains all pairs that conflict, and not only the first hundred")
+}
+
+/// The option `--good GOOD`.
+fn good<'a>(alloc: Global) -> Arg<'a>
+    ensures rule { rule_of result ≡ good_rule }
+    ensures local { result.global ≡ false }
+{
+    Arg::new(alloc, "GOOD")
+        .long("good")
+        .action(ArgAction::Set)
+        .help("Writes the timeline of the run that goes right to a file, as `replay` reads it")
+}
+
+/// The option `--bad BAD`.
+fn bad<'a>(alloc: Global) -> Arg<'a>
+    ensures rule { rule_of result ≡ bad_rule }
+    ensures local { result.global ≡ false }
+{
+    Arg::new(alloc, "BAD")
+        .long("bad")
+        .action(ArgAction::Set)
+        .help("Writes the timeline of the other run to a file")
 }
 
 /// The argument WORDS.
@@ -298,6 +325,22 @@ fn explain<'a>(alloc: Global) -> Result<Command<'a>, AllocError>
     of_pair.arg(all(alloc))
 }
 
+/// `witness JOB [--good OUT] [--bad OUT]`
+fn witness<'a>(alloc: Global) -> Result<Command<'a>, AllocError>
+    ensures app { IfOk result (λ c. app_of c ≡ witness_app) }
+    ensures local { IfOk result (λ c. (fields_of c).has_globals ≡ false) }
+{
+    of_job(
+        alloc,
+        "witness",
+        "Shows two runs of a job that isn't ordered in which a byte comes from elsewhere",
+        "hsaq witness <JOB> [--good <OUT>] [--bad <OUT>]",
+        WITNESS_STATUS,
+    )?
+    .arg(good(alloc))?
+    .arg(bad(alloc))
+}
+
 /// `fix JOB`
 fn fix<'a>(alloc: Global) -> Result<Command<'a>, AllocError>
     ensures app { IfOk result (λ c. app_of c ≡ fix_app) }
@@ -382,7 +425,8 @@ fn running<'a>(alloc: Global) -> Result<Command<'a>, AllocError>
 fn telling<'a>(alloc: Global) -> Result<Command<'a>, AllocError>
     ensures { IfOk result (λ c. app_of c ≡ telling_app) }
 {
-    with(with(running(alloc), graph(alloc)), explain(alloc))
+    let with_explain = with(with(running(alloc), graph(alloc)), explain(alloc));
+    with(with_explain, witness(alloc))
 }
 
 /// `hsaq` with those and the commands that change a job.

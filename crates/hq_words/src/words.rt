@@ -57,6 +57,12 @@ pub enum Asked<'a> {
         second: Option<&'a str>,
         all: bool,
     },
+    /// Two runs of a job that isn't ordered, and their timelines in files.
+    Witness {
+        job: &'a str,
+        good: Option<&'a str>,
+        bad: Option<&'a str>,
+    },
     /// A job's text with what it lacks to be ordered.
     Fix {
         job: &'a str,
@@ -112,6 +118,18 @@ fn pack_words<'a>(alloc: Global, own: &ArgMatches<'a>) -> Result<Vec<&'a str>, A
     }
 }
 
+/// What `witness` asks for with its arguments.
+fn asked_of_witness<'a>(own: &ArgMatches<'a>) -> Result<Asked<'a>, AllocError>
+    ensures { IfOk result (AsksFor (codes "witness") (rows_of (found_of own.now))) }
+{
+    let good = own.get_str("GOOD");
+    let bad = own.get_str("BAD");
+    match own.get_str("JOB") {
+        Some(job) => Ok(Asked::Witness { job, good, bad }),
+        None => Err(AllocError),
+    }
+}
+
 /// What the command of a name asks for with its arguments.
 fn asked_for<'a>(alloc: Global, name: &str, own: &ArgMatches<'a>) -> Result<Asked<'a>, AllocError>
     ensures { IfOk result (AsksFor name.now (rows_of (found_of own.now))) }
@@ -119,6 +137,9 @@ fn asked_for<'a>(alloc: Global, name: &str, own: &ArgMatches<'a>) -> Result<Aske
     if name == "pack" {
         let words = pack_words(alloc, own)?;
         return Ok(Asked::Pack { words });
+    }
+    if name == "witness" {
+        return asked_of_witness(own);
     }
     match asked_of_files(
         name,

@@ -1,0 +1,85 @@
+-- What `witness` writes.
+use Rattle.std.specs.Prelude.{◌≡◌, ℕ, ◌⊎◌, List, [], ◌++◌, Option, Some, None, codes}
+use Rattle.std.specs.Fmt.{decimal}
+use Rattle.std.specs.Io.KnownBytes.{Appends}
+use Rattle.hq_explain.specs.Shared.{spot_of}
+use Rattle.hq_explain.specs.declared.sharing.Spot.{Spot}
+use Rattle.hq_fence.specs.Names.{kind_name}
+use Rattle.hq_fence.specs.declared.shown.Kind.{Kind}
+use Rattle.hq_job.specs.Plan.{plan}
+use Rattle.hq_job.specs.Value.{JobValue}
+use Rattle.hq_model.specs.Fence.{Ordered}
+use Rattle.hq_timeline.specs.Printed.{text_of}
+use Rattle.hq_witness.specs.Witness.{WitnessValue, IsWitness}
+use Rattle.hq_witness.specs.declared.origin.Origin.{Origin}
+use Rattle.hq_witness.specs.declared.origin.Origin.TheVariants as origin
+use Rattle.hq_witness.specs.declared.place.Place.{Place}
+use Rattle.hq_witness.specs.declared.place.Place.TheVariants as place
+use Rattle.hq_engines.specs.Audit.{NotOrdered}
+use Rattle.hq_engines.specs.Reports.{with_feed}
+use Rattle.hq_engines.specs.declared.status.Status.{Status}
+use Rattle.hq_engines.specs.declared.status.Status.TheVariants.{Done, Conflict, Memory, File}
+
+-- ---- the lines
+
+-- the start, or the packet that stored the byte
+abbrev pub origin_text : Origin → List ℕ
+origin_text origin.Start = codes "start"
+origin_text (origin.StoredBy p) = decimal p
+
+-- a byte's buffer, and how far from its beginning the byte lies
+abbrev pub byte_text : Option Spot → List ℕ
+byte_text None = codes "memory"
+byte_text (Some spot) = codes "memory " ++ spot.name ++ codes " " ++ decimal spot.offset
+
+-- where the byte of a place lies, if it is one of memory
+abbrev pub spot_at : JobValue → Place → Option Spot
+spot_at job (place.Read p i) = None
+spot_at job (place.Memory b) = spot_of job.buffers b
+
+abbrev pub place_text : Place → Option Spot → List ℕ
+place_text (place.Read p i) spot = codes "read " ++ decimal p ++ codes " " ++ decimal i
+place_text (place.Memory b) spot = byte_text spot
+
+abbrev pub pair_text : ℕ → ℕ → Kind → List ℕ
+pair_text p r kind = codes "witness " ++ decimal p ++ codes " " ++ decimal r ++ codes " " ++ kind_name kind
+
+-- the place, and its origin in the good run and in the bad one
+abbrev pub differs_text : Place → Option Spot → Origin → Origin → List ℕ
+differs_text place spot good bad = place_text place spot ++ codes " " ++ origin_text good ++ codes " " ++ origin_text bad
+
+abbrev pub lines_text : ℕ → ℕ → Kind → Place → Option Spot → Origin → Origin → List ℕ
+lines_text p r kind place spot good bad = pair_text p r kind ++ codes "\n" ++ differs_text place spot good bad
+
+abbrev pub witness_text : JobValue → WitnessValue → List ℕ
+witness_text job w = lines_text w.p w.r w.kind w.place (spot_at job w.place) w.good_origin w.bad_origin
+
+-- ---- the report
+
+-- What is written of a job to the writers of the two timelines and as the answer. Where there is a witness, its two timelines and what it
+-- shows; else no timeline, and that the job is ordered, or why it isn't. Where memory runs out there may be a timeline of the good run.
+pub data WitnessReport (job : JobValue) : List ℕ → List ℕ → List ℕ → Status → Type 0 where
+  shown : (w : WitnessValue) → IsWitness (plan job) w
+      → WitnessReport job (text_of w.good) (text_of w.bad) (with_feed (witness_text job w)) Conflict
+  ordered : Ordered (plan job) → WitnessReport job [] [] (with_feed (codes "ordered")) Done
+  not_ordered : {out : List ℕ} {status : Status} → NotOrdered (plan job) out status → WitnessReport job [] [] out status
+  broken : (w : WitnessValue) → IsWitness (plan job) w
+      → WitnessReport job (text_of w.good) [] (with_feed (codes "out of memory")) Memory
+
+-- what two writers of timelines and one of an answer held, and hold
+pub record Held : Type 0 where
+  pub good : Option (List ℕ)
+  pub bad : Option (List ℕ)
+  pub answer : Option (List ℕ)
+
+-- The three texts were written behind what the writers held, and the status answered; or a writer failed.
+abbrev pub AllSaid : Held → Held → List ℕ → List ℕ → List ℕ → Status → Status → Type 0
+AllSaid old new good bad text status answered =
+    ((answered ≡ status) × Appends old.good new.good good × Appends old.bad new.bad bad × Appends old.answer new.answer text)
+    ⊎ (answered ≡ File)
+
+-- What the report asks for was written, and its status answered; or a writer failed.
+abbrev pub Witnessed : (List ℕ → List ℕ → List ℕ → Status → Type 0) → Held → Held → Status → Type 0
+Witnessed Report old new answered =
+    (good : List ℕ) × (bad : List ℕ) × (text : List ℕ) × (status : Status) × Report good bad text status
+    × AllSaid old new good bad text status answered

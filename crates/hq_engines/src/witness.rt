@@ -1,0 +1,232 @@
+//! `hsaq witness`: two runs of a refused job that show why.
+
+ghost use Rattle.std.specs.Prelude.{◌≡◌, ◌⊎◌, [], MatchOption, Some, codes};
+ghost use Rattle.hq_job.specs.Plan.{plan};
+ghost use Rattle.hq_timeline.specs.Printed.{text_of};
+ghost use Rattle.hq_witness.specs.Witness.{IsWitness, no_of};
+ghost use Rattle.hq_witness.specs.declared.fault.WitnessNo.TheVariants.{Ordered};
+ghost use Rattle.hq_engines.specs.Reports.{with_feed};
+ghost use Rattle.hq_engines.specs.Run.{BothSaid, contents_in};
+ghost use Rattle.hq_engines.specs.Witness.{Witnessed, WitnessReport, byte_text, differs_text, lines_text, origin_text, pair_text, place_text, spot_at, witness_text};
+
+use crate::audit::say_no_certificate;
+use crate::run::write_timeline;
+use crate::saying::{say, say_file, say_memory};
+use crate::status::Status;
+use hq_audit::AuditNo;
+use hq_explain::{Spot, spot_of};
+use hq_fence::Kind;
+use hq_job::Job;
+use hq_model::machine::stuck_law;
+use hq_timeline::PrintFault;
+use hq_witness::{Origin, Place, Witness, WitnessNo, witness};
+use std::alloc::Global;
+use std::fmt;
+use std::io::Write;
+
+/// An origin: `start`, or the packet's number.
+#[derive(Clone, Copy)]
+struct OriginWord(Origin);
+
+impl fmt::Display for OriginWord {
+    ghost output = { λ o. Some (origin_text o.0) };
+
+    fn fmt<W: fmt::Write>(&self, f: &mut fmt::Formatter<W>) -> fmt::Result {
+        match self.0 {
+            Origin::Start => f.write_str("start"),
+            Origin::StoredBy { packet } => write!(f, "{packet}"),
+        }
+    }
+}
+
+/// A byte of memory: `memory`, its buffer, and how far from its beginning it lies.
+#[derive(Clone, Copy)]
+struct ByteWords(Option<Spot>);
+
+impl fmt::Display for ByteWords {
+    ghost output = { λ b. Some (byte_text b.0) };
+
+    fn fmt<W: fmt::Write>(&self, f: &mut fmt::Formatter<W>) -> fmt::Result {
+        match self.0 {
+            Some(spot) => {
+                let name = spot.name;
+                let offset = spot.offset;
+                write!(f, "memory {name} {offset}")
+            }
+            None => f.write_str("memory"),
+        }
+    }
+}
+
+/// A place, with where its byte lies, if it is one of memory.
+#[derive(Clone, Copy)]
+struct PlaceWords {
+    place: Place,
+    spot: Option<Spot>,
+}
+
+impl fmt::Display for PlaceWords {
+    ghost output = { λ w. Some (place_text w.place w.spot) };
+
+    fn fmt<W: fmt::Write>(&self, f: &mut fmt::Formatter<W>) -> fmt::Result {
+        match self.place {
+            Place::Read { packet, entry } => write!(f, "read {packet} {entry}"),
+            Place::Memory { byte: _ } => write!(f, "{}", ByteWords(self.spot)),
+        }
+    }
+}
+
+/// The pair of a witness: `witness`, the packets and the kind of their conflict.
+#[derive(Clone, Copy)]
+struct PairWords {
+    p: u16,
+    r: u16,
+    kind: Kind,
+}
+
+impl fmt::Display for PairWords {
+    ghost output = { λ w. Some (pair_text w.p w.r w.kind) };
+
+    fn fmt<W: fmt::Write>(&self, f: &mut fmt::Formatter<W>) -> fmt::Result {
+        write!(f, "witness {} {} {}", self.p, self.r, self.kind)
+    }
+}
+
+/// Where two runs differ: the place, and its origin in each.
+#[derive(Clone, Copy)]
+struct DiffersWords {
+    place: PlaceWords,
+    good: OriginWord,
+    bad: OriginWord,
+}
+
+impl fmt::Display for DiffersWords {
+    ghost output = { λ w. Some (differs_text w.place.place w.place.spot w.good.0 w.bad.0) };
+
+    fn fmt<W: fmt::Write>(&self, f: &mut fmt::Formatter<W>) -> fmt::Result {
+        write!(f, "{} {} {}", self.place, self.good, self.bad)
+    }
+}
+
+/// What a witness shows, in two lines without the last feed.
+#[derive(Clone, Copy)]
+struct WitnessLines {
+    pair: PairWords,
+    differs: DiffersWords,
+}
+
+impl fmt::Display for WitnessLines {
+    ghost output = { λ w. Some (lines_text w.pair.p w.pair.r w.pair.kind w.differs.place.place w.differs.place.spot w.differs.good.0 w.differs.bad.0) };
+
+    fn fmt<W: fmt::Write>(&self, f: &mut fmt::Formatter<W>) -> fmt::Result {
+        write!(f, "{}\n{}", self.pair, self.differs)
+    }
+}
+
+/// Where the byte of a place lies, if it is one of memory.
+fn spot_at(job: &Job, place: Place) -> Option<Spot>
+    ensures { result ≡ spot_at job.now place }
+{
+    match place {
+        Place::Read {
+            packet: _,
+            entry: _,
+        } => None,
+        Place::Memory { byte } => spot_of(job.buffers(), byte as u64),
+    }
+}
+
+/// What a witness of a job shows.
+fn lines_of(job: &Job, witness: &Witness) -> WitnessLines
+    ensures { lines_text result.pair.p result.pair.r result.pair.kind result.differs.place.place result.differs.place.spot result.differs.good.0 result.differs.bad.0 ≡ witness_text job.now witness.now }
+{
+    let (p, r) = witness.pair();
+    let place = witness.place();
+    WitnessLines {
+        pair: PairWords {
+            p,
+            r,
+            kind: witness.kind(),
+        },
+        differs: DiffersWords {
+            place: PlaceWords {
+                place,
+                spot: spot_at(job, place),
+            },
+            good: OriginWord(witness.good_origin()),
+            bad: OriginWord(witness.bad_origin()),
+        },
+    }
+}
+
+/// Writes the timeline of a witness's bad run, and then what the witness shows.
+fn say_rest<T: Write, W: Write>(
+    alloc: Global,
+    bad: &mut Option<T>,
+    writer: &mut W,
+    job: &Job,
+    witness: &Witness,
+) -> Status
+    ensures { BothSaid (contents_in T.contents bad.old) (contents_in T.contents bad.new) (text_of witness.now.bad) (W.contents writer.old) (W.contents writer.new) (with_feed (witness_text job.now witness.now)) Status.Conflict result
+        ⊎ BothSaid (contents_in T.contents bad.old) (contents_in T.contents bad.new) [] (W.contents writer.old) (W.contents writer.new) (with_feed (codes "out of memory")) Status.Memory result }
+{
+    match write_timeline(alloc, bad, witness.bad()) {
+        Ok(()) => say(writer, lines_of(job, witness), Status::Conflict),
+        Err(PrintFault::Memory) => say_memory(writer),
+        Err(PrintFault::Writer) => say_file(writer),
+    }
+}
+
+/// Writes the timelines of a witness's two runs, and then what it shows.
+fn say_witness<T: Write, W: Write>(
+    alloc: Global,
+    good: &mut Option<T>,
+    bad: &mut Option<T>,
+    writer: &mut W,
+    job: &Job,
+    witness: &Witness,
+) -> Status
+    requires { IsWitness (plan job.now) witness.now }
+    ensures { Witnessed (WitnessReport job.now) (record { good = contents_in T.contents good.old; bad = contents_in T.contents bad.old; answer = W.contents writer.old }) (record { good = contents_in T.contents good.new; bad = contents_in T.contents bad.new; answer = W.contents writer.new }) result }
+{
+    match write_timeline(alloc, good, witness.good()) {
+        Ok(()) => say_rest(alloc, bad, writer, job, witness),
+        Err(PrintFault::Memory) => say_memory(writer),
+        Err(PrintFault::Writer) => say_file(writer),
+    }
+}
+
+/// What an audit says of a job that has no witness; none of an ordered one.
+fn refusal_of(fault: WitnessNo) -> Option<AuditNo>
+    ensures { MatchOption result (fault ≡ Ordered) (λ refusal. no_of refusal ≡ fault) }
+{
+    match fault {
+        WitnessNo::Ordered => None,
+        WitnessNo::Stuck(packets) => Some(AuditNo::Stuck(packets)),
+        WitnessNo::None { p, r, kind, why } => Some(AuditNo::Conflict { p, r, kind, why }),
+        WitnessNo::Memory => Some(AuditNo::Memory),
+    }
+}
+
+/// Looks for two runs of a job that show why an audit refuses it. Writes their timelines, where there are writers for them, and what they show: the
+/// pair that isn't ordered and the place in which the runs differ, with its origin in each, that of the good run first; or that the job is ordered,
+/// the packets that can never complete, or the conflict that nothing orders, where no two runs were found.
+pub fn witness_engine<T: Write, W: Write>(
+    alloc: Global,
+    job: &Job,
+    good: &mut Option<T>,
+    bad: &mut Option<T>,
+    writer: &mut W,
+) -> Status
+    ensures { Witnessed (WitnessReport job.now) (record { good = contents_in T.contents good.old; bad = contents_in T.contents bad.old; answer = W.contents writer.old }) (record { good = contents_in T.contents good.new; bad = contents_in T.contents bad.new; answer = W.contents writer.new }) result }
+{
+    job.valid();
+    stuck_law();
+    match witness(alloc, job) {
+        Ok(witness) => say_witness(alloc, good, bad, writer, job, &witness),
+        Err(fault) => match refusal_of(fault) {
+            Some(refusal) => say_no_certificate(writer, refusal),
+            None => say(writer, "ordered", Status::Done),
+        },
+    }
+}
