@@ -9,8 +9,8 @@ use Rattle.hq_cert.specs.View.{cited, rule_of}
 use Rattle.hq_model.specs.Job.{Job, packet, IsPacket, Decrements}
 use Rattle.hq_model.specs.Certificate as model
 use Rattle.hq_model.specs.Certificate.{Cites, Follows, signals}
-use Rattle.hq_model.specs.Certificate.Rule.{Or as ByOr, Through as ByThrough}
-use Rattle.hq_order.specs.Rounds.{ByEither}
+use Rattle.hq_model.specs.Certificate.Rule.{Or as OrRule, Through as ThroughRule}
+use Rattle.hq_order.specs.Rounds.{ByOr}
 use Rattle.hq_audit.specs.declared.lines.Lines.{Lines}
 use Rattle.hq_audit.specs.Rests.{Below, ByBranch}
 use Rattle.hq_audit.specs.Kept.{lines_of, Grown, Goes, Numbered, CitesBranch, Branched, AllBranched}
@@ -57,15 +57,15 @@ zip_map R f (x ∷ xs) [] h = h
 zip_map R f (x ∷ xs) (y ∷ ys) h = (h.0, zip_map R f xs ys h.1)
 
 pub either_follows : (job : Job) (a b : Lines) (p r : ℕ) (slots : List (Option ℕ)) (cs : List Citation) (known : ℕ → ℕ → Type 0)
-    → ByEither job known p r → slots ≡ (packet job r).deps → AllBranched job a b p (signals slots) cs → Follows job (lines_of b) (length (lines_of b)) p r (ByOr (map cited cs))
+    → ByOr job known p r → slots ≡ (packet job r).deps → AllBranched job a b p (signals slots) cs → Follows job (lines_of b) (length (lines_of b)) p r (OrRule (map cited cs))
 either_follows job a b p r slots cs known e same h = (
-  e.some.2.is_packet,
-  e.kind,
+  e.any.some.2.is_packet,
+  e.any.kind,
   zip_map (λ s branch. (d : ℕ) × Decrements job d s × Cites (lines_of b) (length (lines_of b)) branch p d) cited (signals (packet job r).deps) cs
       (subst (λ deps. AllZip (CitesBranch job (lines_of b) p) (signals deps) cs) same h.cite),
 )
 
-pub through_follows : (job : Job) (a b d : Lines) (p m r first second : ℕ) → Numbered job a b p m first → Numbered job b d m r second → Follows job (lines_of d) (length (lines_of d)) p r (ByThrough first second)
+pub through_follows : (job : Job) (a b d : Lines) (p m r first second : ℕ) → Numbered job a b p m first → Numbered job b d m r second → Follows job (lines_of d) (length (lines_of d)) p r (ThroughRule first second)
 through_follows job a b d p m r first second f s = (m, says_more (lines_of b) (lines_of d) (length (lines_of b)) (length (lines_of d)) first p m s.goes.grown s.goes.grown.len f.says, s.says)
 
 pub branch_before : (job : Job) (round p s d : ℕ) → ByBranch job round p s d → (d ≡ p → ⊥) → Below job round p d

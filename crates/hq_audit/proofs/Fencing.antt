@@ -4,8 +4,7 @@ use Rattle.hq_cert.specs.declared.citation.Citation.{Citation}
 use Rattle.hq_cert.specs.View.{cited}
 use Rattle.hq_packet.specs.declared.packet.Scope.{Scope}
 use Rattle.hq_model.specs.Job.{Job, packet}
-use Rattle.hq_model.specs.Fence.{Releases, Acquires}
-use Rattle.hq_model.specs.Certificate.{Line, Says, Cites, Fits, Fences, FencesHold, ReleaseHolds, AcquireHolds}
+use Rattle.hq_model.specs.Certificate.{Line, Says, Cites, Fences, FencesHold, ReleaseHolds, AcquireHolds}
 use Rattle.hq_model.specs.Certificate.Fences.{ForReadWrite, ForWriteWrite, ForWriteRead, ForWriteWriteChained, ForWriteReadChained}
 use Rattle.hq_audit.specs.declared.lines.Lines.{Lines}
 use Rattle.hq_audit.specs.Kept.{lines_of, Grown, Goes, Numbered}
@@ -43,14 +42,6 @@ fences_more job old new p r (ForWriteReadChained x x2 y2 y from link between lin
   says_more old new (length old) (length new) between x2 y2 g g.len h.4,
   cites_more old new (length old) (length new) to y r g g.len h.5,
 )
-
--- ---- fits
-
-pub release_fits : (job : Job) (p x : ℕ) (needed : Scope) → Releases job p x needed → Fits job p x (packet job x).release needed
-release_fits job p x needed h = record { is_packet = h.is_packet; queue = h.queue; scope_reaches = h.scope_reaches }
-
-pub acquire_fits : (job : Job) (r y : ℕ) (needed : Scope) → Acquires job r y needed → Fits job r y (packet job y).acquire needed
-acquire_fits job r y needed h = record { is_packet = h.is_packet; queue = h.queue; scope_reaches = h.scope_reaches }
 
 -- ---- what is cited
 

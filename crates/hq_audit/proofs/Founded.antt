@@ -2,24 +2,24 @@
 use Rattle.std.proofs.Common.{ℕ, zero, suc, ◌<◌, inl, inr, length, refl, sym, subst, arith, Some, None, Option}
 use Rattle.std.specs.Prelude.{MatchOption, IsSome}
 use Rattle.std.proofs.lemmas.Bool.{cases_lt}
-use Rattle.hq_model.specs.Job.{Job, IsPacket, Earlier}
-use Rattle.hq_model.specs.Order.{Before, Branch}
-use Rattle.hq_model.specs.Order.Before.{by_bit_of as bit_of, by_bit_ahead as bit_ahead, by_queue as queued, by_and as waits_one, by_or as waits_each, through}
+use Rattle.hq_model.specs.Job.{Job, IsPacket}
+use Rattle.hq_model.specs.Order.{ByBit, ByQueue, ByAnd, Before, Branch}
+use Rattle.hq_model.specs.Order.Before.{by_bit as bit_behind, by_queue as queued, by_and as waits_one, by_or as waits_each, through}
 use Rattle.hq_model.specs.Order.Branch.{itself, after}
-use Rattle.hq_order.specs.Rounds.{Direct, Next, Within, Reaches, ByEither, IsFirstWithin, Between}
-use Rattle.hq_order.specs.Rounds.Precedes.{by_bit_of, by_bit_ahead, by_queue}
+use Rattle.hq_order.specs.Rounds.{Direct, Next, Within, Reaches, ByOr, IsFirstWithin, Between}
+use Rattle.hq_order.specs.Rounds.Precedes.{by_bit, by_queue}
 use Rattle.hq_order.specs.Rounds.Awaits.{by_and, by_or}
 use Rattle.hq_order.specs.Rounds.Next.{by_known, by_either, through as joining}
-use Rattle.hq_order.proofs.Single.{direct_packet, direct_packet_r}
+use Rattle.hq_order.proofs.Single.{bit_packet, direct_packet, direct_packet_r, earlier_first}
 use Rattle.hq_order.proofs.Closure.{within_before}
 use Rattle.hq_order.proofs.Middles.{within_le}
-use Rattle.hq_audit.specs.Rests.{Below, ByBit, ByQueue, BySlot, ByBranch, ByMiddle}
+use Rattle.hq_audit.specs.Rests.{Below, ByBranch, ByMiddle}
 
 -- ---- what is within a round is of packets
 
 next_second : (job : Job) (k p r : ℕ) → ((p r : ℕ) → Within job k p r → IsPacket job r) → Next job (Within job k) p r → IsPacket job r
 next_second job k p r f (by_known w) = f p r w
-next_second job k p r f (by_either e) = e.some.2.is_packet
+next_second job k p r f (by_either e) = e.any.some.2.is_packet
 next_second job k p r f (joining {m} a b) = f m r b
 
 pub within_second : (job : Job) (k p r : ℕ) → Within job k p r → IsPacket job r
@@ -29,7 +29,7 @@ within_second job (suc k) p r w = next_second job k p r (within_second job k) w
 next_first : (job : Job) (k p r : ℕ) → ((p r : ℕ) → Within job k p r → IsPacket job p) → Next job (Within job k) p r → IsPacket job p
 next_first job k p r f (by_known w) = f p r w
 next_first job k p r f (by_either e) =
-    let x = e.each e.some.0 e.some.1 e.some.2 in
+    let x = e.each e.any.some.0 e.any.some.1 e.any.some.2 in
     elim x.upto [ inl same ↦ subst (IsPacket job) (sym same) x.decrements.is_packet | inr w ↦ f p x.d w ]
 next_first job k p r f (joining {m} a b) = f p m a
 
@@ -40,23 +40,18 @@ within_first job (suc k) p r w = next_first job k p r (within_first job k) w
 -- ---- so is what is before
 
 pub before_second : (job : Job) (p r : ℕ) → Before job p r → IsPacket job r
-before_second job p r (bit_of e b) = e.is_packet
-before_second job p r (bit_ahead e b f) = f.is_packet
-before_second job p r (queued e b) = e.is_packet
-before_second job p r (waits_one k d c) = d.is_packet
-before_second job p r (waits_each k d f) = d.is_packet
+before_second job p r (bit_behind by) = bit_packet job p r by
+before_second job p r (queued by) = by.earlier.is_packet
+before_second job p r (waits_one by) = by.dependency.is_packet
+before_second job p r (waits_each any f) = any.some.2.is_packet
 before_second job p r (through {m} b c) = before_second job m r c
-
-earlier_first : (job : Job) (p r : ℕ) → Earlier job p r → IsPacket job p
-earlier_first job p r e = let a : p < r = e.ahead in let b : r < length job.packets = e.is_packet in omega arith
 
 mutual
   first_of : (job : Job) {p r : ℕ} → Before job p r → IsPacket job p
-  first_of job (bit_of {p = p} {r = r} e b) = earlier_first job p r e
-  first_of job (bit_ahead {p = p} {j = j} e b f) = earlier_first job p j e
-  first_of job (queued {p = p} {r = r} e b) = earlier_first job p r e
-  first_of job (waits_one k d c) = c.is_packet
-  first_of job (waits_each {slot = slot} {s = s} k d f) = branch_first job (f slot s d)
+  first_of job (bit_behind {p = p} {j = j} by) = earlier_first job p j by.earlier
+  first_of job (queued {p = p} {r = r} by) = earlier_first job p r by.earlier
+  first_of job (waits_one by) = by.decrements.is_packet
+  first_of job (waits_each any f) = let (slot, s, d) = any.some in branch_first job (f slot s d)
   first_of job (through b c) = first_of job b
 
   branch_first : (job : Job) {p s : ℕ} → Branch job p s → IsPacket job p
@@ -79,17 +74,16 @@ reaches_branch job round p s x = record { decrements = x.decrements; upto = x.up
 pub record Refuted (job : Job) (round p r : ℕ) : Type 0 where
   pub no_bit : (j : ℕ) → ByBit job p r j → ⊥
   pub no_queue : ByQueue job p r → ⊥
-  pub no_slot : (slot : ℕ) → BySlot job p r slot → ⊥
-  pub no_either : ByEither job (Below job round) p r → ⊥
+  pub no_slot : (slot s : ℕ) → ByAnd job p r slot s → ⊥
+  pub no_either : ByOr job (Below job round) p r → ⊥
   pub no_middle : (m : ℕ) → ByMiddle job round p r m → ⊥
 
 not_direct : (job : Job) (round p r : ℕ) → Refuted job round p r → Direct job p r → ⊥
-not_direct job round p r n (inl (by_bit_of e b)) = n.no_bit r (record { earlier = e; bit = b; upto = inl refl })
-not_direct job round p r n (inl (by_bit_ahead {j} e b f)) = n.no_bit j (record { earlier = e; bit = b; upto = inr f })
-not_direct job round p r n (inl (by_queue e b)) = n.no_queue (record { earlier = e; barrier = b })
-not_direct job round p r n (inr (by_and {slot} {s} k d c)) = n.no_slot slot (record { s = s; kind = k; dependency = d; decrements = c })
-not_direct job round p r n (inr (by_or {slot} {s} k d all)) =
-    n.no_either (record { kind = k; some = (slot, s, d); each = λ slot s d. record { d = p; decrements = all slot s d; upto = inl refl } })
+not_direct job round p r n (inl (by_bit {j} by)) = n.no_bit j by
+not_direct job round p r n (inl (by_queue by)) = n.no_queue by
+not_direct job round p r n (inr (by_and {slot} {s} by)) = n.no_slot slot s by
+not_direct job round p r n (inr (by_or any all)) =
+    n.no_either (record { any = any; each = λ slot s d. record { d = p; decrements = all slot s d; upto = inl refl } })
 
 under : (job : Job) (k p r : ℕ) → Within job k p r → Below job (suc k) p r
 under job k p r w = record { k = k; lower = omega arith; within = w }
@@ -98,8 +92,7 @@ not_next : (job : Job) (k p r : ℕ) → Refuted job (suc k) p r → (Within job
 not_next job k p r n ban (by_known w) = ban w
 not_next job k p r n ban (by_either e) =
     n.no_either (record {
-      kind = e.kind;
-      some = e.some;
+      any = e.any;
       each = λ slot s d.
           let x = e.each slot s d in
           record { d = x.d; decrements = x.decrements; upto = elim x.upto [ inl same ↦ inl same | inr w ↦ inr (under job k p x.d w) ] };

@@ -1,8 +1,8 @@
 -- Why a packet comes before another: the rule, and what it rests on.
-use Rattle.std.specs.Prelude.{◌≡◌, ℕ, ◌<◌, ◌⊎◌, IsTrue}
-use Rattle.hq_model.specs.Job.{Job, packet, Earlier, Dependency, Decrements, IsBarrier}
-use Rattle.hq_model.specs.Job.Kind.{BarrierAnd}
-use Rattle.hq_order.specs.Rounds.{Within, ByEither}
+use Rattle.std.specs.Prelude.{◌≡◌, ℕ, ◌<◌, ◌⊎◌}
+use Rattle.hq_model.specs.Job.{Job, Decrements}
+use Rattle.hq_model.specs.Order.{ByBit, ByQueue, ByAnd}
+use Rattle.hq_order.specs.Rounds.{Within, ByOr}
 use Rattle.hq_audit.specs.declared.grounds.Ground.{Ground}
 use Rattle.hq_audit.specs.declared.grounds.Ground.TheVariants.{Bit, Queue, And, Or, Through}
 
@@ -11,24 +11,6 @@ pub record Below (job : Job) (round p r : ℕ) : Type 0 where
   pub k : ℕ
   pub lower : k < round
   pub within : Within job k p r
-
--- r, or an earlier packet of its queue, is j, which has the barrier bit and stands behind p
-pub record ByBit (job : Job) (p r j : ℕ) : Type 0 where
-  pub earlier : Earlier job p j
-  pub bit : IsTrue (packet job j).bit
-  pub upto : (j ≡ r) ⊎ Earlier job j r
-
--- p is a barrier packet ahead of r in its queue
-pub record ByQueue (job : Job) (p r : ℕ) : Type 0 where
-  pub earlier : Earlier job p r
-  pub barrier : IsBarrier job p
-
--- r is a barrier-AND, and p completes on its dependency in this slot
-pub record BySlot (job : Job) (p r slot : ℕ) : Type 0 where
-  pub s : ℕ
-  pub kind : (packet job r).kind ≡ BarrierAnd
-  pub dependency : Dependency job r slot s
-  pub decrements : Decrements job p s
 
 -- d completes on the signal, and p is d or before it by lower rounds
 pub record ByBranch (job : Job) (round p s d : ℕ) : Type 0 where
@@ -44,6 +26,6 @@ pub record ByMiddle (job : Job) (round p r m : ℕ) : Type 0 where
 abbrev pub IsGround : Job → ℕ → ℕ → ℕ → Ground → Type 0
 IsGround job round p r (Bit j) = ByBit job p r j
 IsGround job round p r Queue = ByQueue job p r
-IsGround job round p r (And slot) = BySlot job p r slot × (slot < 5)
-IsGround job round p r Or = ByEither job (Below job round) p r
+IsGround job round p r (And slot) = ((s : ℕ) × ByAnd job p r slot s) × (slot < 5)
+IsGround job round p r Or = ByOr job (Below job round) p r
 IsGround job round p r (Through m) = ByMiddle job round p r m

@@ -6,7 +6,7 @@ ghost use Rattle.hq_model.specs.Job.{packet};
 ghost use Rattle.hq_model.specs.Job.{IsPacket};
 ghost use Rattle.hq_model.specs.Certificate.{Says, signals};
 ghost use Rattle.hq_model.specs.Order as order;
-ghost use Rattle.hq_order.specs.Rounds.{IsFirstWithin, Reaches, ByEither};
+ghost use Rattle.hq_order.specs.Rounds.{IsFirstWithin, Reaches, ByOr};
 ghost use Rattle.hq_audit.specs.Rests.{Below, ByMiddle};
 ghost use Rattle.hq_audit.specs.Kept.{lines_of, Kept, Numbered, Ruled, Branched, AllBranched};
 
@@ -237,7 +237,7 @@ impl Lines {
     ) -> Result<Rule, AllocError>
         requires kept { Kept before.now self.old }
         requires p_is { IsPacket before.now p }
-        requires either { ByEither before.now (Below before.now round) p r }
+        requires either { ByOr before.now (Below before.now round) p r }
         ensures { IfOk result (λ rule. Ruled before.now self.old self.new p r rule) }
     {
         let waiting = before.job().packet(r);

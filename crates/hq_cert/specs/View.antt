@@ -9,7 +9,7 @@ use Rattle.hq_cert.specs.declared.certificate.Fences.TheVariants.{ReadWrite, Wri
 use Rattle.hq_cert.specs.declared.certificate.Pair.{Pair}
 use Rattle.hq_cert.specs.declared.certificate.Certificate.TheInside.{Inside}
 use Rattle.hq_model.specs.Certificate as model
-use Rattle.hq_model.specs.Certificate.Rule.{Bit as ByBit, Queue as ByQueue, And as ByAnd, Or as ByOr, Through as ByThrough}
+use Rattle.hq_model.specs.Certificate.Rule.{Bit as BitRule, Queue as QueueRule, And as AndRule, Or as OrRule, Through as ThroughRule}
 use Rattle.hq_model.specs.Certificate.Fences.{ForReadWrite, ForWriteWrite, ForWriteRead, ForWriteWriteChained, ForWriteReadChained}
 
 -- the number of the line, or None for `=`
@@ -17,11 +17,11 @@ abbrev pub cited : Citation → Option ℕ
 cited c = if c.code == 4294967295 then None else Some c.code
 
 abbrev pub rule_of : Rule → model.Rule
-rule_of (Bit j) = ByBit j
-rule_of Queue = ByQueue
-rule_of (And slot) = ByAnd slot
-rule_of (Or branches) = ByOr (map cited branches.value.citations.items)
-rule_of (Through first second) = ByThrough first second
+rule_of (Bit j) = BitRule j
+rule_of Queue = QueueRule
+rule_of (And slot) = AndRule slot
+rule_of (Or branches) = OrRule (map cited branches.value.citations.items)
+rule_of (Through first second) = ThroughRule first second
 
 abbrev pub line_of : Line → model.Line
 line_of line = record { p = line.p; r = line.r; rule = rule_of line.rule }

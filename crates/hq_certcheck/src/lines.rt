@@ -1,41 +1,40 @@
 //! Lines of a certificate, one by one.
 
-ghost use Rattle.std.specs.Prelude.{ℕ, ◌<◌, ◌↔◌, IsTrue, [], map, length, MatchOption};
+ghost use Rattle.std.specs.Prelude.{ℕ, ◌<◌, ◌↔◌, IsTrue, map, length, MatchOption};
 ghost use Rattle.std.specs.List.{AllZip};
 ghost use Rattle.hq_cert.specs.View.{line_of, rule_of, cited};
 ghost use Rattle.hq_job.specs.Plan.{plan};
 ghost use Rattle.hq_model.specs.Certificate as certificate;
 ghost use Rattle.hq_model.specs.Certificate.{Follows, signals};
-ghost use Rattle.hq_model.specs.Certificate.Rule.{Bit as ByBit, Queue as ByQueue, And as ByAnd, Or as ByOr};
+ghost use Rattle.hq_model.specs.Certificate.Rule.{Or as OrRule};
+ghost use Rattle.hq_model.specs.Order.{ByAnd, ByBit, ByQueue};
 ghost use Rattle.hq_certcheck.specs.Listed.{HoldsFor, LineFollows, FirstBadLine};
 
 use crate::citing::{follower, says};
-use crate::packets::{
-    completes_on, dependency, has_bit, is_and, is_barrier, is_earlier, is_or, is_packet, slots,
-};
+use crate::packets::{is_and, is_or};
 use hq_cert::{Citation, Line, Rule};
 use hq_job::Job;
 
 /// Whether p comes before r by the barrier bit of j.
 fn by_bit(job: &Job, p: usize, j: usize, r: usize) -> bool
-    ensures { IsTrue result ↔ Follows (plan job.now) [] 0 p r (ByBit j) }
+    ensures { IsTrue result ↔ ByBit (plan job.now) p r j }
 {
-    is_earlier(job, p, j) && has_bit(job, j) && (j == r || is_earlier(job, j, r))
+    job.is_earlier(p, j) && job.has_bit(j) && (j == r || job.is_earlier(j, r))
 }
 
 /// Whether p comes before r since it is a barrier packet of the same queue.
 fn by_queue(job: &Job, p: usize, r: usize) -> bool
-    ensures { IsTrue result ↔ Follows (plan job.now) [] 0 p r ByQueue }
+    ensures { IsTrue result ↔ ByQueue (plan job.now) p r }
 {
-    is_earlier(job, p, r) && is_barrier(job, p)
+    job.is_earlier(p, r) && job.is_barrier(p)
 }
 
 /// Whether r is a barrier-AND, and p completes on the dependency in this slot of it.
 fn by_and(job: &Job, p: usize, slot: usize, r: usize) -> bool
-    ensures { IsTrue result ↔ Follows (plan job.now) [] 0 p r (ByAnd slot) }
+    ensures { IsTrue result ↔ ((s : ℕ) × ByAnd (plan job.now) p r slot s) }
 {
-    match dependency(job, r, slot) {
-        Some(signal) => is_and(job, r) && completes_on(job, p, signal),
+    match job.dependency(r, slot) {
+        Some(signal) => is_and(job, r) && job.completes_on(p, signal),
         None => false,
     }
 }
@@ -52,9 +51,9 @@ fn holds_for(
     ensures { IsTrue result ↔ HoldsFor (plan job.now) (map line_of lines.now) limit p signal (cited branch) }
 {
     match branch.number() {
-        None => completes_on(job, p, signal),
+        None => job.completes_on(p, signal),
         Some(k) => match follower(lines, limit, k as usize, p) {
-            Some(number) => completes_on(job, number, signal),
+            Some(number) => job.completes_on(number, signal),
             None => false,
         },
     }
@@ -88,11 +87,11 @@ fn hold_for_each(
 
 /// Whether r is a barrier-OR whose dependencies have these branches.
 fn by_or(job: &Job, lines: &[Line], limit: usize, p: usize, r: usize, branches: &[Citation]) -> bool
-    ensures { IsTrue result ↔ Follows (plan job.now) (map line_of lines.now) limit p r (ByOr (map cited branches.now)) }
+    ensures { IsTrue result ↔ Follows (plan job.now) (map line_of lines.now) limit p r (OrRule (map cited branches.now)) }
 {
-    is_packet(job, r)
+    job.is_packet(r)
         && is_or(job, r)
-        && hold_for_each(job, lines, limit, p, slots(job, r), branches)
+        && hold_for_each(job, lines, limit, p, job.slots(r), branches)
 }
 
 /// Whether the first line says that p comes before a packet, and the second that this comes before r.

@@ -5,12 +5,11 @@ ghost use Rattle.hq_cert.specs.View.{line_of, pair_of, fences_of, cited};
 ghost use Rattle.hq_job.specs.Plan.{plan};
 ghost use Rattle.hq_model.specs.Job.{packet, IsPacket};
 ghost use Rattle.hq_model.specs.Fence.{Forwards};
-ghost use Rattle.hq_model.specs.Certificate.{Fits, ReleaseHolds, AcquireHolds, FencesHold};
+ghost use Rattle.hq_model.specs.Certificate.{ReleaseHolds, AcquireHolds, FencesHold};
 ghost use Rattle.hq_model.specs.Certificate.Fences.{ForWriteWrite, ForWriteRead, ForWriteWriteChained, ForWriteReadChained};
 ghost use Rattle.hq_certcheck.specs.Listed.{PairFollows, FirstBadPair, NeedsSystem};
 
 use crate::citing::{cites, says};
-use crate::packets::{acquire, is_packet, need, reaches, release, same_agent, same_queue};
 use hq_cert::{Citation, Fences, Line, Pair, ReadChain, WriteChain};
 use hq_job::Job;
 use hq_packet::Scope;
@@ -18,17 +17,17 @@ use hq_packet::Scope;
 /// Whether x stands in p's queue, and releases as far as is needed.
 fn releases(job: &Job, p: usize, x: usize, needed: Scope) -> bool
     requires { IsPacket (plan job.now) p }
-    ensures { IsTrue result ↔ Fits (plan job.now) p x (packet (plan job.now) x).release needed }
+    ensures { IsTrue result ↔ FenceReaches (plan job.now) p x (packet (plan job.now) x).release needed }
 {
-    is_packet(job, x) && same_queue(job, x, p) && reaches(release(job, x), needed)
+    job.is_packet(x) && job.same_queue(x, p) && job.release_of(x).reaches(needed)
 }
 
 /// Whether y stands in r's queue, and acquires from as far as is needed.
 fn acquires(job: &Job, r: usize, y: usize, needed: Scope) -> bool
     requires { IsPacket (plan job.now) r }
-    ensures { IsTrue result ↔ Fits (plan job.now) r y (packet (plan job.now) y).acquire needed }
+    ensures { IsTrue result ↔ FenceReaches (plan job.now) r y (packet (plan job.now) y).acquire needed }
 {
-    is_packet(job, y) && same_queue(job, y, r) && reaches(acquire(job, y), needed)
+    job.is_packet(y) && job.same_queue(y, r) && job.acquire_of(y).reaches(needed)
 }
 
 /// Whether m stands on p's agent, and releases to the system.
@@ -36,7 +35,7 @@ fn forwards(job: &Job, p: usize, m: usize) -> bool
     requires { IsPacket (plan job.now) p }
     ensures { IsTrue result ↔ Forwards (plan job.now) p m (packet (plan job.now) m).release }
 {
-    is_packet(job, m) && same_agent(job, m, p) && reaches(release(job, m), Scope::System)
+    job.is_packet(m) && job.agent_of(m) == job.agent_of(p) && job.release_of(m).reaches(Scope::System)
 }
 
 /// Whether m stands on r's agent, and acquires from the system.
@@ -44,7 +43,7 @@ fn fetches(job: &Job, r: usize, m: usize) -> bool
     requires { IsPacket (plan job.now) r }
     ensures { IsTrue result ↔ Forwards (plan job.now) r m (packet (plan job.now) m).acquire }
 {
-    is_packet(job, m) && same_agent(job, m, r) && reaches(acquire(job, m), Scope::System)
+    job.is_packet(m) && job.agent_of(m) == job.agent_of(r) && job.acquire_of(m).reaches(Scope::System)
 }
 
 /// Whether a fence between two packets needs to reach the whole system.
@@ -53,7 +52,7 @@ fn needs_system(job: &Job, p: usize, r: usize) -> bool
     requires r_is { IsPacket (plan job.now) r }
     ensures { IsTrue result ↔ NeedsSystem (plan job.now) p r }
 {
-    need(job, p, r) == Scope::System
+    job.need(p, r) == Scope::System
 }
 
 /// Whether p's release begins with x, and goes on to x2 by this line.
@@ -92,7 +91,7 @@ fn release_holds(
 {
     match link.number() {
         Some(link) => release_goes_on(job, lines, p, r, x, x2, link as usize),
-        None => x == x2 && releases(job, p, x, need(job, p, r)),
+        None => x == x2 && releases(job, p, x, job.need(p, r)),
     }
 }
 
@@ -132,7 +131,7 @@ fn acquire_holds(
 {
     match link.number() {
         Some(link) => acquire_goes_on(job, lines, p, r, y2, y, link as usize),
-        None => y2 == y && acquires(job, r, y, need(job, p, r)),
+        None => y2 == y && acquires(job, r, y, job.need(p, r)),
     }
 }
 
@@ -150,7 +149,7 @@ fn write_write(
     requires r_is { IsPacket (plan job.now) r }
     ensures { IsTrue result ↔ FencesHold (plan job.now) (map line_of lines.now) p r (ForWriteWrite x (cited from) on) }
 {
-    releases(job, p, x, need(job, p, r))
+    releases(job, p, x, job.need(p, r))
         && cites(lines, lines.len(), from, p, x)
         && says(lines, lines.len(), on, x, r)
 }
@@ -171,7 +170,7 @@ fn write_read(
     requires r_is { IsPacket (plan job.now) r }
     ensures { IsTrue result ↔ FencesHold (plan job.now) (map line_of lines.now) p r (ForWriteRead x y (cited from) between (cited to)) }
 {
-    let needed = need(job, p, r);
+    let needed = job.need(p, r);
     releases(job, p, x, needed)
         && acquires(job, r, y, needed)
         && cites(lines, lines.len(), from, p, x)
@@ -249,7 +248,7 @@ fn pair_holds(job: &Job, lines: &[Line], pair: &Pair) -> bool
 {
     let p = pair.p as usize;
     let r = pair.r as usize;
-    is_packet(job, p) && is_packet(job, r) && fences_hold(job, lines, p, r, &pair.fences)
+    job.is_packet(p) && job.is_packet(r) && fences_hold(job, lines, p, r, &pair.fences)
 }
 
 /// The packets of the first pair line that doesn't hold.

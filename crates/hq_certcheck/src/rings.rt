@@ -5,7 +5,6 @@ ghost use Rattle.hq_job.specs.Plan.{plan};
 ghost use Rattle.hq_model.specs.Job.{packet, IsPacket, place_in_queue, Frees};
 ghost use Rattle.hq_certcheck.specs.Placed.{IsTable, HasSlot};
 
-use crate::packets::same_queue;
 use hq_job::Job;
 use std::alloc::{AllocError, Global};
 
@@ -54,7 +53,7 @@ fn frees(job: &Job, queue_places: &[usize], p: usize, m: usize) -> bool
 {
     job.valid();
     let size = job.queues()[job.packet(m).queue as usize].size as usize;
-    job.rings() && same_queue(job, p, m) && queue_places[p] + size <= queue_places[m]
+    job.rings() && job.same_queue(p, m) && queue_places[p] + size <= queue_places[m]
 }
 
 /// The least place of m and the packets that are submitted after it.

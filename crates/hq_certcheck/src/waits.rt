@@ -5,7 +5,7 @@ ghost use Rattle.hq_job.specs.Plan.{plan};
 ghost use Rattle.hq_model.specs.Job.{packet, IsPacket};
 ghost use Rattle.hq_certcheck.specs.Placed.{IsOverBefore, IsNoted, AreLasts, AllAreOver, OneIsOver, HasWaited};
 
-use crate::packets::{is_and, is_or, slots};
+use crate::packets::{is_and, is_or};
 use hq_job::Job;
 use std::alloc::{AllocError, Global};
 
@@ -93,7 +93,7 @@ fn all_are_over(job: &Job, places: &[usize], lasts: &[Option<usize>], r: usize) 
     requires r_is { r < length job.now.packets }
     ensures { IsTrue result ↔ AllAreOver (plan job.now) places.now r }
 {
-    for slot in slots(job, r) {
+    for slot in job.slots(r) {
         if let Some(signal) = slot {
             if !is_over(job, places, lasts, *signal, r) {
                 return false;
@@ -110,7 +110,7 @@ fn one_is_over(job: &Job, places: &[usize], lasts: &[Option<usize>], r: usize) -
     requires r_is { r < length job.now.packets }
     ensures { IsTrue result ↔ OneIsOver (plan job.now) places.now r }
 {
-    for slot in slots(job, r) {
+    for slot in job.slots(r) {
         if let Some(signal) = slot {
             if is_over(job, places, lasts, *signal, r) {
                 return true;

@@ -20,23 +20,24 @@ use Rattle.hq_audit.proofs.Certifying.{shown_is_ordered, turned}
 use Rattle.hq_change.specs.declared.level.Level.TheVariants as level
 use Rattle.hq_change.specs.Levels.{IsAt, IsLowered, Stays}
 use Rattle.hq_change.specs.Minimal.{AtOrAbove, Settled}
-use Rattle.hq_change.specs.Foresight.{AllForeseen, AreClashes, BitsSettled, Clash, Foreseen}
+use Rattle.hq_fence.specs.Judgement.{HaveConflict}
+use Rattle.hq_change.specs.Foresight.{AllForeseen, AreConflicts, BitsSettled, Foreseen}
 use Rattle.hq_change.proofs.Single.{lowered_below, lowered_not_at}
 use Rattle.hq_change.proofs.Between.{itself_below}
 use Rattle.hq_change.proofs.Whole.{packet_kept, settled_more}
 
 -- ---- packets that are apart
 
-pub apart_refuses : (job : Job) (rows : List (Vec ℕ)) (b a : ℕ) → HaveOrder job rows → b < a → IsPacket job a → Clash job b a → ¬ Marks rows b a → ¬ Marks rows a b → ¬ Ordered job
-apart_refuses job rows b a h low is clash first second o = elim (o.shown b a clash.0 low is clash.1) [
-  | inl shown ↦ first (h.all b a (shown_is_before job clash.0 b a (shown clash.0 clash.1)))
-  | inr shown ↦ let c = turned job clash.0 a b clash.1 in second (h.all a b (shown_is_before job c.0 a b (shown c.0 c.1)))
+pub apart_refuses : (job : Job) (rows : List (Vec ℕ)) (b a : ℕ) → HaveOrder job rows → b < a → IsPacket job a → HaveConflict job b a → ¬ Marks rows b a → ¬ Marks rows a b → ¬ Ordered job
+apart_refuses job rows b a h low is conflict first second o = elim (o.shown b a conflict.0 low is conflict.1) [
+  | inl shown ↦ first (h.all b a (shown_is_before job conflict.0 b a (shown conflict.0 conflict.1)))
+  | inr shown ↦ let c = turned job conflict.0 a b conflict.1 in second (h.all a b (shown_is_before job c.0 a b (shown c.0 c.1)))
 ]
 
-pub clashes_stay : (j k : Job) (rows : List (Vec ℕ)) → SameButHeads j k → AreClashes j rows → AreClashes k rows
-clashes_stay j k rows same h = record {
+pub conflicts_stay : (j k : Job) (rows : List (Vec ℕ)) → SameButHeads j k → AreConflicts j rows → AreConflicts k rows
+conflicts_stay j k rows same h = record {
   square = subst (λ n. IsSquare n rows) (same_length j.packets k.packets (packets_same j k same)) h.square;
-  clash = λ b a m. let x = h.clash b a m in (x.0, (x.1.0, (heads_leave_conflicts j k x.1.0 b a same).0 x.1.1));
+  conflict = λ b a m. let x = h.conflict b a m in (x.0, (x.1.0, (heads_leave_conflicts j k x.1.0 b a same).0 x.1.1));
 }
 
 -- ---- one bit
@@ -119,12 +120,12 @@ more_foreseen floor p old now new all one = record {
       (λ q from to. let same : q ≡ p = omega (arith, from, to) in subst (λ r. IsAt level.Bit (head_at new r) → Settled floor new r Bit) (sym same) one.settled);
 }
 
--- ---- clashes noted
+-- ---- conflicts noted
 
-pub clash_more : (job : Job) (a b : ℕ) (old now new : List ℕ) → now ≡ old → ((p : ℕ) → has new p ≡ (has now p || p == b)) → b < a → Clash job b a → ((x : ℕ) → IsTrue (has old x) → (x < a) × Clash job x a) → (x : ℕ) → IsTrue (has new x) → (x < a) × Clash job x a
-clash_more job a b old now new e exact low clash h x m = elim ((mark_bit (has now x) (has new x) x b (exact x)).0 m) [
+pub conflict_more : (job : Job) (a b : ℕ) (old now new : List ℕ) → now ≡ old → ((p : ℕ) → has new p ≡ (has now p || p == b)) → b < a → HaveConflict job b a → ((x : ℕ) → IsTrue (has old x) → (x < a) × HaveConflict job x a) → (x : ℕ) → IsTrue (has new x) → (x < a) × HaveConflict job x a
+conflict_more job a b old now new e exact low conflict h x m = elim ((mark_bit (has now x) (has new x) x b (exact x)).0 m) [
   | inl was ↦ h x (subst (λ xs. IsTrue (has xs x)) e was)
-  | inr same ↦ subst (λ y. (y < a) × Clash job y a) (sym same) (low, clash)
+  | inr same ↦ subst (λ y. (y < a) × HaveConflict job y a) (sym same) (low, conflict)
 ]
 
 pub square_rows : (n : ℕ) (rows : List (Vec ℕ)) → n ≤ 1024 → length rows ≡ n → ((r : ℕ) → r < n → length (row rows r) ≡ words_for n) → IsSquare n rows

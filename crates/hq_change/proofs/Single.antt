@@ -4,7 +4,7 @@ use Rattle.std.proofs.lemmas.Bool.{true≢false}
 use Rattle.hq_packet.specs.declared.packet.Head.{Head}
 use Rattle.hq_packet.specs.declared.packet.Scope.{Scope}
 use Rattle.hq_packet.specs.declared.packet.Scope.TheVariants as scope
-use Rattle.hq_model.specs.Job.{reaches}
+use Rattle.hq_packet.specs.Scopes.{reaches}
 use Rattle.hq_model.specs.Settings.{HeadRaises, Part, scope_below, lowered, IsRaised, no_head}
 use Rattle.hq_model.specs.Settings.Part.{Bit, AcquireScope, ReleaseScope}
 use Rattle.hq_model.proofs.SettingsRaised.{reaches_on}

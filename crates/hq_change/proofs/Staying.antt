@@ -5,7 +5,8 @@ use Rattle.std.proofs.lemmas.Option.{slice_get-get_or}
 use Rattle.hq_packet.specs.declared.packet.Head.{Head}
 use Rattle.hq_packet.specs.declared.packet.Scope.{Scope}
 use Rattle.hq_packet.specs.declared.packet.Scope.TheVariants as scope
-use Rattle.hq_model.specs.Job.{Job, IsPacket, reaches}
+use Rattle.hq_model.specs.Job.{Job, IsPacket}
+use Rattle.hq_packet.specs.Scopes.{reaches}
 use Rattle.hq_model.specs.Fence.{Ordered}
 use Rattle.hq_model.specs.Settings.{head_at, with_head, no_head, HeadRaises, Raises, Part, lowered}
 use Rattle.hq_model.specs.Settings.Part.{Bit, AcquireScope, ReleaseScope}

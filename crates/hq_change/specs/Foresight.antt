@@ -3,7 +3,8 @@ use Rattle.std.specs.Prelude.{◌≡◌, ◌≢◌, ℕ, ◌<◌, List, length}
 use Rattle.std.specs.Global.{Vec}
 use Rattle.hq_packet.specs.declared.packet.Head.{Head}
 use Rattle.hq_model.specs.Job.{Job}
-use Rattle.hq_model.specs.Fence.{Conflict, Conflicts, Ordered}
+use Rattle.hq_model.specs.Fence.{Ordered}
+use Rattle.hq_fence.specs.Judgement.{HaveConflict}
 use Rattle.hq_model.specs.Settings.{Raises, head_at}
 use Rattle.hq_model.specs.Settings.Part.{Bit}
 use Rattle.hq_order.specs.Matrix.{Marks, IsSquare}
@@ -11,14 +12,10 @@ use Rattle.hq_change.specs.declared.level.Level.TheVariants as level
 use Rattle.hq_change.specs.Levels.{IsAt}
 use Rattle.hq_change.specs.Minimal.{AtOrAbove, Settled, SettledFrom}
 
--- The two conflict, a first.
-abbrev pub Clash : Job → ℕ → ℕ → Type 0
-Clash job a b = (kind : Conflict) × Conflicts job kind a b
-
 -- For each packet a row, which has packets with lesser numbers that conflict with it.
-pub record AreClashes (job : Job) (rows : List (Vec ℕ)) : Type 0 where
+pub record AreConflicts (job : Job) (rows : List (Vec ℕ)) : Type 0 where
   pub square : IsSquare (length job.packets) rows
-  pub clash : (b a : ℕ) → Marks rows b a → (b < a) × Clash job b a
+  pub conflict : (b a : ℕ) → Marks rows b a → (b < a) × HaveConflict job b a
 
 -- The setting is at or below the one before, and at or above the floor. It differs in no other packet's head than p's; and where p has its
 -- bit still, that can't go.

@@ -6,7 +6,7 @@ ghost use Rattle.hq_job.specs.Plan.{plan};
 ghost use Rattle.hq_model.specs.Fence.{Ordered};
 ghost use Rattle.hq_audit.specs.Parts.{AreParts};
 ghost use Rattle.hq_audit.specs.Refused.{AllShown};
-ghost use Rattle.hq_change.specs.Foresight.{AllForeseen, AreClashes, BitsSettled, Foreseen};
+ghost use Rattle.hq_change.specs.Foresight.{AllForeseen, AreConflicts, BitsSettled, Foreseen};
 ghost use Rattle.hq_change.specs.Minimal.{AtOrAbove, IsOn};
 ghost use Rattle.hq_change.specs.declared.level.Level.TheVariants as levels;
 
@@ -33,7 +33,7 @@ fn foresee_one(
     requires p_is { p < length job.old.packets }
     requires floored { length floor.now ≡ length job.old.packets }
     requires above { AtOrAbove floor.now (plan job.old) }
-    requires clashes { AreClashes (plan job.old) foresight.now.clashes.now }
+    requires conflicts { AreConflicts (plan job.old) foresight.now.conflicts.now }
     ensures foreseen { OnOk result (Foreseen floor.now p (plan job.old) (plan job.new)) }
     ensures same { OnOk result (SameButHeads job.old job.new) }
 {
@@ -58,7 +58,7 @@ fn foresee(
 ) -> Result<(), AllocError>
     requires floored { length floor.now ≡ length job.old.packets }
     requires above { AtOrAbove floor.now (plan job.old) }
-    requires clashes { AreClashes (plan job.old) foresight.now.clashes.now }
+    requires conflicts { AreConflicts (plan job.old) foresight.now.conflicts.now }
     ensures foreseen { OnOk result (AllForeseen floor.now 0 (plan job.old) (plan job.new)) }
     ensures same { OnOk result (SameButHeads job.old job.new) }
 {
@@ -95,7 +95,7 @@ fn foreseen(
     requires above { AtOrAbove search.now.floor.now (plan job.now) }
     requires ordered { Ordered (plan job.now) }
     requires parts { AreParts (plan job.now) search.now.parts.now }
-    requires clashes { AreClashes (plan job.now) foresight.now.clashes.now }
+    requires conflicts { AreConflicts (plan job.now) foresight.now.conflicts.now }
     ensures settled { IfOk result (λ it. IfSome it (λ k. BitsSettled search.now.floor.now (plan job.now) (plan k))) }
     ensures same { IfOk result (λ it. IfSome it (λ k. SameButHeads job.now k)) }
 {
@@ -122,7 +122,7 @@ pub fn settle_bits(
     requires level { search.now.level ≡ levels.Bit }
     requires on { IsOn search.now.floor.now (plan job.old) heads.old.items }
     requires parts { AreParts (plan job.old) search.now.parts.now }
-    requires clashes { AreClashes (plan job.old) foresight.now.clashes.now }
+    requires conflicts { AreConflicts (plan job.old) foresight.now.conflicts.now }
     ensures settled { OnOk result (BitsSettled search.now.floor.now (plan job.old) (plan job.new)) }
     ensures same { OnOk result (SameButHeads job.old job.new) }
 {

@@ -13,7 +13,7 @@ ghost use Rattle.hq_change.specs.Minimal.{AtOrAbove, IsFixed, IsMinimal, IsOn, I
 
 use crate::attempt::Search;
 use crate::bits::settle_bits;
-use crate::foresight::{Foresight, clashes_of};
+use crate::foresight::{Foresight, conflicts_of};
 use crate::level::Level;
 use crate::settling::settle;
 use crate::watch::Watch;
@@ -85,9 +85,9 @@ fn lower_all(
     search.level = Level::AcquireAgent;
     let rounds = settle(alloc, job, &mut heads, rounds, &search, watch)?;
     search.level = Level::Bit;
-    let (clashes, rounds) = clashes_of(alloc, job, rounds, parts)?;
+    let (conflicts, rounds) = conflicts_of(alloc, job, rounds, parts)?;
     let foresight = Foresight {
-        clashes: &clashes,
+        conflicts: &conflicts,
         order,
     };
     settle_bits(alloc, job, &mut heads, rounds, &search, &foresight, watch)?;

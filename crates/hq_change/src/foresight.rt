@@ -8,9 +8,11 @@ ghost use Rattle.hq_order.specs.Bits.{has};
 ghost use Rattle.hq_order.specs.Matrix.{IsSquare, Marks, row, words_for};
 ghost use Rattle.hq_order.specs.View.{AreOf};
 ghost use Rattle.hq_audit.specs.Parts.{AreParts};
-ghost use Rattle.hq_change.specs.Foresight.{AreClashes, Clash};
+ghost use Rattle.hq_fence.specs.Judgement.{HaveConflict};
+ghost use Rattle.hq_change.specs.Foresight.{AreConflicts};
 
 use hq_audit::Parts;
+use hq_fence::have_conflict;
 use hq_job::Job;
 use hq_order::bits::{covers, empty, first_from, insert, take_out};
 use hq_order::{Before, Rounds, marks, sweep};
@@ -20,23 +22,13 @@ use std::alloc::{AllocError, Global};
 #[derive(Clone, Copy)]
 pub struct Foresight<'a> {
     /// For each packet those with lesser numbers that conflict with it, as bits.
-    pub clashes: &'a [Vec<u64>],
+    pub conflicts: &'a [Vec<u64>],
     /// An order list.
     pub order: &'a [u16],
 }
 
-/// Whether two packets conflict.
-fn is_clash(job: &Job, a: usize, b: usize) -> bool
-    requires a_is { IsPacket (plan job.now) a }
-    requires b_is { IsPacket (plan job.now) b }
-    ensures { IsTrue result → Clash (plan job.now) a b }
-{
-    let kinds = job.kinds(a, b);
-    kinds.wr || kinds.ww || kinds.rw
-}
-
 /// The packets with lesser numbers that conflict with a packet.
-fn clash_row(
+fn conflict_row(
     alloc: Global,
     before: &Before,
     parts: &Parts,
@@ -45,14 +37,14 @@ fn clash_row(
     requires parts { AreParts before.now parts.now }
     requires a_is { IsPacket before.now a }
     ensures len { IfOk result (λ row. length row.items ≡ words_for (length before.now.packets)) }
-    ensures clash { IfOk result (λ row. (b : ℕ) → IsTrue (has row.items b) → (b < a) × Clash before.now b a) }
+    ensures conflict { IfOk result (λ row. (b : ℕ) → IsTrue (has row.items b) → (b < a) × HaveConflict before.now b a) }
 {
     before.job().valid();
     let others = parts.others(before, a);
     let mut row = empty(alloc, before.ahead(a).len())?;
     let mut b = others.next(before, 0);
     'others: while b < a {
-        if is_clash(before.job(), b, a) {
+        if have_conflict(before, b, a) {
             insert(&mut row, b);
         }
         b = others.next(before, b + 1);
@@ -61,19 +53,19 @@ fn clash_row(
 }
 
 /// For each packet those with lesser numbers that conflict with it.
-fn clash_rows(alloc: Global, before: &Before, parts: &Parts) -> Result<Vec<Vec<u64>>, AllocError>
+fn conflict_rows(alloc: Global, before: &Before, parts: &Parts) -> Result<Vec<Vec<u64>>, AllocError>
     requires parts { AreParts before.now parts.now }
-    ensures { IfOk result (λ rows. AreClashes before.now rows.items) }
+    ensures { IfOk result (λ rows. AreConflicts before.now rows.items) }
 {
     let mut rows = Vec::with_capacity(alloc, before.len())?;
     for a in 0..before.len() {
-        rows.push(clash_row(alloc, before, parts, a)?)?;
+        rows.push(conflict_row(alloc, before, parts, a)?)?;
     }
     Ok(rows)
 }
 
 /// For each packet those with lesser numbers that conflict with it; and the rounds, which are handed back.
-pub fn clashes_of(
+pub fn conflicts_of(
     alloc: Global,
     job: &Job,
     rounds: Rounds,
@@ -81,10 +73,10 @@ pub fn clashes_of(
 ) -> Result<(Vec<Vec<u64>>, Rounds), AllocError>
     requires rounds { AreOf (plan job.now) rounds }
     requires parts { AreParts (plan job.now) parts.now }
-    ensures clashes { IfOk result (λ it. AreClashes (plan job.now) it.0.items) }
+    ensures conflicts { IfOk result (λ it. AreConflicts (plan job.now) it.0.items) }
 {
     let before = rounds.over(job);
-    let rows = clash_rows(alloc, &before, parts)?;
+    let rows = conflict_rows(alloc, &before, parts)?;
     Ok((rows, before.into_rounds()))
 }
 
@@ -92,18 +84,18 @@ pub fn clashes_of(
 fn has_apart(
     alloc: Global,
     rows: &[Vec<u64>],
-    clashes: &[u64],
+    conflicts: &[u64],
     a: usize,
 ) -> Result<bool, AllocError>
-    requires few { length clashes.now ≤ 16 }
-    requires width { length (row rows.now a) ≡ length clashes.now }
+    requires few { length conflicts.now ≤ 16 }
+    requires width { length (row rows.now a) ≡ length conflicts.now }
     requires a_is { a < length rows.now }
-    ensures { IfOk result (λ apart. IsTrue apart → ((b : ℕ) × IsTrue (has clashes.now b) × ¬ Marks rows.now b a × ¬ Marks rows.now a b)) }
+    ensures { IfOk result (λ apart. IsTrue apart → ((b : ℕ) × IsTrue (has conflicts.now b) × ¬ Marks rows.now b a × ¬ Marks rows.now a b)) }
 {
-    if covers(&rows[a], clashes) {
+    if covers(&rows[a], conflicts) {
         return Ok(false);
     }
-    let mut left = clashes.to_vec(alloc)?;
+    let mut left = conflicts.to_vec(alloc)?;
     take_out(&mut left, &rows[a]);
     let mut from = 0;
     'each: while from < 1024 {
@@ -118,7 +110,7 @@ fn has_apart(
 
 /// Whether two packets conflict of which neither is before the other, as far as that is found quickly: then the job isn't ordered.
 pub fn is_apart(alloc: Global, job: &Job, foresight: &Foresight) -> Result<bool, AllocError>
-    requires { AreClashes (plan job.now) foresight.now.clashes.now }
+    requires { AreConflicts (plan job.now) foresight.now.conflicts.now }
     ensures { IfOk result (λ apart. IsTrue apart → ¬ Ordered (plan job.now)) }
 {
     job.valid();
@@ -126,7 +118,7 @@ pub fn is_apart(alloc: Global, job: &Job, foresight: &Foresight) -> Result<bool,
         return Ok(false);
     };
     for a in 0..rows.len() {
-        if has_apart(alloc, &rows, &foresight.clashes[a], a)? {
+        if has_apart(alloc, &rows, &foresight.conflicts[a], a)? {
             return Ok(true);
         }
     }

@@ -8,7 +8,6 @@ ghost use Rattle.hq_change.specs.Levels.{AreLowered};
 ghost use Rattle.hq_change.specs.Between.{SetBetween};
 
 use crate::level::Level;
-use hq_fence::reaches;
 use hq_job::Job;
 use hq_packet::Head;
 use std::alloc::{AllocError, Global};
@@ -18,7 +17,7 @@ pub fn is_at_or_above(head: Head, floor: Head) -> bool
     ensures { IsTrue result ↔ HeadRaises floor head }
 {
     let bit = head.barrier || !floor.barrier;
-    bit && reaches(head.acquire, floor.acquire) && reaches(head.release, floor.release)
+    bit && head.acquire.reaches(floor.acquire) && head.release.reaches(floor.release)
 }
 
 /// A list of the same heads.

@@ -7,7 +7,7 @@ use Rattle.hq_copies.specs.declared.fault.CopiesFault.TheVariants.{Memory, NotCl
 use Rattle.std.specs.FinMap as finite
 use Rattle.hq_packet.specs.declared.packet.Scope.{Scope}
 use Rattle.hq_packet.specs.declared.packet.Scope.TheVariants as scope
-use Rattle.hq_model.specs.Job.{reaches}
+use Rattle.hq_packet.specs.Scopes.{reaches}
 use Rattle.hq_model.specs.Machine.{is_dirty}
 use Rattle.hq_model.specs.View.{Held, copies_of}
 use Rattle.hq_copies.specs.Copies.{CopiesValue, dirty_only, dirty_within, held, IsClean, IsReleased, NoneDirty, cleaned, written, fed, LanesReleased, AgentReleased}

@@ -6,7 +6,7 @@ use Rattle.std.specs.Coded.{Coded, code_by, coded×, coded_ℕ, coded_bool, code
 use Rattle.std.specs.FinMap as finite
 use Rattle.hq_packet.specs.declared.packet.Scope.{Scope}
 use Rattle.hq_packet.specs.declared.packet.Scope.TheVariants as scope
-use Rattle.hq_model.specs.Job.{reaches}
+use Rattle.hq_packet.specs.Scopes.{reaches}
 use Rattle.hq_model.specs.Machine.{Copy, value_or, is_dirty, listed}
 use Rattle.hq_model.specs.View.{Held, copies_of}
 use Rattle.hq_copies.specs.declared.span.Span.{Span}

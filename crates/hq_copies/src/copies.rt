@@ -2,7 +2,7 @@
 
 ghost use Rattle.std.specs.Prelude.{◌≡◌, is_some, ◌↔◌, ◌<◌, ◌≤◌, ◌+◌, ℕ, ◌-◌, Some, length, All, IsTrue, IfOk, IfErr, OnOk, OnErr, MatchOption, slice_index, ◌⊎◌, replicate, false};
 ghost use Rattle.std.specs.FinMap as finite;
-ghost use Rattle.hq_model.specs.Job.{reaches};
+ghost use Rattle.hq_packet.specs.Scopes.{reaches};
 ghost use Rattle.hq_model.specs.Machine.{is_dirty};
 ghost use Rattle.hq_model.specs.View.{copies_of};
 ghost use Rattle.hq_copies.specs.Copies.{opened, stored, lane_filled, agent_filled, lane_dropped, agent_dropped, fenced, lane_byte, lane_bytes, IsLaneByte, IsAgentByte, IsDirty, IsClean, IsReleased, IsFirstDirty, NoneDirty, held, PushedLane, PushedAgent, IsAbsent, agent_byte, dirty_within, IsRunCount, LanesReleased, AgentReleased, Released, fed, cleaned, stored_run};
@@ -310,10 +310,10 @@ impl Copies {
         requires lanes { lanes.end ≤ length self.old.lanes }
         ensures { self.new ≡ fenced self.old lanes.start lanes.end agent scope }
     {
-        if reaches(scope, Scope::Agent) {
+        if scope.reaches(Scope::Agent) {
             self.drop_clean_bytes(lanes.start, lanes.end);
         }
-        if reaches(scope, Scope::System) {
+        if scope.reaches(Scope::System) {
             self.agents[agent].keep_dirty();
         }
     }
@@ -325,10 +325,10 @@ impl Copies {
         requires lanes { lanes.end ≤ length self.now.lanes }
         ensures { IsTrue result ↔ IsReleased self.now lanes.start lanes.end agent scope }
     {
-        if reaches(scope, Scope::Agent) && !have_no_dirty(&self.lanes, lanes.start, lanes.end) {
+        if scope.reaches(Scope::Agent) && !have_no_dirty(&self.lanes, lanes.start, lanes.end) {
             return false;
         }
-        !reaches(scope, Scope::System) || self.agents[agent].has_no_dirty()
+        !scope.reaches(Scope::System) || self.agents[agent].has_no_dirty()
     }
 
     // Writes all dirty bytes of these lanes back to this agent: all of them or none.
@@ -464,17 +464,6 @@ fn copied(alloc: Global, levels: &[Level]) -> Result<Vec<Level>, AllocError>
         copies.push(level.copy()?)?;
     }
     Ok(copies)
-}
-
-// Whether a fence of one scope reaches as far as another scope.
-fn reaches(fence: Scope, needed: Scope) -> bool
-    ensures { result ≡ reaches fence needed }
-{
-    match needed {
-        Scope::None => true,
-        Scope::Agent => fence != Scope::None,
-        Scope::System => fence == Scope::System,
-    }
 }
 
 // Lets the clean bytes go of those from start on and before end.

@@ -4,7 +4,8 @@ use Rattle.std.proofs.lemmas.Bool.{cases_eq, cases_lt}
 use Rattle.hq_packet.specs.declared.packet.Head.{Head}
 use Rattle.hq_packet.specs.declared.packet.Scope.{Scope}
 use Rattle.hq_packet.specs.declared.packet.Scope.TheVariants as scope
-use Rattle.hq_model.specs.Job.{Job, IsPacket, reaches}
+use Rattle.hq_model.specs.Job.{Job, IsPacket}
+use Rattle.hq_packet.specs.Scopes.{reaches}
 use Rattle.hq_model.specs.Settings.{SameButHeads, HeadRaises, Raises, head_at, with_head}
 use Rattle.hq_model.proofs.SettingsKept.{packets_same, same_length}
 use Rattle.hq_model.proofs.SettingsSteps.{heads_are_set, same_by_heads}

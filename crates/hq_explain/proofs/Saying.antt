@@ -7,7 +7,7 @@ use Rattle.hq_model.specs.Job.{Job, Decrements}
 use Rattle.hq_model.specs.Order.{Before, Branch}
 use Rattle.hq_model.specs.Order.Branch.{itself, after}
 use Rattle.hq_order.specs.Rounds.{Direct, Next, Within, Reaches, IsFirstWithin, Between}
-use Rattle.hq_order.specs.Rounds.Precedes.{by_bit_of, by_bit_ahead, by_queue}
+use Rattle.hq_order.specs.Rounds.Precedes.{by_bit, by_queue}
 use Rattle.hq_order.specs.Rounds.Awaits.{by_and, by_or}
 use Rattle.hq_order.specs.Rounds.Next.{by_known, by_either, through}
 use Rattle.hq_order.proofs.Closure.{within_before}
@@ -56,11 +56,10 @@ second_lower job round n p r m b f = let l = first_below job b.k n m r f b.secon
 -- ---- the rule of a pair with none between by lower rounds
 
 direct_rule : (job : Job) (p r : ℕ) → Direct job p r → HasRule job p r
-direct_rule job p r (inl (by_bit_of e b)) = (rule.Bit r, (e, b, inl refl))
-direct_rule job p r (inl (by_bit_ahead {j = j} e b f)) = (rule.Bit j, (e, b, inr f))
-direct_rule job p r (inl (by_queue e b)) = (rule.Queue, (e, b))
-direct_rule job p r (inr (by_and {slot = slot} {s = s} k d c)) = (rule.And s, (k, (slot, d), c))
-direct_rule job p r (inr (by_or k d f)) = (rule.Or, (k, λ slot s w. itself (f slot s w)))
+direct_rule job p r (inl (by_bit {j = j} by)) = (rule.Bit j, by)
+direct_rule job p r (inl (by_queue by)) = (rule.Queue, by)
+direct_rule job p r (inr (by_and {slot = slot} {s = s} by)) = (rule.And s, (slot, by))
+direct_rule job p r (inr (by_or any f)) = (rule.Or, (any, λ slot s w. itself (f slot s w)))
 
 branch_of : (job : Job) (k p s : ℕ) → Reaches job (Within job k) p s → Branch job p s
 branch_of job k p s h = elim h.upto [
@@ -70,7 +69,7 @@ branch_of job k p s h = elim h.upto [
 
 next_rule : (job : Job) (k p r : ℕ) → ((j : ℕ) → j < suc k → Within job j p r → ⊥) → ((m : ℕ) → Between job (suc k) p r m → ⊥) → Next job (Within job k) p r → HasRule job p r
 next_rule job k p r first none (by_known w) = absurd (first k (omega arith) w)
-next_rule job k p r first none (by_either e) = (rule.Or, (e.kind, λ slot s w. branch_of job k p s (e.each slot s w)))
+next_rule job k p r first none (by_either e) = (rule.Or, (e.any, λ slot s w. branch_of job k p s (e.each slot s w)))
 next_rule job k p r first none (through {m = m} x y) = absurd (none m (record { k = k; lower = omega arith; first = x; second = y }))
 
 pub alone_rule : (job : Job) (round p r : ℕ) → IsFirstWithin job round p r → ((m : ℕ) → Between job round p r m → ⊥) → HasRule job p r

@@ -2,7 +2,8 @@
 use Rattle.std.specs.Prelude.{◌≡◌, ℕ, Bool, true, false, not, IsTrue}
 use Rattle.hq_packet.specs.declared.packet.Head.{Head}
 use Rattle.hq_packet.specs.declared.packet.Scope.{Scope}
-use Rattle.hq_model.specs.Job.{Job, IsPacket, reaches}
+use Rattle.hq_model.specs.Job.{Job, IsPacket}
+use Rattle.hq_packet.specs.Scopes.{reaches}
 use Rattle.hq_model.specs.Settings.{head_at, with_head}
 use Rattle.hq_audit.specs.Refused.{ShownOneWay}
 use Rattle.hq_explain.specs.declared.change.Change.{Change}

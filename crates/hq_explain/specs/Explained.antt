@@ -4,7 +4,8 @@ use Rattle.hq_job.specs.Value.{JobValue}
 use Rattle.hq_model.specs.Job.{Job, IsPacket}
 use Rattle.hq_model.specs.Order.{OrderList, Stuck}
 use Rattle.hq_graph.specs.Graph.{Is, Each, Where}
-use Rattle.hq_graph.specs.Order.{IsFound, HaveConflict, Awaits}
+use Rattle.hq_fence.specs.Judgement.{HaveConflict}
+use Rattle.hq_graph.specs.Order.{IsFound, Awaits}
 use Rattle.hq_graph.specs.declared.found.Found.{Found}
 use Rattle.hq_graph.specs.declared.found.Found.TheVariants as found
 use Rattle.hq_graph.specs.declared.wait.Wait.{Wait}

@@ -3,7 +3,7 @@ use Rattle.std.specs.Prelude.{◌≡◌, ℕ, suc, ◌-◌, ◌<◌, ◌||◌, �
 use Rattle.hq_job.specs.Value.{JobValue}
 use Rattle.hq_model.specs.Job.{Job}
 use Rattle.hq_graph.specs.Graph.{Is, Then}
-use Rattle.hq_graph.specs.Order.{HaveConflict}
+use Rattle.hq_fence.specs.Judgement.{HaveConflict}
 use Rattle.hq_explain.specs.Explain.{PairText}
 use Rattle.hq_explain.specs.Texts.{left_line, none_line}
 

@@ -10,7 +10,7 @@ ghost use Rattle.hq_explain.specs.declared.fault.ExplainFault.TheVariants.{Memor
 
 use crate::fault::ExplainFault;
 use crate::pairs::write_pair;
-use hq_graph::have_conflict;
+use hq_fence::have_conflict;
 use hq_job::Job;
 use hq_order::Before;
 use std::alloc::Global;

@@ -17,6 +17,10 @@ use Rattle.hq_fence.specs.declared.shown.Kind.TheVariants as kind
 use Rattle.hq_fence.specs.declared.shown.Why.{Why}
 use Rattle.hq_fence.specs.declared.shown.Why.TheVariants as why
 
+-- the two conflict in some way, a first
+abbrev pub HaveConflict : Job → ℕ → ℕ → Type 0
+HaveConflict job a b = (kind : Conflict) × Conflicts job kind a b
+
 -- the packet with the first fence of a release
 abbrev pub begin_of : Release → ℕ
 begin_of (release.Alone x) = x

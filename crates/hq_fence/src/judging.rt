@@ -4,7 +4,7 @@ ghost use Rattle.std.specs.Prelude.{◌≡◌, false, ◌<◌, ◌↔◌, IsTrue
 ghost use Rattle.hq_model.specs.Job.{IsPacket};
 ghost use Rattle.hq_model.specs.Order as order;
 ghost use Rattle.hq_model.specs.Fence as model;
-ghost use Rattle.hq_fence.specs.Judgement.{ReleasesBefore, ReleasesToAcquire, Shows, IsNotShown, flag_of, IsFirstKind};
+ghost use Rattle.hq_fence.specs.Judgement.{HaveConflict, ReleasesBefore, ReleasesToAcquire, Shows, IsNotShown, flag_of, IsFirstKind};
 ghost use Rattle.hq_fence.specs.declared.shown.Kind as shown;
 
 use crate::fences::{need, releases};
@@ -12,6 +12,16 @@ use crate::search::{Ending, Goal, Search};
 use crate::shown::{Acquire, Kind, NotShown, Release, Shown, Why};
 use hq_footprint::Kinds;
 use hq_order::Before;
+
+/// Whether two packets conflict in some way, `a` first.
+pub fn have_conflict(before: &Before, a: usize, b: usize) -> bool
+    requires a_is { a < length before.now.packets }
+    requires b_is { b < length before.now.packets }
+    ensures { IsTrue result ↔ HaveConflict before.now a b }
+{
+    let kinds = before.job().kinds(a, b);
+    kinds.wr || kinds.ww || kinds.rw
+}
 
 /// How p, which is before r, is released before r. Mostly its own fence does that.
 #[inline(always)]

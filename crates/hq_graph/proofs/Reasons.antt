@@ -5,7 +5,7 @@ use Rattle.std.proofs.lemmas.Bool.{cases_lt, eq-eqb, ne_eqb}
 use Rattle.std.proofs.lemmas.List.Sums.{count_by_more_no, count_by_more_yes}
 use Rattle.hq_model.specs.Job.{Job, packet, no_packet, IsPacket, place_in_queue, Frees}
 use Rattle.hq_model.specs.Order.{Before, OrderList, In, Stuck, place}
-use Rattle.hq_model.specs.Order.Before.{by_bit_of, by_bit_ahead, by_queue, by_and, by_or, through}
+use Rattle.hq_model.specs.Order.Before.{by_bit, by_queue, by_and, by_or, through}
 use Rattle.hq_model.specs.Fence.{Ordered}
 use Rattle.hq_model.specs.Theorems.{Valid}
 use Rattle.hq_model.proofs.Places.{at_place, place_at, in_more, in_pushed}
@@ -27,11 +27,10 @@ use Rattle.hq_graph.specs.Known.{AreTurns, TellsStuck}
 -- ---- the rule of a step
 
 step_rule : (job : Job) (p r : ℕ) → Before job p r → ((m : ℕ) → Before job p m → Before job m r → ⊥) → HasRule job p r
-step_rule job p r (by_bit_of e b) none = (rule.Bit r, (e, b, inl refl))
-step_rule job p r (by_bit_ahead {j = j} e b f) none = (rule.Bit j, (e, b, inr f))
-step_rule job p r (by_queue e b) none = (rule.Queue, (e, b))
-step_rule job p r (by_and {slot = slot} {s = s} k d c) none = (rule.And s, (k, (slot, d), c))
-step_rule job p r (by_or k d f) none = (rule.Or, (k, f))
+step_rule job p r (by_bit {j = j} by) none = (rule.Bit j, by)
+step_rule job p r (by_queue by) none = (rule.Queue, by)
+step_rule job p r (by_and {slot = slot} {s = s} by) none = (rule.And s, (slot, by))
+step_rule job p r (by_or any f) none = (rule.Or, (any, f))
 step_rule job p r (through {m = m} x y) none = absurd (none m x y)
 
 -- A step follows from one rule alone.

@@ -12,7 +12,8 @@ use Rattle.hq_graph.specs.declared.nodes.Node.{Node}
 use Rattle.hq_graph.specs.declared.rule.Rule.{Rule}
 use Rattle.hq_graph.specs.declared.wait.Wait.{Wait}
 use Rattle.hq_graph.specs.declared.part.Part.TheVariants as part
-use Rattle.hq_graph.specs.Order.{IsStep, IsRule, HaveConflict, Awaits}
+use Rattle.hq_fence.specs.Judgement.{HaveConflict}
+use Rattle.hq_graph.specs.Order.{IsStep, IsRule, Awaits}
 use Rattle.hq_graph.specs.Graph.{Where, Wrote, NodeText, ConflictText, PairText, RowText, PairsText, node_of, node_there, step_text, ordered_text, open_text, wait_text}
 use Rattle.hq_graph.proofs.Joining.{so_on, hence_on, unwritten, each_empty}
 

@@ -34,7 +34,8 @@ use Rattle.hq_graph.specs.declared.rule.Rule.{Rule}
 use Rattle.hq_graph.specs.declared.rule.Rule.TheVariants as rule
 use Rattle.hq_graph.specs.declared.wait.Wait.{Wait}
 use Rattle.hq_graph.specs.declared.wait.Wait.TheVariants as wait
-use Rattle.hq_graph.specs.Order.{IsStep, IsRule, HaveConflict, Awaits}
+use Rattle.hq_fence.specs.Judgement.{HaveConflict}
+use Rattle.hq_graph.specs.Order.{IsStep, IsRule, Awaits}
 
 -- ---- forms of texts
 

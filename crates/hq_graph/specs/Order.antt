@@ -1,9 +1,8 @@
 -- What a graph shows: steps of the order, conflicts, and what stuck packets wait for.
-use Rattle.std.specs.Prelude.{◌≡◌, ℕ, suc, ◌⊎◌, IsTrue, List}
-use Rattle.hq_model.specs.Job.{Job, packet, Earlier, IsBarrier, Dependency, Decrements, Frees}
-use Rattle.hq_model.specs.Job.Kind.{BarrierAnd, BarrierOr}
-use Rattle.hq_model.specs.Order.{Before, Branch, FreesFor, OrderList, Stuck, place}
-use Rattle.hq_model.specs.Fence.{Conflict, Conflicts, Ordered}
+use Rattle.std.specs.Prelude.{◌≡◌, ℕ, suc, List}
+use Rattle.hq_model.specs.Job.{Job, Earlier, IsBarrier, Dependency, Decrements, Frees}
+use Rattle.hq_model.specs.Order.{ByBit, ByQueue, ByAnd, AwaitsAny, Whichever, Before, Branch, FreesFor, OrderList, Stuck, place}
+use Rattle.hq_model.specs.Fence.{Ordered}
 use Rattle.hq_graph.specs.declared.rule.Rule.{Rule}
 use Rattle.hq_graph.specs.declared.rule.Rule.TheVariants as rule
 use Rattle.hq_graph.specs.declared.wait.Wait.{Wait}
@@ -20,18 +19,14 @@ pub record IsStep (job : Job) (p r : ℕ) : Type 0 where
 -- This rule alone puts p before r: the barrier bit of j, which is r or stands ahead of it; a barrier packet that stands ahead in r's queue; a
 -- dependency of a barrier-AND; or the dependencies of a barrier-OR, all of which have p complete.
 abbrev pub IsRule : Job → ℕ → ℕ → Rule → Type 0
-IsRule job p r (rule.Bit j) = Earlier job p j × IsTrue (packet job j).bit × ((j ≡ r) ⊎ Earlier job j r)
-IsRule job p r rule.Queue = Earlier job p r × IsBarrier job p
-IsRule job p r (rule.And s) = ((packet job r).kind ≡ BarrierAnd) × ((slot : ℕ) × Dependency job r slot s) × Decrements job p s
-IsRule job p r rule.Or = ((packet job r).kind ≡ BarrierOr) × ((slot s : ℕ) → Dependency job r slot s → Branch job p s)
+IsRule job p r (rule.Bit j) = ByBit job p r j
+IsRule job p r rule.Queue = ByQueue job p r
+IsRule job p r (rule.And s) = (slot : ℕ) × ByAnd job p r slot s
+IsRule job p r rule.Or = AwaitsAny job r × Whichever job r (Branch job p)
 
 -- Some rule alone puts p before r.
 abbrev pub HasRule : Job → ℕ → ℕ → Type 0
 HasRule job p r = (by : Rule) × IsRule job p r by
-
--- the two conflict in some way, a first
-abbrev pub HaveConflict : Job → ℕ → ℕ → Type 0
-HaveConflict job a b = (kind : Conflict) × Conflicts job kind a b
 
 -- p is never submitted: a packet that can never complete has its slot, or the slot of a packet that is submitted before it.
 abbrev pub NeverSubmitted : Job → ℕ → Type 0

@@ -27,7 +27,6 @@ pub use drawing::graph;
 pub use edges::signal_name;
 pub use fault::GraphFault;
 pub use found::Found;
-pub use judging::have_conflict;
 pub use nodes::{Work, work_of};
 pub use rule::Rule;
 pub use ruling::rule_in;

@@ -1,9 +1,8 @@
 //! By which rule a packet is before another.
 
-ghost use Rattle.std.specs.Prelude.{◌≡◌, ◌≢◌, ◌↔◌, ℕ, ◌<◌, ◌≤◌, IsTrue, MatchOption, IfSome, Some, length, slice_get};
-ghost use Rattle.hq_job.specs.Plan.{plan, kind_of};
+ghost use Rattle.std.specs.Prelude.{◌≡◌, ◌↔◌, ℕ, ◌<◌, IsTrue, MatchOption, Some, length, slice_get};
+ghost use Rattle.hq_job.specs.Plan.{plan};
 ghost use Rattle.hq_model.specs.Job.{IsPacket};
-ghost use Rattle.hq_model.specs.Job.Kind.{Work};
 ghost use Rattle.hq_graph.specs.Known.{Completes};
 ghost use Rattle.hq_graph.specs.Order.{HasRule, IsRule, IsStep};
 ghost use Rattle.hq_graph.specs.declared.rule.Rule.TheVariants as by;
@@ -11,54 +10,8 @@ ghost use Rattle.hq_graph.specs.declared.rule.Rule.TheVariants as by;
 use crate::rule::Rule;
 use hq_job::Job;
 use hq_order::Before;
+use hq_order::rules::{bit_between, is_held};
 use hq_packet::Packet;
-
-/// Whether p is before r by the barrier bit of j, which is behind p and no later than r.
-fn is_bit(job: &Job, p: usize, r: usize, j: usize) -> bool
-    requires r_is { IsPacket (plan job.now) r }
-    requires behind { p < j }
-    requires upto { j ≤ r }
-    ensures { IsTrue result ↔ IsRule (plan job.now) p r (by.Bit j) }
-{
-    let queue = job.packet(r).queue;
-    let placed = job.packet(j);
-    job.packet(p).queue == queue && placed.queue == queue && placed.packet.head().barrier
-}
-
-/// The least packet by whose barrier bit p is before r. Where the two stand in one queue, so do all between them.
-fn bit_between(job: &Job, p: usize, r: usize) -> Option<usize>
-    requires p_is { IsPacket (plan job.now) p }
-    requires r_is { IsPacket (plan job.now) r }
-    ensures few { IfSome result (λ j. j < length job.now.packets) }
-    ensures first { MatchOption result ((j : ℕ) → ¬ IsRule (plan job.now) p r (by.Bit j)) (λ j. IsRule (plan job.now) p r (by.Bit j)) }
-{
-    job.valid();
-    if job.packet(p).queue != job.packet(r).queue {
-        return None;
-    }
-    for j in p + 1..r + 1 {
-        if is_bit(job, p, r, j) {
-            return Some(j);
-        }
-    }
-    None
-}
-
-/// Whether the packet is a barrier packet.
-fn is_barrier(packet: &Packet) -> bool
-    ensures { IsTrue result ↔ kind_of packet.now ≢ Work }
-{
-    matches!(packet, Packet::And(_) | Packet::Or(_))
-}
-
-/// Whether p is a barrier packet that stands before r in its queue.
-fn is_held(job: &Job, p: usize, r: usize) -> bool
-    requires p_is { IsPacket (plan job.now) p }
-    requires r_is { IsPacket (plan job.now) r }
-    ensures { IsTrue result ↔ IsRule (plan job.now) p r by.Queue }
-{
-    p < r && job.packet(p).queue == job.packet(r).queue && is_barrier(&job.packet(p).packet)
-}
 
 /// Whether a slot names the signal.
 fn is_named(slots: &[Option<u16>], signal: u16) -> bool

@@ -2,7 +2,7 @@
 
 ghost use Rattle.std.specs.Prelude.{◌≡◌, ◌↔◌, ℕ, ◌<◌, ◌≤◌, IsTrue, IfOk, length, slice_index};
 ghost use Rattle.hq_job.specs.Plan.{plan};
-ghost use Rattle.hq_model.specs.Job.{Frees, IsPacket, packet, place_in_queue};
+ghost use Rattle.hq_model.specs.Job.{Frees, IsPacket, place_in_queue};
 ghost use Rattle.hq_model.specs.Order.{place};
 ghost use Rattle.hq_order.specs.Placing.{AllAre};
 ghost use Rattle.hq_graph.specs.Known.{HasNoSlot};
@@ -22,15 +22,6 @@ pub fn place_of(job: &Job, p: usize) -> usize
     p - numbers.start
 }
 
-/// Whether two packets go to one queue.
-fn same_queue(job: &Job, p: usize, r: usize) -> bool
-    requires p_is { IsPacket (plan job.now) p }
-    requires r_is { IsPacket (plan job.now) r }
-    ensures { IsTrue result ↔ ((packet (plan job.now) p).queue ≡ (packet (plan job.now) r).queue) }
-{
-    job.packet(p).queue == job.packet(r).queue
-}
-
 /// Whether p, which is below r, has its slot.
 fn frees(job: &Job, p: usize, r: usize) -> bool
     requires earlier { p < r }
@@ -39,7 +30,7 @@ fn frees(job: &Job, p: usize, r: usize) -> bool
 {
     job.valid();
     let size = job.queues()[job.packet(r).queue as usize].size as usize;
-    job.rings() && same_queue(job, p, r) && place_of(job, p) + size <= place_of(job, r)
+    job.rings() && job.same_queue(p, r) && place_of(job, p) + size <= place_of(job, r)
 }
 
 /// Whether p has the slot of r.

@@ -11,7 +11,8 @@ use Rattle.hq_ledger.specs.Grants.{IsOut, without}
 use Rattle.hq_machine.specs.declared.event.Event.{Event}
 use Rattle.hq_machine.specs.declared.event.Event.TheVariants as event
 use Rattle.hq_machine.specs.Events.{coarse_of}
-use Rattle.hq_model.specs.Job.{Job, packet, agent_of, reaches}
+use Rattle.hq_model.specs.Job.{Job, packet, agent_of}
+use Rattle.hq_packet.specs.Scopes.{reaches}
 use Rattle.hq_model.specs.Job.Kind.{Work}
 use Rattle.hq_footprint.specs.declared.footprint.Footprint.{Footprint}
 use Rattle.hq_model.specs.Machine.{State, Phase, start}

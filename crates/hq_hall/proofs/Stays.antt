@@ -2,7 +2,8 @@
 -- and stored as it was.
 use Rattle.std.proofs.Common.{◌≡◌, ℕ, ◌==◌, IsTrue, IsSome, is_some, List, [], ◌∷◌, length, map, refl, sym, ◌∙◌, ap, subst, arith, Bool, true, false, Option, Some, None, slice_index}
 use Rattle.std.proofs.lemmas.Bool.{true≢false, eq-eqb, eqb-true}
-use Rattle.hq_model.specs.Job.{Job, packet, agent_of, reaches}
+use Rattle.hq_model.specs.Job.{Job, packet, agent_of}
+use Rattle.hq_packet.specs.Scopes.{reaches}
 use Rattle.hq_model.specs.Machine.{State, Phase, Event, Step, Steps, AllRead, put, lane_sees}
 use Rattle.hq_model.specs.Machine.Phase.{Waiting, InQueue, Launched, Active}
 use Rattle.hq_model.specs.Machine.Event.{Submit, Launch, Observe, Enter, Read, Store, PushLane, PushAgent, FillLane, FillAgent, DropLane, DropAgent}

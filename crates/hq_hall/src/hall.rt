@@ -262,7 +262,7 @@ impl<'a> Hall<'a> {
         ensures { IsTrue result ↔ ((packet < length self.now.job.job.packets) × ((packet_of (job_of self.now) packet).kind ≡ Kind.Work → stage_of self.now.events packet ≡ stage.Delivered)) }
     {
         self.is_packet(packet)
-            && (is_barrier(self.job(), packet) || self.stage(packet) == Stage::Delivered)
+            && (self.job().is_barrier(packet as usize) || self.stage(packet) == Stage::Delivered)
     }
 
     /// The pushes that the packet's release fence asks for, and its completion.
@@ -298,7 +298,7 @@ impl<'a> Hall<'a> {
         ensures { IsTrue result ↔ IsReady self.now packet }
     {
         self.is_packet(packet)
-            && !is_barrier(self.job(), packet)
+            && !self.job().is_barrier(packet as usize)
             && self.is_active(packet)
             && self.stage(packet) == Stage::Unfetched
     }
@@ -523,17 +523,6 @@ fn let_out(grants: &mut Grants, packet: u16, foot: &Footprint) -> Result<(), Hal
             GrantFault::Memory => Err(HallFault::Memory),
             GrantFault::Overlap(_) | GrantFault::NotOut => unreachable!(),
         },
-    }
-}
-
-/// Whether a packet is a barrier packet.
-fn is_barrier(job: &Job, packet: u16) -> bool
-    requires { packet < length job.now.packets }
-    ensures { IsTrue result ↔ ((packet_of (plan job.now) packet).kind ≡ Kind.Work → ⊥) }
-{
-    match job.packet(packet as usize).packet {
-        Packet::Kernel(_) | Packet::Agent(_) => false,
-        Packet::And(_) | Packet::Or(_) => true,
     }
 }
 

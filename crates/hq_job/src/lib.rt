@@ -12,6 +12,7 @@
 #![tactic(auto)]
 
 mod addresses;
+mod asking;
 mod conflicts;
 mod draft;
 mod fault;

@@ -8,7 +8,8 @@ use Rattle.std.specs.Ordering.{nat_cmp}
 use Rattle.std.specs.FinMap as finite
 use Rattle.hq_packet.specs.declared.packet.Scope.TheVariants as scope
 use Rattle.hq_job.specs.Access.{AreOfQueue}
-use Rattle.hq_model.specs.Job.{Job, packet, IsPacket, agent_of, reaches}
+use Rattle.hq_model.specs.Job.{Job, packet, IsPacket, agent_of}
+use Rattle.hq_packet.specs.Scopes.{reaches}
 use Rattle.hq_model.specs.Machine.{State, Step, is_dirty, without_clean, acquired, with_phase}
 use Rattle.hq_model.specs.Machine.Event.{Enter}
 use Rattle.hq_model.specs.Machine.Phase.{Active}

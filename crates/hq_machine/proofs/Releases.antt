@@ -6,7 +6,8 @@ use Rattle.std.proofs.lemmas.List.{append-nil}
 use Rattle.std.proofs.lemmas.List.Elements.{filter-append}
 use Rattle.hq_packet.specs.declared.packet.Scope.TheVariants as scope
 use Rattle.hq_job.specs.Access.{AreOfQueue}
-use Rattle.hq_model.specs.Job.{Job, packet, IsPacket, agent_of, reaches}
+use Rattle.hq_model.specs.Job.{Job, packet, IsPacket, agent_of}
+use Rattle.hq_packet.specs.Scopes.{reaches}
 use Rattle.hq_model.specs.Machine as machine
 use Rattle.hq_model.specs.Machine.{State, Event, Steps, Released, is_dirty}
 use Rattle.hq_model.specs.Machine.Event.{PushLane, PushAgent}

@@ -4,7 +4,8 @@ use Rattle.hq_machine.specs.State.{StateValue}
 use Rattle.hq_machine.specs.View.{recopied}
 use Rattle.hq_copies.specs.Copies.{CopiesValue, Released, PushedLane, PushedAgent, IsLaneByte, IsAgentByte}
 use Rattle.hq_job.specs.Access.{AreOfQueue}
-use Rattle.hq_model.specs.Job.{Job, packet, IsPacket, agent_of, reaches}
+use Rattle.hq_model.specs.Job.{Job, packet, IsPacket, agent_of}
+use Rattle.hq_packet.specs.Scopes.{reaches}
 use Rattle.hq_model.specs.Journal.{numbers}
 use Rattle.hq_model.specs.Machine as machine
 use Rattle.hq_model.specs.Machine.{Event, is_dirty, listed, AllRead, AllStored}

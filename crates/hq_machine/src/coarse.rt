@@ -9,7 +9,7 @@ ghost use Rattle.hq_model.specs.Job.{IsPacket};
 ghost use Rattle.hq_model.specs.Journal.Coarse.{Complete, Rest};
 
 use crate::fault::StepFault;
-use crate::packets::{agent_of, done_of, queue_of, release_of};
+use crate::packets::{done_of, queue_of};
 use crate::phase::Phase;
 use crate::state::State;
 use hq_copies::{Copies, CopiesFault};
@@ -26,7 +26,7 @@ fn push_lanes(job: &Job, copies: &mut Copies) -> Result<(), CopiesFault>
     let mut lane = 0;
     'queues: while lane < job.packets().len() {
         let end = queue_of(job, lane).end;
-        copies.release(lane..end, agent_of(job, lane), Scope::Agent)?;
+        copies.release(lane..end, job.agent_of(lane), Scope::Agent)?;
         lane = end;
     }
     Ok(())
@@ -82,8 +82,8 @@ impl State {
         ensures memory { IfErr result (λ e. e ≡ StepFault.Memory) }
     {
         job.valid();
-        let agent = agent_of(job, packet);
-        let scope = release_of(job, packet);
+        let agent = job.agent_of(packet);
+        let scope = job.release_of(packet);
         match self.copies.release(numbers, agent, scope) {
             Ok(()) => Ok(()),
             Err(_fault) => Err(StepFault::Memory),

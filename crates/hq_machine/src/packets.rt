@@ -5,25 +5,14 @@ ghost use Rattle.std.specs.List.{flat_map};
 ghost use Rattle.hq_footprint.specs.Bytes.{bytes_of};
 ghost use Rattle.hq_job.specs.Access.{AreOfQueue};
 ghost use Rattle.hq_job.specs.Plan.{plan};
-ghost use Rattle.hq_model.specs.Job.{IsPacket, IsBarrier, Dependency, Earlier, Frees, packet, agent_of, size_of};
+ghost use Rattle.hq_model.specs.Job.{IsPacket, Dependency, Earlier, Frees, packet, size_of};
 ghost use Rattle.hq_machine.specs.View.{IsEntry};
 ghost use Rattle.hq_model.specs.Machine.{IsByte};
 
 use hq_footprint::Range as ByteRange;
 use hq_footprint::laws::{bytes_counted, entries_counted};
 use hq_job::Job;
-use hq_packet::{Packet, Scope};
 use std::ops::Range;
-
-/// The number of the agent of a packet's queue.
-pub fn agent_of(job: &Job, number: usize) -> usize
-    requires { IsPacket (plan job.now) number }
-    ensures { result ≡ agent_of (plan job.now) number }
-{
-    job.valid();
-    let queue = job.packet(number).queue as usize;
-    job.queues()[queue].agent as usize
-}
 
 /// How many slots the packet's queue has.
 pub fn slots_of(job: &Job, number: usize) -> usize
@@ -47,50 +36,13 @@ pub fn first_of_queue(job: &Job, number: usize) -> usize
     job.of_queue(queue).start
 }
 
-/// Whether the packet has the barrier bit.
-pub fn has_bit(job: &Job, number: usize) -> bool
-    requires { IsPacket (plan job.now) number }
-    ensures { result ≡ (packet (plan job.now) number).bit }
-{
-    job.packet(number).packet.head().barrier
-}
-
-/// The scope of the packet's acquire fence.
-pub fn acquire_of(job: &Job, number: usize) -> Scope
-    requires { IsPacket (plan job.now) number }
-    ensures { result ≡ (packet (plan job.now) number).acquire }
-{
-    job.packet(number).packet.head().acquire
-}
-
-/// The scope of the packet's release fence.
-pub fn release_of(job: &Job, number: usize) -> Scope
-    requires { IsPacket (plan job.now) number }
-    ensures { result ≡ (packet (plan job.now) number).release }
-{
-    job.packet(number).packet.head().release
-}
-
-/// Whether the packet is a barrier packet.
-pub fn is_barrier(job: &Job, number: usize) -> bool
-    requires { IsPacket (plan job.now) number }
-    ensures { IsTrue result ↔ IsBarrier (plan job.now) number }
-{
-    match job.packet(number).packet {
-        Packet::Kernel(_) => false,
-        Packet::Agent(_) => false,
-        Packet::And(_) => true,
-        Packet::Or(_) => true,
-    }
-}
-
 /// The signal of a slot of the packet, if the slot isn't null.
 pub fn dependency(job: &Job, number: usize, slot: usize) -> Option<u16>
     requires { IsPacket (plan job.now) number }
     ensures found { (s : ℕ) → (result ≡ Some s) ↔ Dependency (plan job.now) number slot s }
     ensures few { IfSome result (λ s. slot < 5) }
 {
-    match job.packet(number).slots.get(slot) {
+    match job.slots(number).get(slot) {
         Some(signal) => *signal,
         None => None,
     }
@@ -108,20 +60,12 @@ pub fn queue_of(job: &Job, number: usize) -> Range<usize>
     job.of_queue(queue)
 }
 
-/// The slots for dependencies of the packet.
-fn slots_for(job: &Job, number: usize) -> &[Option<u16>]
-    requires { IsPacket (plan job.now) number }
-    ensures { result.now ≡ (packet (plan job.now) number).deps }
-{
-    &job.packet(number).slots
-}
-
 /// How many slots for dependencies the packet has.
 pub fn slot_count(job: &Job, number: usize) -> usize
     requires { IsPacket (plan job.now) number }
     ensures { result ≡ length (packet (plan job.now) number).deps }
 {
-    slots_for(job, number).len()
+    job.slots(number).len()
 }
 
 /// How many bytes the packet writes.

@@ -9,7 +9,7 @@ ghost use Rattle.hq_model.specs.Machine.Event.{Submit, Launch};
 ghost use Rattle.hq_machine.specs.View.{IsStateOf, IsFirstWaiting, IsFirstUnlaunched, IsClear, Moved, Refused, state_of};
 
 use crate::fault::StepFault;
-use crate::packets::{first_of_queue, has_bit, is_barrier, slots_of};
+use crate::packets::{first_of_queue, slots_of};
 use crate::phase::Phase;
 use crate::state::State;
 use hq_job::Job;
@@ -100,7 +100,7 @@ impl State {
         ensures { IsTrue result ↔ ((e : ℕ) → numbers.start ≤ e → e < numbers.end → IsBarrier (plan job.now) e → (state_of (plan job.now) self.now).phase e ≡ machine.Phase.Complete) }
     {
         for number in numbers.start..numbers.end {
-            if is_barrier(job, number) && !self.is_in(number, Phase::Complete) {
+            if job.is_barrier(number) && !self.is_in(number, Phase::Complete) {
                 return false;
             }
         }
@@ -113,7 +113,7 @@ impl State {
         requires number { IsPacket (plan job.now) number }
         ensures { IsTrue result ↔ (IsTrue (packet (plan job.now) number).bit → (e : ℕ) → Earlier (plan job.now) e number → (state_of (plan job.now) self.now).phase e ≡ machine.Phase.Complete) }
     {
-        if !has_bit(job, number) {
+        if !job.has_bit(number) {
             return true;
         }
         self.all_complete(first_of_queue(job, number)..number)
@@ -136,7 +136,7 @@ impl State {
     {
         self.is_in(number, Phase::InQueue)
             && self.bit_is_over(job, number)
-            && (has_bit(job, number) || self.barriers_over(job, number))
+            && (job.has_bit(number) || self.barriers_over(job, number))
     }
 
     /// The packet of the queue that may be launched, if one may.

@@ -11,7 +11,6 @@ ghost use Rattle.hq_machine.specs.State.{named, no_stores};
 ghost use Rattle.hq_machine.specs.View.{IsStateOf, AllAre, Opens, phased, state_of};
 
 use crate::fault::StepFault;
-use crate::packets::agent_of;
 use crate::phase::Phase;
 use crate::rows::{Reads, Stores};
 use hq_copies::Copies;
@@ -64,7 +63,7 @@ fn lane_agent(job: &Job, packet: usize) -> u8
     ensures there { result < length job.now.agents }
 {
     job.valid();
-    agent_of(job, packet) as u8
+    job.agent_of(packet) as u8
 }
 
 /// The agent of each packet.

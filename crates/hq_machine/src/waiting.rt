@@ -8,7 +8,7 @@ ghost use Rattle.hq_model.specs.Machine.Event.{Observe, Enter};
 ghost use Rattle.hq_machine.specs.View.{IsStateOf, Observes, SlotObserved, SlotMissing, MayObserve, MayEnter, Acquired, Moved, Refused, observing, row_of, state_of};
 
 use crate::fault::StepFault;
-use crate::packets::{acquire_of, agent_of, dependency, is_barrier, queue_of, slot_count};
+use crate::packets::{dependency, queue_of, slot_count};
 use crate::phase::Phase;
 use crate::state::State;
 use hq_job::Job;
@@ -41,7 +41,7 @@ impl State {
         requires packet { IsPacket (plan job.now) packet }
         ensures { IsTrue result ↔ Observes (plan job.now) (state_of (plan job.now) self.now) packet slot signal }
     {
-        is_barrier(job, packet)
+        job.is_barrier(packet)
             && self.is_in(packet, Phase::Launched)
             && self.is_zero(signal)
             && !self.has_observed(packet, slot)
@@ -174,8 +174,8 @@ impl State {
     {
         job.valid();
         let numbers = queue_of(job, packet);
-        let agent = agent_of(job, packet);
-        let scope = acquire_of(job, packet);
+        let agent = job.agent_of(packet);
+        let scope = job.acquire_of(packet);
         self.copies.acquire(numbers, agent, scope);
     }
 

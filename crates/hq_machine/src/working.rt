@@ -8,7 +8,7 @@ ghost use Rattle.hq_model.specs.Machine.{Event};
 ghost use Rattle.hq_machine.specs.View.{IsStateOf, MayFinish, Moved, Refused, row_of, stores_of, signalled, state_of};
 
 use crate::fault::StepFault;
-use crate::packets::{agent_of, done_of, queue_of, read_at, read_count, release_of, write_count};
+use crate::packets::{done_of, queue_of, read_at, read_count, write_count};
 use crate::phase::Phase;
 use crate::state::State;
 use hq_job::Job;
@@ -57,8 +57,8 @@ impl State {
     {
         job.valid();
         let numbers = queue_of(job, packet);
-        let agent = agent_of(job, packet);
-        let scope = release_of(job, packet);
+        let agent = job.agent_of(packet);
+        let scope = job.release_of(packet);
         self.copies.is_released(numbers, agent, scope)
     }
 

@@ -3,12 +3,13 @@ use Rattle.std.proofs.Common.{◌≡◌, ℕ, zero, suc, ◌<◌, ◌≢◌, inl
 use Rattle.std.proofs.lemmas.Bool.{cases_eq}
 use Rattle.hq_model.specs.Job.{Job, IsPacket, Decrements}
 use Rattle.hq_model.specs.Order.{Before, Branch, In, Ahead, place}
-use Rattle.hq_model.specs.Order.Before.{by_bit_of, by_bit_ahead, by_queue, by_and, by_or, through}
+use Rattle.hq_model.specs.Order.Before.{by_bit, by_queue, by_and, by_or, through}
 use Rattle.hq_model.specs.Order.Branch.{itself, after}
 use Rattle.hq_model.specs.Theorems.{Valid}
 use Rattle.hq_model.specs.HoldsBack.{AlwaysBefore, NeedsOneOf, HoldsBack, FullOrderList, HoldsBackExact, FullOrderExact}
-use Rattle.hq_model.specs.HoldsBack.NeedsOneOf.{for_bit, for_bit_ahead, for_queue, for_and, for_or}
+use Rattle.hq_model.specs.HoldsBack.NeedsOneOf.{for_bit, for_queue, for_and, for_or}
 use Rattle.hq_model.proofs.Places.{in_rest}
+use Rattle.hq_model.proofs.Orders.{ahead_of}
 use Rattle.hq_model.proofs.Kept.{order_law}
 use Rattle.hq_model.proofs.HeldBack.{held_back}
 use Rattle.hq_model.proofs.WithoutIt.{held_or_free}
@@ -42,13 +43,12 @@ module _ (job : Job) (list : List ℕ) (full : FullOrderList job list) (p : ℕ)
       ]
 
       go : NeedsOneOf job (p ∷ set) x → Before job p x
-      go (for_bit e f b i) = past e i (full.order.queues e x f) (by_bit_of f b)
-      go (for_bit_ahead e j f b g i) = past e i (lt_trans (full.order.queues e j f) (full.order.queues j x g)) (by_bit_ahead f b g)
-      go (for_queue e f b i) = past e i (full.order.queues e x f) (by_queue f b)
-      go (for_and slot s d k w f i) = past d i (full.order.ands x slot s d k w f) (by_and k w f)
-      go (for_or slot s k w each) = by_or k w (λ place t v.
+      go (for_bit e j by i) = past e i (ahead_of list full.order (by_bit by)) (by_bit by)
+      go (for_queue e by i) = past e i (ahead_of list full.order (by_queue by)) (by_queue by)
+      go (for_and d slot s by i) = past d i (ahead_of list full.order (by_and by)) (by_and by)
+      go (for_or any each) = by_or any (λ place t v.
           let (d, f, i) = each place t v in
-          branch t d i (full.branches x place t d k v f) f)
+          branch t d i (full.branches x place t d any.kind v f) f)
 
   follows : ((x : ℕ) → In set x → NeedsOneOf job (p ∷ set) x) → (k x : ℕ) → place list x < k → In set x → Before job p x
   follows needs zero x l i = absurd (omega (arith, l))

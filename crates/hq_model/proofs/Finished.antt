@@ -2,7 +2,8 @@
 use Rattle.std.proofs.Common.{◌≡◌, ℕ, suc, ◌<◌, ◌≢◌, inl, inr, IsTrue, IsSome, List, [], ◌∷◌, length, map, filter, refl, sym, ◌∙◌, ap, subst, arith, Bool, true, false, cond, ◌==◌, Option, Some, None, slice_index, AllPairs}
 use Rattle.std.proofs.lemmas.Bool.{cases_eq, cases_Bool, cond-true, cond-false, eq-eqb, true≢false}
 use Rattle.std.proofs.lemmas.List.Kept.{AllPairs-filter}
-use Rattle.hq_model.specs.Job.{Job, packet, IsPacket, agent_of, reaches}
+use Rattle.hq_model.specs.Job.{Job, packet, IsPacket, agent_of}
+use Rattle.hq_packet.specs.Scopes.{reaches}
 use Rattle.hq_packet.specs.declared.packet.Scope.TheVariants as scope
 use Rattle.hq_model.specs.Order.{In, place}
 use Rattle.hq_model.specs.Machine.{State, Copy, Event, Step, Steps, IsByte, Released, is_dirty, without_clean, clean, dirty, put2, start, completed}

@@ -8,20 +8,19 @@ use Rattle.hq_model.specs.Machine.Phase.{InQueue, Launched, Active, Complete}
 use Rattle.hq_model.specs.Machine.Event.{Submit, Launch, Observe, Enter, Read, Store, PushLane, PushAgent, FillLane, FillAgent, DropLane, DropAgent}
 use Rattle.hq_model.specs.Theorems.{Valid, Balanced}
 use Rattle.hq_model.specs.HoldsBack.{AlwaysBefore, NeedsOneOf, HoldsBack}
-use Rattle.hq_model.specs.HoldsBack.NeedsOneOf.{for_bit, for_bit_ahead, for_queue, for_and, for_or}
+use Rattle.hq_model.specs.HoldsBack.NeedsOneOf.{for_bit, for_queue, for_and, for_or}
 use Rattle.hq_model.proofs.Sums.{put_other}
 use Rattle.hq_model.proofs.Places.{in_or_not, in_rest}
-use Rattle.hq_model.proofs.Kept.{KeptBy, IsBegun, kept_start, kept_step, waiting≢complete, launched≢complete, active≢complete, first_waits, launched_not_begun, begun≢waiting, begun_before, complete_stays}
+use Rattle.hq_model.proofs.Kept.{KeptBy, IsBegun, kept_start, kept_step, waiting≢complete, launched≢complete, active≢complete, first_waits, launched_not_begun, begun≢waiting, begun_before, complete_stays, launched_upto}
 
 -- a packet that may enter has one of those that it needs behind it
 some_complete : (job : Job) (set : List ℕ) (old : State) (x : ℕ) → KeptBy job old → NeedsOneOf job set x → is_launched (old.phase x) ≡ true → WaitOver job old x
     → (e : ℕ) × In set e × (old.phase e ≡ Complete)
-some_complete job set old x k (for_bit e f b i) launched over = (e, i, k.bit x e f b launched)
-some_complete job set old x k (for_bit_ahead e j f b g i) launched over = (e, i, k.bit j e f b (k.next x j g launched))
-some_complete job set old x k (for_queue e f b i) launched over = (e, i, k.barriers x e f b launched)
-some_complete job set old x k (for_and slot s d kind w f i) launched over = (d, i, k.over x slot s d w (over.each kind slot s w) f)
-some_complete job set old x k (for_or slot s kind w each) launched over =
-    let (place, t, v, o) = over.one kind in
+some_complete job set old x k (for_bit e j by i) launched over = (e, i, k.bit j e by.earlier by.bit (launched_upto old k j x by.upto launched))
+some_complete job set old x k (for_queue e by i) launched over = (e, i, k.barriers x e by.earlier by.barrier launched)
+some_complete job set old x k (for_and d slot s by i) launched over = (d, i, k.over x slot s d by.dependency (over.each by.kind slot s by.dependency) by.decrements)
+some_complete job set old x k (for_or any each) launched over =
+    let (place, t, v, o) = over.one any.kind in
     let (d, f, i) = each place t v in
     (d, i, k.over x place t d v o f)
 

@@ -1,7 +1,8 @@
 -- What single steps do to copies.
 use Rattle.std.proofs.Common.{◌≡◌, ℕ, Bool, true, false, inl, inr, refl, sym, ◌∙◌, ap, subst, Option, None, cond, eqb, ◌&&◌}
 use Rattle.std.proofs.lemmas.Bool.{cases_eq, cond-true, cond-false, eq-eqb, ne_eqb, and_from, and_left, and_right}
-use Rattle.hq_model.specs.Job.{Job, packet, agent_of, reaches}
+use Rattle.hq_model.specs.Job.{Job, packet, agent_of}
+use Rattle.hq_packet.specs.Scopes.{reaches}
 use Rattle.hq_model.specs.Machine.{State, Copy, Step, value_or, is_dirty, without_clean, agent_sees, lane_sees, clean, dirty, put, put2, acquired, with_phase}
 use Rattle.hq_model.specs.Machine.Phase.{Active}
 use Rattle.hq_model.specs.Machine.Event.{FillLane, FillAgent}

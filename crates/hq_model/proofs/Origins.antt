@@ -2,7 +2,8 @@
 use Rattle.std.proofs.Common.{◌≡◌, ℕ, zero, suc, ◌<◌, inl, inr, IsTrue, IsSome, is_some, IfSome, List, [], ◌∷◌, ◌++◌, length, refl, sym, ◌∙◌, ap, subst, arith, Bool, true, false, cond, eqb, ◌&&◌, Option, Some, None, slice_index, unwrap_or}
 use Rattle.std.proofs.lemmas.Bool.{cases_eq, true≢false}
 use Rattle.hq_footprint.specs.Tasks.{result_of}
-use Rattle.hq_model.specs.Job.{Job, packet, IsPacket, agent_of, reaches}
+use Rattle.hq_model.specs.Job.{Job, packet, IsPacket, agent_of}
+use Rattle.hq_packet.specs.Scopes.{reaches}
 use Rattle.hq_packet.specs.declared.packet.Scope.TheVariants as scope
 use Rattle.hq_model.specs.Order.{place}
 use Rattle.hq_model.specs.Machine.{State, Phase, Copy, Event, Step, Steps, start, put, put2, listed, clean, dirty, value_or, agent_sees, lane_sees, is_dirty, without_clean, AllRead, bytes_stored, with_phase, acquired, completed}

@@ -4,7 +4,8 @@ use Rattle.std.proofs.Common.{Bool, true, false, List, [], ◌∷◌, ◌++◌, 
 use Rattle.std.proofs.lemmas.Bool.{cases_eq, true≢false}
 use Rattle.std.proofs.lemmas.List.Elements.{All-nil, All-cons, All-head, All-tail, All-append}
 use Rattle.hq_packet.specs.declared.packet.Scope.TheVariants as scope
-use Rattle.hq_model.specs.Job.{Job, packet, IsPacket, agent_of, reaches}
+use Rattle.hq_model.specs.Job.{Job, packet, IsPacket, agent_of}
+use Rattle.hq_packet.specs.Scopes.{reaches}
 use Rattle.hq_model.specs.Machine.{State, Event, Step, Steps, Run, AllRead, start, put2, lane_sees, dirty, bytes_stored, completed}
 use Rattle.hq_model.specs.Machine.Phase.{Active}
 use Rattle.hq_model.specs.Machine.Event.{Enter, Finish, Read, Store, PushLane, PushAgent}

@@ -5,7 +5,7 @@ use Rattle.std.proofs.lemmas.List.Elements.{All-nil, All-cons}
 use Rattle.hq_model.specs.Job.{decrementers, Kind, packet, IsPacket, Earlier, Dependency, Decrements}
 use Rattle.hq_model.specs.Job.Kind.{Work, BarrierAnd, BarrierOr}
 use Rattle.hq_model.specs.Order.{Before, Branch, In, OrderList}
-use Rattle.hq_model.specs.Order.Before.{by_bit_of, by_bit_ahead, by_queue, by_and, by_or, through}
+use Rattle.hq_model.specs.Order.Before.{by_bit, by_queue, by_and, by_or, through}
 use Rattle.hq_model.specs.Order.Branch.{itself, after}
 use Rattle.hq_model.specs.Rows.{either, back_branch}
 use Rattle.hq_model.specs.Theorems.{Valid}
@@ -130,7 +130,7 @@ all_three = 0 ∷ 1 ∷ 2 ∷ []
 
 needs : (x : ℕ) → In (1 ∷ 2 ∷ []) x → NeedsOneOf back_branch all_three x
 needs zero i = absurd (omega (arith, i))
-needs (suc zero) i = for_or 0 0 refl (record { is_packet = omega arith; signal = refl }) (λ slot s w. two_slots HasOne first last slot s w.signal)
+needs (suc zero) i = for_or (record { kind = refl; some = (0, 0, record { is_packet = omega arith; signal = refl }) }) (λ slot s w. two_slots HasOne first last slot s w.signal)
   where
     HasOne : ℕ → Type 0
     HasOne s = (d : ℕ) × Decrements back_branch d s × In all_three d
@@ -140,7 +140,7 @@ needs (suc zero) i = for_or 0 0 refl (record { is_packet = omega arith; signal =
 
     last : HasOne 1
     last = (2, record { is_packet = omega arith; signal = refl }, omega arith)
-needs (suc (suc zero)) i = for_and 0 2 1 refl (record { is_packet = omega arith; signal = refl }) (record { is_packet = omega arith; signal = refl }) (omega arith)
+needs (suc (suc zero)) i = for_and 1 0 2 (record { kind = refl; dependency = record { is_packet = omega arith; signal = refl }; decrements = record { is_packet = omega arith; signal = refl } }) (omega arith)
 needs (suc (suc (suc x))) i =
     absurd (omega (arith, place_of_packets (λ k. k < 3) (1 ∷ 2 ∷ []) (suc (suc (suc x))) (All-cons (λ k. k < 3) 1 (2 ∷ []) (omega arith) (All-cons (λ k. k < 3) 2 [] (omega arith) (All-nil (λ k. k < 3)))) i))
 
@@ -168,11 +168,10 @@ of_second r k = subst (λ x. Dependency back_branch x 1 1) (sym (or_is r k)) (re
 mutual
   -- only the barrier-OR comes before another
   only : {p r : ℕ} → Before back_branch p r → (p ≡ 1) × (r ≡ 2)
-  only (by_bit_of {p = p} {r = r} e b) = absurd (alone p r e)
-  only (by_bit_ahead {p = p} {j = j} {r = r} e b f) = absurd (alone p j e)
-  only (by_queue {p = p} {r = r} e b) = absurd (alone p r e)
-  only (by_and {p = p} {r = r} {slot = slot} {s = s} k w f) = and_alone p r slot s k w f
-  only (by_or {p = p} {r = r} k w each) = absurd (not_first (each 1 1 (of_second r k)) refl (first_branch (each 0 0 (of_first r k)) refl))
+  only (by_bit {p = p} {r = r} {j = j} by) = absurd (alone p j by.earlier)
+  only (by_queue {p = p} {r = r} by) = absurd (alone p r by.earlier)
+  only (by_and {p = p} {r = r} {slot = slot} {s = s} by) = and_alone p r slot s by.kind by.dependency by.decrements
+  only (by_or {p = p} {r = r} any each) = absurd (not_first (each 1 1 (of_second r any.kind)) refl (first_branch (each 0 0 (of_first r any.kind)) refl))
   only (through {p = p} {m = m} {r = r} f g) = absurd (omega (arith, (only f).1, (only g).0))
 
   first_branch : {p s : ℕ} → Branch back_branch p s → s ≡ 0 → p ≡ 0

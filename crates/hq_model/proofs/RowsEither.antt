@@ -26,13 +26,13 @@ null_some : (s : ℕ) → ◌≡◌ {A = Option (Option ℕ)} (Some None) (Some 
 null_some s e = cc
 
 fill_first : Before either 0 1
-fill_first = by_and {slot = 0} {s = 0} refl (record { is_packet = omega arith; signal = refl }) (record { is_packet = omega arith; signal = refl })
+fill_first = by_and {slot = 0} {s = 0} (record { kind = refl; dependency = record { is_packet = omega arith; signal = refl }; decrements = record { is_packet = omega arith; signal = refl } })
 
 fill_second : Before either 0 2
-fill_second = by_and {slot = 0} {s = 0} refl (record { is_packet = omega arith; signal = refl }) (record { is_packet = omega arith; signal = refl })
+fill_second = by_and {slot = 0} {s = 0} (record { kind = refl; dependency = record { is_packet = omega arith; signal = refl }; decrements = record { is_packet = omega arith; signal = refl } })
 
 fill_either : Before either 0 3
-fill_either = by_or {slot = 0} {s = 1} refl (record { is_packet = omega arith; signal = refl }) (λ slot s w. branch slot s w.signal)
+fill_either = by_or (record { kind = refl; some = (0, 1, record { is_packet = omega arith; signal = refl }) }) (λ slot s w. branch slot s w.signal)
   where
     branch : (slot s : ℕ) → slice_get (Some 1 ∷ Some 2 ∷ None ∷ None ∷ None ∷ []) slot ≡ Some (Some s) → Branch either 0 s
     branch zero s e = subst (Branch either 0) (some_some 1 s e) (after {d = 1} (record { is_packet = omega arith; signal = refl }) fill_first)
@@ -43,7 +43,7 @@ fill_either = by_or {slot = 0} {s = 1} refl (record { is_packet = omega arith; s
     branch (suc (suc (suc (suc (suc slot))))) s e = absurd (none_some (Some s) e)
 
 either_copy : Before either 3 4
-either_copy = by_queue (record { ahead = omega arith; is_packet = omega arith; same_queue = refl }) (or≢work BarrierOr refl)
+either_copy = by_queue (record { earlier = record { ahead = omega arith; is_packet = omega arith; same_queue = refl }; barrier = or≢work BarrierOr refl })
 
 pub fill_before_copy : Before either 0 4
 fill_before_copy = through fill_either either_copy
@@ -100,9 +100,9 @@ either_ordered = record {
       0,
       4,
       4,
-      Release.alone refl (record { is_packet = omega arith; queue = refl; after = inl refl; scope_reaches = refl }),
+      Release.alone refl (record { fence = record { is_packet = omega arith; queue = refl; scope_reaches = refl }; after = inl refl }),
       fill_before_copy,
-      Acquire.alone refl (record { is_packet = omega arith; queue = refl; before = inl refl; scope_reaches = refl }),
+      Acquire.alone refl (record { fence = record { is_packet = omega arith; queue = refl; scope_reaches = refl }; before = inl refl }),
     )
     shown WriteWrite (b, i, j) = absurd (apart b i j)
     shown ReadWrite (b, i, j) = absurd (none_in b i)
@@ -113,9 +113,9 @@ by_line : (job : Job) (c : Certificate) (k : ℕ) (line : Line) → slice_get c.
 by_line job c k line e f other is = subst (λ x. Follows job c.lines k x.p x.r x.rule) (some_same line other (sym e ∙ is)) f
 
 either_lines : (k : ℕ) → LineHolds either either_certificate k
-either_lines zero = by_line either either_certificate 0 (record { p = 0; r = 1; rule = And 0 }) refl (0, refl, record { is_packet = omega arith; signal = refl }, record { is_packet = omega arith; signal = refl })
-either_lines (suc zero) = by_line either either_certificate 1 (record { p = 0; r = 2; rule = And 0 }) refl (0, refl, record { is_packet = omega arith; signal = refl }, record { is_packet = omega arith; signal = refl })
-either_lines (suc (suc zero)) = by_line either either_certificate 2 (record { p = 3; r = 4; rule = Queue }) refl (record { ahead = omega arith; is_packet = omega arith; same_queue = refl }, or≢work BarrierOr refl)
+either_lines zero = by_line either either_certificate 0 (record { p = 0; r = 1; rule = And 0 }) refl (0, record { kind = refl; dependency = record { is_packet = omega arith; signal = refl }; decrements = record { is_packet = omega arith; signal = refl } })
+either_lines (suc zero) = by_line either either_certificate 1 (record { p = 0; r = 2; rule = And 0 }) refl (0, record { kind = refl; dependency = record { is_packet = omega arith; signal = refl }; decrements = record { is_packet = omega arith; signal = refl } })
+either_lines (suc (suc zero)) = by_line either either_certificate 2 (record { p = 3; r = 4; rule = Queue }) refl (record { earlier = record { ahead = omega arith; is_packet = omega arith; same_queue = refl }; barrier = or≢work BarrierOr refl })
 either_lines (suc (suc (suc zero))) = by_line either either_certificate 3 (record { p = 0; r = 3; rule = Or (Some 0 ∷ Some 1 ∷ []) }) refl (
   omega arith,
   refl,
@@ -173,7 +173,7 @@ fill_copy_certified = record {
 }
   where
     lines : (k : ℕ) → LineHolds fill_copy fill_copy_certificate k
-    lines zero = by_line fill_copy fill_copy_certificate 0 (record { p = 0; r = 1; rule = Bit 1 }) refl (record { ahead = omega arith; is_packet = omega arith; same_queue = refl }, refl, inl refl)
+    lines zero = by_line fill_copy fill_copy_certificate 0 (record { p = 0; r = 1; rule = Bit 1 }) refl (record { earlier = record { ahead = omega arith; is_packet = omega arith; same_queue = refl }; bit = refl; upto = inl refl })
     lines (suc k) = λ line e. absurd (none_some line e)
 
     has : HasPairs fill_copy fill_copy_certificate 0 1

@@ -2,10 +2,11 @@
 use Rattle.std.proofs.Common.{◌≡◌, ℕ, zero, suc, ◌<◌, ◌≤◌, ◌≢◌, ◌⊎◌, inl, inr, IsTrue, [], ◌∷◌, refl, sym, ◌∙◌, subst, arith, true, false, Some, None}
 use Rattle.std.proofs.lemmas.Bool.{true≢false}
 use Rattle.std.proofs.lemmas.List.Elements.{All-nil, All-cons}
-use Rattle.hq_model.specs.Job.{Job, Kind, packet, IsPacket, reaches}
+use Rattle.hq_model.specs.Job.{Job, Kind, packet, IsPacket}
+use Rattle.hq_packet.specs.Scopes.{reaches}
 use Rattle.hq_model.specs.Job.Kind.{Work, BarrierAnd, BarrierOr}
 use Rattle.hq_model.specs.Order.{Before, In, Ahead, OrderList}
-use Rattle.hq_model.specs.Order.Before.{by_bit_of, by_bit_ahead, by_queue, by_and, by_or, through}
+use Rattle.hq_model.specs.Order.Before.{by_bit, by_queue, by_and, by_or, through}
 use Rattle.hq_model.specs.Fence.{Ordered, Shown, ShownFor, Release, Acquire, Reason}
 use Rattle.hq_model.specs.Fence.Conflict.{WriteRead, WriteWrite, ReadWrite}
 use Rattle.hq_model.specs.Fence.Why.{Unordered, NotReleased, NotAcquired}
@@ -45,11 +46,10 @@ apart b i j = omega (
 -- ---- without bits, and without barrier packets, nothing comes before
 
 none_before : {job : Job} {p r : ℕ} → ((q : ℕ) → (packet job q).bit ≡ false) → ((q : ℕ) → (packet job q).kind ≡ Work) → Before job p r → ⊥
-none_before bits kinds (by_bit_of {r = r} e b) = true≢false (sym b ∙ bits r)
-none_before bits kinds (by_bit_ahead {j = j} e b f) = true≢false (sym b ∙ bits j)
-none_before bits kinds (by_queue {p = p} e b) = b (kinds p)
-none_before {job = job} bits kinds (by_and {r = r} k w d) = work≢and (packet job r).kind (kinds r) k
-none_before {job = job} bits kinds (by_or {r = r} k w h) = work≢or (packet job r).kind (kinds r) k
+none_before bits kinds (by_bit {j = j} by) = true≢false (sym by.bit ∙ bits j)
+none_before bits kinds (by_queue {p = p} by) = by.barrier (kinds p)
+none_before {job = job} bits kinds (by_and {r = r} by) = work≢and (packet job r).kind (kinds r) by.kind
+none_before {job = job} bits kinds (by_or {r = r} any h) = work≢or (packet job r).kind (kinds r) any.kind
 none_before bits kinds (through f g) = none_before bits kinds f
 
 pub no_bit : Reason without_bits 0 1 Unordered
@@ -68,7 +68,7 @@ no_bit h = none_before bits kinds h
 -- ---- a copy, then a fill
 
 copy_before_fill : Before copy_fill 0 1
-copy_before_fill = by_bit_of (record { ahead = omega arith; is_packet = omega arith; same_queue = refl }) refl
+copy_before_fill = by_bit (record { earlier = record { ahead = omega arith; is_packet = omega arith; same_queue = refl }; bit = refl; upto = inl refl })
 
 pub copy_fill_ordered : Ordered copy_fill
 copy_fill_ordered = record {
@@ -88,10 +88,10 @@ copy_fill_ordered = record {
 -- ---- two agents
 
 first_wait : Before two_agents 0 1
-first_wait = by_and {slot = 0} {s = 0} refl (record { is_packet = omega arith; signal = refl }) (record { is_packet = omega arith; signal = refl })
+first_wait = by_and {slot = 0} {s = 0} (record { kind = refl; dependency = record { is_packet = omega arith; signal = refl }; decrements = record { is_packet = omega arith; signal = refl } })
 
 wait_copy : Before two_agents 1 2
-wait_copy = by_queue (record { ahead = omega arith; is_packet = omega arith; same_queue = refl }) (and≢work BarrierAnd refl)
+wait_copy = by_queue (record { earlier = record { ahead = omega arith; is_packet = omega arith; same_queue = refl }; barrier = and≢work BarrierAnd refl })
 
 pub agents_apart : Reason two_agents 0 2 NotReleased
 agents_apart = (through first_wait wait_copy, λ (x, x2, h, b). not_released x x2 h)
@@ -103,14 +103,14 @@ agents_apart = (through first_wait wait_copy, λ (x, x2, h, b). not_released x x
     no_system (suc (suc (suc x))) e = true≢false (sym e)
 
     not_released : (x x2 : ℕ) → Release two_agents 0 2 x x2 → ⊥
-    not_released x x2 (Release.alone e h) = no_system x h.scope_reaches
+    not_released x x2 (Release.alone e h) = no_system x h.fence.scope_reaches
     not_released x x2 (Release.chained n h b f) = no_system x2 f.system
 
 first_wait_two : Before two_writers 0 1
-first_wait_two = by_and {slot = 0} {s = 0} refl (record { is_packet = omega arith; signal = refl }) (record { is_packet = omega arith; signal = refl })
+first_wait_two = by_and {slot = 0} {s = 0} (record { kind = refl; dependency = record { is_packet = omega arith; signal = refl }; decrements = record { is_packet = omega arith; signal = refl } })
 
 wait_fill : Before two_writers 1 2
-wait_fill = by_queue (record { ahead = omega arith; is_packet = omega arith; same_queue = refl }) (and≢work BarrierAnd refl)
+wait_fill = by_queue (record { earlier = record { ahead = omega arith; is_packet = omega arith; same_queue = refl }; barrier = and≢work BarrierAnd refl })
 
 pub no_release : Reason two_writers 0 2 NotReleased
 no_release = (through first_wait_two wait_fill, λ (x, x2, h, b). not_released x x2 h)
@@ -129,8 +129,8 @@ no_release = (through first_wait_two wait_fill, λ (x, x2, h, b). not_released x
     none_alone (suc (suc (suc x))) q l e = omega arith
 
     not_released : (x x2 : ℕ) → Release two_writers 0 2 x x2 → ⊥
-    not_released x x2 (Release.alone e h) = none_alone x h.queue h.is_packet h.scope_reaches
-    not_released x x2 (Release.chained n h b f) = none_there x h.queue h.is_packet h.scope_reaches
+    not_released x x2 (Release.alone e h) = none_alone x h.fence.queue h.fence.is_packet h.fence.scope_reaches
+    not_released x x2 (Release.chained n h b f) = none_there x h.fence.queue h.fence.is_packet h.fence.scope_reaches
 
 -- ---- one barrier packet with both fences
 
@@ -140,14 +140,14 @@ fence_order = order_by_test fence_between (0 ∷ 1 ∷ 2 ∷ []) refl (each_once
 pub one_fence : Reason fence_between 0 2 NotAcquired
 one_fence = (
   through into out,
-  (1, 1, Release.alone refl (record { is_packet = omega arith; queue = refl; after = inr into; scope_reaches = refl }), out),
+  (1, 1, Release.alone refl (record { fence = record { is_packet = omega arith; queue = refl; scope_reaches = refl }; after = inr into }), out),
 )
   where
     into : Before fence_between 0 1
-    into = by_bit_of (record { ahead = omega arith; is_packet = omega arith; same_queue = refl }) refl
+    into = by_bit (record { earlier = record { ahead = omega arith; is_packet = omega arith; same_queue = refl }; bit = refl; upto = inl refl })
 
     out : Before fence_between 1 2
-    out = by_queue (record { ahead = omega arith; is_packet = omega arith; same_queue = refl }) (and≢work BarrierAnd refl)
+    out = by_queue (record { earlier = record { ahead = omega arith; is_packet = omega arith; same_queue = refl }; barrier = and≢work BarrierAnd refl })
 
 pub one_fence_not_shown : ShownFor fence_between WriteRead 0 2 → ⊥
 one_fence_not_shown (x, x2, y2, y, release, b, acquire) = not_both x2 y2 (releases x x2 release) (acquires y2 y acquire) (ahead_of (0 ∷ 1 ∷ 2 ∷ []) fence_order b)
@@ -169,11 +169,11 @@ one_fence_not_shown (x, x2, y2, y, release, b, acquire) = not_both x2 y2 (releas
     agent≢system e = cc
 
     releases : (x x2 : ℕ) → Release fence_between 0 2 x x2 → (x2 ≡ 1) ⊎ (x2 ≡ 2)
-    releases x x2 (Release.alone e h) = subst (λ q. (q ≡ 1) ⊎ (q ≡ 2)) e (not_first x h.is_packet h.scope_reaches)
+    releases x x2 (Release.alone e h) = subst (λ q. (q ≡ 1) ⊎ (q ≡ 2)) e (not_first x h.fence.is_packet h.fence.scope_reaches)
     releases x x2 (Release.chained n h b f) = absurd (agent≢system n)
 
     acquires : (y2 y : ℕ) → Acquire fence_between 0 2 y2 y → (y2 ≡ 0) ⊎ (y2 ≡ 1)
-    acquires y2 y (Acquire.alone e h) = subst (λ q. (q ≡ 0) ⊎ (q ≡ 1)) (sym e) (not_last y h.is_packet h.scope_reaches)
+    acquires y2 y (Acquire.alone e h) = subst (λ q. (q ≡ 0) ⊎ (q ≡ 1)) (sym e) (not_last y h.fence.is_packet h.fence.scope_reaches)
     acquires y2 y (Acquire.chained n f b h) = absurd (agent≢system n)
 
     not_both : (x2 y2 : ℕ) → (x2 ≡ 1) ⊎ (x2 ≡ 2) → (y2 ≡ 0) ⊎ (y2 ≡ 1) → Ahead (0 ∷ 1 ∷ 2 ∷ []) x2 y2 → ⊥

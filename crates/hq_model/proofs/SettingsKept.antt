@@ -1,5 +1,5 @@
 -- What is the same of two jobs that differ in nothing but heads.
-use Rattle.std.proofs.Common.{◌≡◌, ◌≢◌, ℕ, ◌<◌, ◌≤◌, Bool, cond, eqb, ◌==◌, ltb, List, [], ◌∷◌, length, map, take, fold, refl, sym, ◌∙◌, ap, subst, arith, slice_get, slice_index, slice_index_or, All, AllPairs, count_by}
+use Rattle.std.proofs.Common.{◌≡◌, ◌≢◌, ℕ, ◌<◌, ◌≤◌, inl, inr, IsTrue, Bool, cond, eqb, ◌==◌, ltb, List, [], ◌∷◌, length, map, take, fold, refl, sym, ◌∙◌, ap, subst, arith, slice_get, slice_index, slice_index_or, All, AllPairs, count_by}
 use Rattle.std.proofs.Math.ListN.{get_or-map}
 use Rattle.std.proofs.lemmas.List.{length-map, take-map}
 use Rattle.std.proofs.lemmas.List.Elements.{All-weaker}
@@ -7,7 +7,7 @@ use Rattle.std.proofs.lemmas.List.Sums.{sum_by-cons}
 use Rattle.hq_packet.specs.declared.packet.Scope.TheVariants as scope
 use Rattle.hq_footprint.specs.Tasks.{result_of}
 use Rattle.hq_model.specs.Job.{Job, Packet, packet, IsPacket, no_packet, Earlier, Dependency, Decrements, IsBarrier, Frees, agent_of, place_in_queue, size_of, decrementers, completes_on}
-use Rattle.hq_model.specs.Order.{OrderList, StuckSet, Blocked, FreesFor, EachOnce, place}
+use Rattle.hq_model.specs.Order.{ByBit, ByQueue, ByAnd, AwaitsAny, OrderList, StuckSet, Blocked, FreesFor, EachOnce, place}
 use Rattle.hq_model.specs.Order.Blocked.{by_earlier, by_slot, by_dependency, by_each}
 use Rattle.hq_model.specs.Machine.{IsByte}
 use Rattle.hq_model.specs.Fence.{Conflict, Conflicts, Share, need}
@@ -82,6 +82,28 @@ module _ (job : Job) (ps : List Packet) (same : SamePackets job.packets ps) wher
 
   pub barrier_kept : (p : ℕ) → IsBarrier job p → IsBarrier (with_packets job ps) p
   barrier_kept p b e = b (kind_kept p ∙ e)
+
+  -- what the rules ask
+
+  pub bit_kept : (p r j : ℕ) → (IsTrue (packet job j).bit → IsTrue (packet (with_packets job ps) j).bit) → ByBit job p r j → ByBit (with_packets job ps) p r j
+  bit_kept p r j bit by = record {
+    earlier = earlier_kept p j by.earlier;
+    bit = bit by.bit;
+    upto = elim by.upto [ inl is ↦ inl is | inr f ↦ inr (earlier_kept j r f) ];
+  }
+
+  pub queue_rule_kept : (p r : ℕ) → ByQueue job p r → ByQueue (with_packets job ps) p r
+  queue_rule_kept p r by = record { earlier = earlier_kept p r by.earlier; barrier = barrier_kept p by.barrier }
+
+  pub and_kept : (p r slot s : ℕ) → ByAnd job p r slot s → ByAnd (with_packets job ps) p r slot s
+  and_kept p r slot s by = record {
+    kind = sym (kind_kept r) ∙ by.kind;
+    dependency = dependency_kept r slot s by.dependency;
+    decrements = decrements_kept p s by.decrements;
+  }
+
+  pub any_kept : (r : ℕ) → AwaitsAny job r → AwaitsAny (with_packets job ps) r
+  any_kept r any = let (slot, s, w) = any.some in record { kind = sym (kind_kept r) ∙ any.kind; some = (slot, s, dependency_kept r slot s w) }
 
   place_in_queue_kept : (p : ℕ) → place_in_queue job p ≡ place_in_queue (with_packets job ps) p
   place_in_queue_kept p =

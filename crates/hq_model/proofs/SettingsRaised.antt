@@ -2,14 +2,15 @@
 use Rattle.std.proofs.Common.{◌≡◌, ℕ, ◌⊎◌, inl, inr, IsTrue, refl, sym, ◌∙◌, subst, List, slice_index_or}
 use Rattle.hq_packet.specs.declared.packet.Scope.{Scope}
 use Rattle.hq_packet.specs.declared.packet.Scope.TheVariants as scope
-use Rattle.hq_model.specs.Job.{Job, Packet, packet, no_packet, reaches}
+use Rattle.hq_model.specs.Job.{Job, Packet, packet, no_packet}
+use Rattle.hq_packet.specs.Scopes.{reaches}
 use Rattle.hq_model.specs.Order.{Before, Branch}
-use Rattle.hq_model.specs.Order.Before.{by_bit_of, by_bit_ahead, by_queue, by_and, by_or, through}
+use Rattle.hq_model.specs.Order.Before.{by_bit, by_queue, by_and, by_or, through}
 use Rattle.hq_model.specs.Order.Branch.{itself, after}
-use Rattle.hq_model.specs.Fence.{Conflict, SameOrBefore, Releases, Acquires, Forwards, Release, Acquire, ShownFor, Shown, Ordered, need}
+use Rattle.hq_model.specs.Fence.{Conflict, FenceReaches, SameOrBefore, Releases, Acquires, Forwards, Release, Acquire, ShownFor, Shown, Ordered, need}
 use Rattle.hq_model.specs.Fence.Conflict.{WriteRead, WriteWrite, ReadWrite}
 use Rattle.hq_model.specs.Settings.{head_of, HeadRaises, Raises, RaisingOrders, RaisingShows, RaisedIsOrdered, RefusedStaysRefused}
-use Rattle.hq_model.proofs.SettingsKept.{SamePackets, with_packets, packets_same, other_is, queue_kept, kind_kept, is_packet_kept, agent_kept, earlier_kept, dependency_kept, decrements_kept, barrier_kept, conflicts_kept, need_kept, order_list_kept}
+use Rattle.hq_model.proofs.SettingsKept.{SamePackets, with_packets, packets_same, other_is, queue_kept, kind_kept, is_packet_kept, agent_kept, earlier_kept, dependency_kept, decrements_kept, bit_kept, queue_rule_kept, and_kept, any_kept, conflicts_kept, need_kept, order_list_kept}
 
 pub reaches_on : (a b c : Scope) → IsTrue (reaches a b) → IsTrue (reaches b c) → IsTrue (reaches a c)
 reaches_on a b scope.None f g = refl
@@ -33,13 +34,11 @@ RaisesPackets xs ys = (p : ℕ) → HeadRaises (head_of (slice_index_or xs p no_
 
 mutual
   pub before_raised : {p r : ℕ} → (job : Job) (ps : List Packet) → SamePackets job.packets ps → RaisesPackets job.packets ps → Before job p r → Before (with_packets job ps) p r
-  before_raised job ps same up (by_bit_of {p = p} {r = r} e b) = by_bit_of (earlier_kept job ps same p r e) ((up r).bit b)
-  before_raised job ps same up (by_bit_ahead {p = p} {j = j} {r = r} e b f) = by_bit_ahead (earlier_kept job ps same p j e) ((up j).bit b) (earlier_kept job ps same j r f)
-  before_raised job ps same up (by_queue {p = p} {r = r} e b) = by_queue (earlier_kept job ps same p r e) (barrier_kept job ps same p b)
-  before_raised job ps same up (by_and {p = p} {r = r} {slot = slot} {s = s} k w d) =
-      by_and (sym (kind_kept job ps same r) ∙ k) (dependency_kept job ps same r slot s w) (decrements_kept job ps same p s d)
-  before_raised job ps same up (by_or {p = p} {r = r} {slot = slot} {s = s} k w h) =
-      by_or (sym (kind_kept job ps same r) ∙ k) (dependency_kept job ps same r slot s w)
+  before_raised job ps same up (by_bit {p = p} {r = r} {j = j} by) = by_bit (bit_kept job ps same p r j (up j).bit by)
+  before_raised job ps same up (by_queue {p = p} {r = r} by) = by_queue (queue_rule_kept job ps same p r by)
+  before_raised job ps same up (by_and {p = p} {r = r} {slot = slot} {s = s} by) = by_and (and_kept job ps same p r slot s by)
+  before_raised job ps same up (by_or {p = p} {r = r} any h) =
+      by_or (any_kept job ps same r any)
       (λ slot s w. branch_raised job ps same up (h slot s (dependency_kept (with_packets job ps) job.packets (sym same) r slot s w)))
   before_raised job ps same up (through {p = p} {m = m} {r = r} f g) = through (before_raised job ps same up f) (before_raised job ps same up g)
 
@@ -55,20 +54,23 @@ module _ (job : Job) (ps : List Packet) (same : SamePackets job.packets ps) (up 
   in_queue : (p r : ℕ) → (packet job p).queue ≡ (packet job r).queue → (packet (with_packets job ps) p).queue ≡ (packet (with_packets job ps) r).queue
   in_queue p r e = sym (queue_kept job ps same p) ∙ e ∙ queue_kept job ps same r
 
-  releases : (p x : ℕ) (needed : Scope) → Releases job p x needed → Releases (with_packets job ps) p x needed
-  releases p x needed h = record {
+  fence_raised : (p x : ℕ) (low high needed : Scope) → IsTrue (reaches high low) → FenceReaches job p x low needed → FenceReaches (with_packets job ps) p x high needed
+  fence_raised p x low high needed up h = record {
     is_packet = is_packet_kept job ps same x h.is_packet;
     queue = in_queue x p h.queue;
+    scope_reaches = reaches_on high low needed up h.scope_reaches;
+  }
+
+  releases : (p x : ℕ) (needed : Scope) → Releases job p x needed → Releases (with_packets job ps) p x needed
+  releases p x needed h = record {
+    fence = fence_raised p x (packet job x).release (packet (with_packets job ps) x).release needed (up x).release h.fence;
     after = or_before p x h.after;
-    scope_reaches = reaches_on (packet (with_packets job ps) x).release (packet job x).release needed (up x).release h.scope_reaches;
   }
 
   acquires : (r y : ℕ) (needed : Scope) → Acquires job r y needed → Acquires (with_packets job ps) r y needed
   acquires r y needed h = record {
-    is_packet = is_packet_kept job ps same y h.is_packet;
-    queue = in_queue y r h.queue;
+    fence = fence_raised r y (packet job y).acquire (packet (with_packets job ps) y).acquire needed (up y).acquire h.fence;
     before = or_before y r h.before;
-    scope_reaches = reaches_on (packet (with_packets job ps) y).acquire (packet job y).acquire needed (up y).acquire h.scope_reaches;
   }
 
   forwards : (p m : ℕ) (low high : Scope) → IsTrue (reaches high low) → Forwards job p m low → Forwards (with_packets job ps) p m high

@@ -8,7 +8,8 @@ use Rattle.std.proofs.lemmas.List as lists
 use Rattle.hq_packet.specs.declared.packet.Head.{Head}
 use Rattle.hq_packet.specs.declared.packet.Scope.{Scope}
 use Rattle.hq_packet.specs.declared.packet.Scope.TheVariants as scope
-use Rattle.hq_model.specs.Job.{Job, Packet, packet, IsPacket, no_packet, reaches}
+use Rattle.hq_model.specs.Job.{Job, Packet, packet, IsPacket, no_packet}
+use Rattle.hq_packet.specs.Scopes.{reaches}
 use Rattle.hq_model.specs.Settings.{head_of, packet_with_head, head_at, with_head, no_head, full_head, lowest, highest, SameButHeads, HeadRaises, Raises, Part, scope_below, lowered, IsRaised, SomeRaisedIsOrdered, HighestIsHighest, LowestIsLowest, RaisingIsPartialOrder, HeadIsSet, HeadsAreSet, LoweredIsLower, StepsSuffice}
 use Rattle.hq_model.specs.Settings.Part.{Bit, AcquireScope, ReleaseScope}
 use Rattle.hq_model.proofs.Finds.{find}

@@ -3,14 +3,14 @@ use Rattle.std.proofs.Common.{◌≡◌, ℕ, zero, suc, ◌<◌, ◌≤◌, ◌
 use Rattle.std.proofs.lemmas.Bool.{cases_eq, cases_Bool, true≢false, and_from, and_parts, ne_eqb, eq-eqb, not-true, not_from_false}
 use Rattle.hq_model.specs.Job.{Job, Kind, packet, IsPacket, Earlier, Dependency, Decrements, IsBarrier}
 use Rattle.hq_model.specs.Job.Kind.{Work, BarrierAnd, BarrierOr}
-use Rattle.hq_model.specs.Order.{In}
+use Rattle.hq_model.specs.Order.{ByBit, ByQueue, In}
 use Rattle.hq_model.specs.Machine.{State, Phase, Event, Run, MayLaunch, is_launched, first_phase, start, with_phase}
 use Rattle.hq_model.specs.Machine.Phase.{Waiting, InQueue, Launched, Active, Complete}
 use Rattle.hq_model.specs.Machine.Event.{Launch}
 use Rattle.hq_model.specs.Journal.{numbers, packets_of}
 use Rattle.hq_model.specs.Theorems.{Valid}
 use Rattle.hq_model.specs.HoldsBack.{NeedsOneOf, HoldsBack}
-use Rattle.hq_model.specs.HoldsBack.NeedsOneOf.{for_bit, for_bit_ahead, for_queue, for_and, for_or}
+use Rattle.hq_model.specs.HoldsBack.NeedsOneOf.{for_bit, for_queue, for_and, for_or}
 use Rattle.hq_model.proofs.Sums.{sum_one, put_same, put_other}
 use Rattle.hq_model.proofs.Places.{in_first, in_rest, in_cons, in_filter, in_numbers}
 use Rattle.hq_model.proofs.Kept.{KeptBy, kept_start, kept_steps, is_complete, waiting≢complete, launched≢complete, active≢complete, first_waits}
@@ -192,14 +192,14 @@ module _ (job : Job) (p : ℕ) (valid : Valid job) (plain : job.rings ≡ false)
       wait : (kind : Kind) → (packet job x).kind ≡ kind → Ready ⊎ NeedsOneOf job (p ∷ left) x
       wait Work is = inl (whole.wait_none job valid w.events w.state w.run x there launched is)
       wait BarrierAnd is = elim (of_each job Open (λ d. phase d ≡ Complete) each x there) [
-        | inl (slot, s, d, f, g, o) ↦ inr (for_and slot s d is f g (in_left d g.is_packet o))
+        | inl (slot, s, d, f, g, o) ↦ inr (for_and d slot s (record { kind = is; dependency = f; decrements = g }) (in_left d g.is_packet o))
         | inr all ↦ inl (whole.wait_each job valid w.events w.state w.run x there launched is (λ slot s f. over slot s f (λ d g. all slot s d f g)))
       ]
       wait BarrierOr is = elim (of_some job Open (λ d. phase d ≡ Complete) each x there) [
         | inl (slot, s, f, all) ↦ inl (whole.wait_one job valid w.events w.state w.run x there launched is slot s f (over slot s f all))
         | inr some ↦
-            let (slot, s, f) = valid.not_null x there is in
-            inr (for_or slot s is f (λ slot s f. let (d, g, o) = some slot s f in (d, g, in_left d g.is_packet o)))
+            inr (for_or (record { kind = is; some = valid.not_null x there is })
+                (λ slot s f. let (d, g, o) = some slot s f in (d, g, in_left d g.is_packet o)))
       ]
 
       finish : x ≢ p → Ready → Further w
@@ -251,22 +251,23 @@ module _ (job : Job) (p : ℕ) (valid : Valid job) (plain : job.rings ≡ false)
     -- An earlier packet is left, and a bit behind it, or itself as a barrier packet, holds x in its queue.
     abbrev Queued : ℕ → Type 0
     Queued x =
-        (e : ℕ) × Open e × ((Earlier job e x × IsBarrier job e) ⊎ ((j : ℕ) × Earlier job e j × IsTrue (packet job j).bit × ((j ≡ x) ⊎ Earlier job j x)))
+        (e : ℕ) × Open e × (ByQueue job e x ⊎ ((j : ℕ) × ByBit job e x j))
 
     queued_behind : (x y : ℕ) → Queued x → Earlier job x y → Queued y
-    queued_behind x y (e, o, inl (f, b)) g = (e, o, inl (earlier_still job e x y f g, b))
-    queued_behind x y (e, o, inr (j, f, b, inl is)) g = (e, o, inr (j, f, b, inr (subst (λ k. Earlier job k y) (sym is) g)))
-    queued_behind x y (e, o, inr (j, f, b, inr h)) g = (e, o, inr (j, f, b, inr (earlier_still job j x y h g)))
+    queued_behind x y (e, o, inl by) g = (e, o, inl (record { earlier = earlier_still job e x y by.earlier g; barrier = by.barrier }))
+    queued_behind x y (e, o, inr (j, by)) g = (e, o, inr (j, record { earlier = by.earlier; bit = by.bit; upto = inr (elim by.upto [
+      | inl is ↦ subst (λ k. Earlier job k y) (sym is) g
+      | inr h ↦ earlier_still job j x y h g
+    ]) }))
 
     queued_needs : (x : ℕ) → Queued x → NeedsOneOf job (p ∷ left) x
-    queued_needs x (e, o, inl (f, b)) = for_queue e f b (in_left e (earlier_packet job e x f) o)
-    queued_needs x (e, o, inr (j, f, b, inl is)) = subst (NeedsOneOf job (p ∷ left)) is (for_bit e f b (in_left e (earlier_packet job e j f) o))
-    queued_needs x (e, o, inr (j, f, b, inr g)) = for_bit_ahead e j f b g (in_left e (earlier_packet job e j f) o)
+    queued_needs x (e, o, inl by) = for_queue e by (in_left e (earlier_packet job e x by.earlier) o)
+    queued_needs x (e, o, inr (j, by)) = for_bit e j by (in_left e (earlier_packet job e j by.earlier) o)
 
     stopped : (x e : ℕ) → Earlier job e x → Stops x e → (is_launched (phase e) ≡ false → Queued e) → Queued x
     stopped x e f (inl waits) later = queued_behind e x (later waits) f
-    stopped x e f (inr (inl b, o)) later = (e, o, inr (x, f, b, inl refl))
-    stopped x e f (inr (inr b, o)) later = (e, o, inl (f, b))
+    stopped x e f (inr (inl b, o)) later = (e, o, inr (x, record { earlier = f; bit = b; upto = inl refl }))
+    stopped x e f (inr (inr b, o)) later = (e, o, inl (record { earlier = f; barrier = b }))
 
     module _ (all : (x : ℕ) → IsPacket job x → Stays x) where
       queued : (k x : ℕ) → x < k → IsPacket job x → is_launched (phase x) ≡ false → Queued x

@@ -1,8 +1,8 @@
 -- Which packets wait for which in every run of a job without rings, and where the order relation says exactly that.
-use Rattle.std.specs.Prelude.{◌≡◌, ℕ, ◌↔◌, ◌≢◌, IsTrue, false, List, ◌∷◌}
-use Rattle.hq_model.specs.Job.{Job, packet, IsPacket, Earlier, Dependency, Decrements, IsBarrier}
-use Rattle.hq_model.specs.Job.Kind.{BarrierAnd, BarrierOr}
-use Rattle.hq_model.specs.Order.{Before, Ahead, In, OrderList}
+use Rattle.std.specs.Prelude.{◌≡◌, ℕ, ◌↔◌, ◌≢◌, false, List, ◌∷◌}
+use Rattle.hq_model.specs.Job.{Job, packet, IsPacket, Dependency, Decrements}
+use Rattle.hq_model.specs.Job.Kind.{BarrierOr}
+use Rattle.hq_model.specs.Order.{ByBit, ByQueue, ByAnd, AwaitsAny, Whichever, Before, Ahead, In, OrderList}
 use Rattle.hq_model.specs.Machine.{State, Event, Run}
 use Rattle.hq_model.specs.Machine.Phase.{Complete}
 use Rattle.hq_model.specs.Theorems.{Valid, HasBegun}
@@ -14,14 +14,10 @@ AlwaysBefore job p r =
 
 -- Some packet of the set has to be complete before r begins, by one rule of the order alone.
 pub data NeedsOneOf (job : Job) (set : List ℕ) (r : ℕ) : Type 0 where
-  for_bit : (e : ℕ) → Earlier job e r → IsTrue (packet job r).bit → In set e → NeedsOneOf job set r
-  for_bit_ahead : (e j : ℕ) → Earlier job e j → IsTrue (packet job j).bit → Earlier job j r → In set e
-      → NeedsOneOf job set r
-  for_queue : (e : ℕ) → Earlier job e r → IsBarrier job e → In set e → NeedsOneOf job set r
-  for_and : (slot s d : ℕ) → (packet job r).kind ≡ BarrierAnd → Dependency job r slot s → Decrements job d s → In set d
-      → NeedsOneOf job set r
-  for_or : (slot s : ℕ) → (packet job r).kind ≡ BarrierOr → Dependency job r slot s
-      → ((slot s : ℕ) → Dependency job r slot s → (d : ℕ) × Decrements job d s × In set d) → NeedsOneOf job set r
+  for_bit : (e j : ℕ) → ByBit job e r j → In set e → NeedsOneOf job set r
+  for_queue : (e : ℕ) → ByQueue job e r → In set e → NeedsOneOf job set r
+  for_and : (d slot s : ℕ) → ByAnd job d r slot s → In set d → NeedsOneOf job set r
+  for_or : AwaitsAny job r → Whichever job r (λ s. (d : ℕ) × Decrements job d s × In set d) → NeedsOneOf job set r
 
 -- r stands in a set of packets, each of which needs p or another of the set: none of them begins until p is complete.
 pub record HoldsBack (job : Job) (p r : ℕ) : Type 0 where

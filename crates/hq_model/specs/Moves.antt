@@ -1,7 +1,8 @@
 -- What the machine's steps do to copies, one step by itself, in every state of every job: which moves are always possible, what
 -- nobody sees of them, and what an acquire fence leaves. This project's own.
 use Rattle.std.specs.Prelude.{◌≡◌, ℕ, ◌<◌, ◌≢◌, IsTrue, false, None}
-use Rattle.hq_model.specs.Job.{Job, packet, IsPacket, agent_of, reaches}
+use Rattle.hq_model.specs.Job.{Job, packet, IsPacket, agent_of}
+use Rattle.hq_packet.specs.Scopes.{reaches}
 use Rattle.hq_packet.specs.declared.packet.Scope.TheVariants as scope
 use Rattle.hq_model.specs.Machine.{State, Event, Step, IsByte, is_dirty, clean, dirty, agent_sees, lane_sees}
 use Rattle.hq_model.specs.Machine.Event.{Enter, PushLane, FillLane, DropLane, PushAgent, FillAgent, DropAgent}

@@ -4,7 +4,8 @@ use Rattle.std.specs.Prelude.{◌≡◌, ◌≢◌, ◌↔◌, ℕ, IsTrue, true
 use Rattle.hq_packet.specs.declared.packet.Head.{Head}
 use Rattle.hq_packet.specs.declared.packet.Scope.{Scope}
 use Rattle.hq_packet.specs.declared.packet.Scope.TheVariants as scope
-use Rattle.hq_model.specs.Job.{Job, Packet, packet, IsPacket, reaches}
+use Rattle.hq_model.specs.Job.{Job, Packet, packet, IsPacket}
+use Rattle.hq_packet.specs.Scopes.{reaches}
 use Rattle.hq_model.specs.Order.{Before, OrderList, StuckSet}
 use Rattle.hq_model.specs.Fence.{Conflict, Conflicts, ShownFor, Release, Acquire, Ordered}
 use Rattle.hq_model.specs.OneByOne.{one_by_one, given}

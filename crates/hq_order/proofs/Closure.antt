@@ -4,12 +4,12 @@ use Rattle.std.specs.Global.{Vec}
 use Rattle.std.proofs.lemmas.Bool.{cases_lt}
 use Rattle.hq_model.specs.Job.{Job, Decrements}
 use Rattle.hq_model.specs.Order.{Before, Branch}
-use Rattle.hq_model.specs.Order.Before.{by_bit_of, by_bit_ahead, by_queue, by_and, by_or, through}
+use Rattle.hq_model.specs.Order.Before.{by_bit, by_queue, by_and, by_or, through}
 use Rattle.hq_model.specs.Order.Branch.{itself, after}
 use Rattle.hq_order.specs.Matrix.{row, Marks, Grown, IsSquare, AreRounds, IsClosed, matrix, last, IsMarkedNowhere, IsMarkedFirst}
 use Rattle.std.specs.Prelude.{Option, Some, None, MatchOption}
 use Rattle.hq_order.specs.Rounds.{Direct, Reaches, Next, Within, IsFirstWithin}
-use Rattle.hq_order.specs.Rounds.Precedes.{by_bit_of as bit_of, by_bit_ahead as bit_ahead, by_queue as queued}
+use Rattle.hq_order.specs.Rounds.Precedes.{by_bit as bit_behind, by_queue as queued}
 use Rattle.hq_order.specs.Rounds.Awaits.{by_and as waits_one, by_or as waits_each}
 use Rattle.hq_order.specs.Rounds.Next.{by_known, by_either, through as joining}
 use Rattle.hq_order.proofs.Rows.{marked_below}
@@ -32,12 +32,12 @@ known_more job R S h p s x = record { d = x.d; decrements = x.decrements; upto =
 
 pub next_more : (job : Job) (R S : ℕ → ℕ → Type 0) → ((p r : ℕ) → R p r → S p r) → (p r : ℕ) → Next job R p r → Next job S p r
 next_more job R S h p r (by_known k) = by_known (h p r k)
-next_more job R S h p r (by_either e) = by_either (record { kind = e.kind; some = e.some; each = λ slot s d. known_more job R S h p s (e.each slot s d) })
+next_more job R S h p r (by_either e) = by_either (record { any = e.any; each = λ slot s d. known_more job R S h p s (e.each slot s d) })
 next_more job R S h p r (joining {m} k l) = joining {m = m} (h p m k) (h m r l)
 
 pub next_within : (job : Job) (rows : List (Vec ℕ)) (p r : ℕ) → length rows ≡ length job.packets → Next job (Marks rows) p r → r < length rows
 next_within job rows p r e (by_known k) = marked_below rows p r k
-next_within job rows p r e (by_either b) = let l : r < length job.packets = b.some.2.is_packet in omega arith
+next_within job rows p r e (by_either b) = let l : r < length job.packets = b.any.some.2.is_packet in omega arith
 next_within job rows p r e (joining {m} k l) = marked_below rows m r l
 
 -- ---- rounds
@@ -91,16 +91,15 @@ last_pushed rounds x =
 -- ---- what is within a round is before
 
 direct_before : (job : Job) (p r : ℕ) → Direct job p r → Before job p r
-direct_before job p r (inl (bit_of e b)) = by_bit_of e b
-direct_before job p r (inl (bit_ahead {j} e b f)) = by_bit_ahead {j = j} e b f
-direct_before job p r (inl (queued e b)) = by_queue e b
-direct_before job p r (inr (waits_one {slot} {s} k d c)) = by_and {slot = slot} {s = s} k d c
-direct_before job p r (inr (waits_each {slot} {s} k d c)) = by_or {slot = slot} {s = s} k d (λ slot s d. itself (c slot s d))
+direct_before job p r (inl (bit_behind {j} by)) = by_bit {j = j} by
+direct_before job p r (inl (queued by)) = by_queue by
+direct_before job p r (inr (waits_one {slot} {s} by)) = by_and {slot = slot} {s = s} by
+direct_before job p r (inr (waits_each any c)) = by_or any (λ slot s d. itself (c slot s d))
 
 next_before : (job : Job) (p r : ℕ) → Next job (Before job) p r → Before job p r
 next_before job p r (by_known b) = b
 next_before job p r (by_either e) =
-    by_or {slot = e.some.0} {s = e.some.1} e.kind e.some.2
+    by_or e.any
     (λ slot s d. let x = e.each slot s d in elim x.upto [ inl same ↦ itself (subst (λ q. Decrements job q s) (sym same) x.decrements) | inr b ↦ after {d = x.d} x.decrements b ])
 next_before job p r (joining {m} b c) = through {m = m} b c
 
@@ -120,11 +119,10 @@ pub record Closed (job : Job) (known : ℕ → ℕ → Type 0) : Type 0 where
 
 mutual
   before_known : (job : Job) (known : ℕ → ℕ → Type 0) → Closed job known → {p r : ℕ} → Before job p r → known p r
-  before_known job known c (by_bit_of {p = p} {r = r} e b) = c.direct p r (inl (bit_of e b))
-  before_known job known c (by_bit_ahead {p = p} {j = j} {r = r} e b f) = c.direct p r (inl (bit_ahead {j = j} e b f))
-  before_known job known c (by_queue {p = p} {r = r} e b) = c.direct p r (inl (queued e b))
-  before_known job known c (by_and {p = p} {r = r} {slot = slot} {s = s} k d x) = c.direct p r (inr (waits_one {slot = slot} {s = s} k d x))
-  before_known job known c (by_or {p = p} {r = r} {slot = slot} {s = s} k d f) = c.next p r (by_either (record { kind = k; some = (slot, s, d); each = λ slot s d. branch_known job known c (f slot s d) }))
+  before_known job known c (by_bit {p = p} {r = r} {j = j} by) = c.direct p r (inl (bit_behind {j = j} by))
+  before_known job known c (by_queue {p = p} {r = r} by) = c.direct p r (inl (queued by))
+  before_known job known c (by_and {p = p} {r = r} {slot = slot} {s = s} by) = c.direct p r (inr (waits_one {slot = slot} {s = s} by))
+  before_known job known c (by_or {p = p} {r = r} any f) = c.next p r (by_either (record { any = any; each = λ slot s d. branch_known job known c (f slot s d) }))
   before_known job known c (through {p = p} {m = m} {r = r} b d) = c.next p r (joining {m = m} (before_known job known c b) (before_known job known c d))
 
   branch_known : (job : Job) (known : ℕ → ℕ → Type 0) → Closed job known → {p s : ℕ} → Branch job p s → Reaches job known p s

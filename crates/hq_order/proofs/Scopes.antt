@@ -1,10 +1,10 @@
 -- What the scopes of fences leave.
 use Rattle.std.proofs.Common.{◌≡◌, ℕ, zero, suc, ◌⊎◌, inl, inr, IsTrue, List, sym, ◌∙◌, subst}
 use Rattle.hq_model.specs.Job.{Job, Packet, packet, Dependency}
-use Rattle.hq_model.proofs.SettingsKept.{SamePackets, with_packets, packets_same, other_is, same_length, kind_kept, earlier_kept, dependency_kept, decrements_kept, barrier_kept}
+use Rattle.hq_model.proofs.SettingsKept.{SamePackets, with_packets, packets_same, other_is, same_length, dependency_kept, decrements_kept, bit_kept, queue_rule_kept, and_kept, any_kept}
 use Rattle.hq_order.specs.declared.before.Rounds.{Rounds}
 use Rattle.hq_order.specs.Rounds.{Precedes, Awaits, Direct, Reaches, Next, Within}
-use Rattle.hq_order.specs.Rounds.Precedes.{by_bit_of, by_bit_ahead, by_queue}
+use Rattle.hq_order.specs.Rounds.Precedes.{by_bit, by_queue}
 use Rattle.hq_order.specs.Rounds.Awaits.{by_and, by_or}
 use Rattle.hq_order.specs.Rounds.Next.{by_known, by_either, through}
 use Rattle.hq_order.specs.Matrix.{IsSquare, Marks, matrix, last}
@@ -18,16 +18,15 @@ SameBits j k = (p : ℕ) → (packet j p).bit ≡ (packet k p).bit
 
 module _ (job : Job) (ps : List Packet) (same : SamePackets job.packets ps) (bits : SameBits job (with_packets job ps)) where
   precedes : (p r : ℕ) → Precedes job p r → Precedes (with_packets job ps) p r
-  precedes p r (by_bit_of e b) = by_bit_of (earlier_kept job ps same p r e) (subst IsTrue (bits r) b)
-  precedes p r (by_bit_ahead {j = j} e b f) = by_bit_ahead (earlier_kept job ps same p j e) (subst IsTrue (bits j) b) (earlier_kept job ps same j r f)
-  precedes p r (by_queue e b) = by_queue (earlier_kept job ps same p r e) (barrier_kept job ps same p b)
+  precedes p r (by_bit {j = j} by) = by_bit {j = j} (bit_kept job ps same p r j (λ b. subst IsTrue (bits j) b) by)
+  precedes p r (by_queue by) = by_queue (queue_rule_kept job ps same p r by)
 
   dependency_back : (r slot s : ℕ) → Dependency (with_packets job ps) r slot s → Dependency job r slot s
   dependency_back r slot s w = dependency_kept (with_packets job ps) job.packets (sym same) r slot s w
 
   awaits : (p r : ℕ) → Awaits job p r → Awaits (with_packets job ps) p r
-  awaits p r (by_and {slot = slot} {s = s} k w d) = by_and (sym (kind_kept job ps same r) ∙ k) (dependency_kept job ps same r slot s w) (decrements_kept job ps same p s d)
-  awaits p r (by_or {slot = slot} {s = s} k w h) = by_or (sym (kind_kept job ps same r) ∙ k) (dependency_kept job ps same r slot s w)
+  awaits p r (by_and {slot = slot} {s = s} by) = by_and {slot = slot} {s = s} (and_kept job ps same p r slot s by)
+  awaits p r (by_or any h) = by_or (any_kept job ps same r any)
       (λ slot s w. decrements_kept job ps same p s (h slot s (dependency_back r slot s w)))
 
   direct : (p r : ℕ) → Direct job p r → Direct (with_packets job ps) p r
@@ -38,8 +37,7 @@ module _ (job : Job) (ps : List Packet) (same : SamePackets job.packets ps) (bit
   next known more up p r (by_known h) = by_known (up p r h)
   next known more up p r (through {m = m} g h) = through (up p m g) (up m r h)
   next known more up p r (by_either h) = by_either (record {
-    kind = sym (kind_kept job ps same r) ∙ h.kind;
-    some = (h.some.0, h.some.1, dependency_kept job ps same r h.some.0 h.some.1 h.some.2);
+    any = any_kept job ps same r h.any;
     each = λ slot s w. reaches s (h.each slot s (dependency_back r slot s w));
   })
     where

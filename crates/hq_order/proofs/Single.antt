@@ -10,7 +10,8 @@ use Rattle.hq_model.specs.Job.Kind.{BarrierAnd, BarrierOr}
 use Rattle.hq_job.specs.Access.{AreOfQueue}
 use Rattle.hq_order.specs.Placing.{OfDependencies}
 use Rattle.hq_order.specs.Rounds.{Precedes, Awaits, Direct}
-use Rattle.hq_order.specs.Rounds.Precedes.{by_bit_of, by_bit_ahead, by_queue}
+use Rattle.hq_model.specs.Order.{ByBit, AwaitsAny, Whichever}
+use Rattle.hq_order.specs.Rounds.Precedes.{by_bit, by_queue}
 use Rattle.hq_order.specs.Rounds.Awaits.{by_and, by_or}
 
 -- a packet of the job is one of the plan
@@ -24,9 +25,11 @@ further job p q r e f = record { ahead = omega (arith, e.ahead, f.ahead); is_pac
 
 -- what stays ahead of a packet of the queue stays ahead of the later ones
 precedes_further : (job : Job) (p q r : ℕ) → Earlier job q r → Precedes job p q → Precedes job p r
-precedes_further job p q r f (by_bit_of e b) = by_bit_ahead {j = q} e b f
-precedes_further job p q r f (by_bit_ahead {j} e b g) = by_bit_ahead {j = j} e b (further job j q r g f)
-precedes_further job p q r f (by_queue e b) = by_queue (further job p q r e f) b
+precedes_further job p q r f (by_bit {j} by) = by_bit {j = j} (record { earlier = by.earlier; bit = by.bit; upto = inr (elim by.upto [
+  | inl is ↦ subst (λ k. Earlier job k r) (sym is) f
+  | inr g ↦ further job j q r g f
+]) })
+precedes_further job p q r f (by_queue by) = by_queue (record { earlier = further job p q r by.earlier f; barrier = by.barrier })
 
 -- the packet ahead of r in its queue
 abbrev pub StandsNext : Job → ℕ → ℕ → Type 0
@@ -46,19 +49,18 @@ precedes_next job p q r n no_bit = (
   λ x. there x,
   λ t. elim t [
     | inl x ↦ precedes_further job p q r n.0 x
-    | inr y ↦ by_queue (subst (λ k. Earlier job k r) (sym y.0) n.0) (subst (IsBarrier job) (sym y.0) y.1)
+    | inr y ↦ by_queue (record { earlier = subst (λ k. Earlier job k r) (sym y.0) n.0; barrier = subst (IsBarrier job) (sym y.0) y.1 })
   ],
 )
   where
     there : Precedes job p r → Precedes job p q ⊎ ((p ≡ q) × IsBarrier job q)
-    there (by_bit_of e b) = absurd (no_bit b)
-    there (by_bit_ahead {j} e b f) = elim (closer job j q r n f) [
-      | inl same ↦ inl (by_bit_of (subst (Earlier job p) same e) (subst (λ k. IsTrue (packet job k).bit) same b))
-      | inr g ↦ inl (by_bit_ahead {j = j} e b g)
+    there (by_bit {j} by) = elim by.upto [
+      | inl is ↦ absurd (no_bit (subst (λ k. IsTrue (packet job k).bit) is by.bit))
+      | inr f ↦ inl (by_bit {j = j} (record { earlier = by.earlier; bit = by.bit; upto = closer job j q r n f }))
     ]
-    there (by_queue e b) = elim (closer job p q r n e) [
-      | inl same ↦ inr (same, subst (IsBarrier job) same b)
-      | inr g ↦ inl (by_queue g b)
+    there (by_queue by) = elim (closer job p q r n by.earlier) [
+      | inl same ↦ inr (same, subst (IsBarrier job) same by.barrier)
+      | inr g ↦ inl (by_queue (record { earlier = g; barrier = by.barrier }))
     ]
 
 -- ---- by signals
@@ -80,41 +82,46 @@ kind_is job r waiting w = sym (ap (λ x. x.kind) w.same)
 -- a barrier-AND waits for all that complete on its dependencies
 pub awaits_and : (job : Job) (p r : ℕ) → (packet job r).kind ≡ BarrierAnd → OfDependencies job r p ↔ Awaits job p r
 awaits_and job p r k = (
-  λ d. by_and {slot = d.0} {s = d.1} k d.2 d.3,
+  λ d. by_and {slot = d.0} {s = d.1} (record { kind = k; dependency = d.2; decrements = d.3 }),
   λ a. back a,
 )
   where
     back : Awaits job p r → OfDependencies job r p
-    back (by_and {slot} {s} kind d c) = (slot, s, d, c)
-    back (by_or kind d c) = absurd (let x : BarrierAnd ≡ BarrierOr = sym k ∙ kind in cc)
+    back (by_and {slot} {s} by) = (slot, s, by.dependency, by.decrements)
+    back (by_or any c) = absurd (let x : BarrierAnd ≡ BarrierOr = sym k ∙ any.kind in cc)
 
 -- a barrier-OR for all that complete on each of them
-pub awaits_or : (job : Job) (p r slot s : ℕ) → (packet job r).kind ≡ BarrierOr → Dependency job r slot s → ((slot s : ℕ) → Dependency job r slot s → Decrements job p s) ↔ Awaits job p r
-awaits_or job p r slot s k d = (
-  λ all. by_or {slot = slot} {s = s} k d all,
+pub awaits_or : (job : Job) (p r : ℕ) → AwaitsAny job r → Whichever job r (Decrements job p) ↔ Awaits job p r
+awaits_or job p r any = (
+  λ all. by_or any all,
   λ a. back a,
 )
   where
-    back : Awaits job p r → (slot s : ℕ) → Dependency job r slot s → Decrements job p s
-    back (by_and kind d c) = absurd (let x : BarrierOr ≡ BarrierAnd = sym k ∙ kind in cc)
-    back (by_or kind d all) = all
+    back : Awaits job p r → Whichever job r (Decrements job p)
+    back (by_and by) = absurd (let x : BarrierOr ≡ BarrierAnd = sym any.kind ∙ by.kind in cc)
+    back (by_or any all) = all
+
+pub earlier_first : (job : Job) (p r : ℕ) → Earlier job p r → IsPacket job p
+earlier_first job p r e = let a : p < r = e.ahead in let b : r < length job.packets = e.is_packet in omega arith
 
 pub direct_packet : (job : Job) (p r : ℕ) → IsPacket job r → Direct job p r → IsPacket job p
-direct_packet job p r l (inl (by_bit_of e b)) = let a : p < r = e.ahead in omega arith
-direct_packet job p r l (inl (by_bit_ahead {j} e b f)) = let a : p < j = e.ahead in let k : j < r = f.ahead in omega arith
-direct_packet job p r l (inl (by_queue e b)) = let a : p < r = e.ahead in omega arith
-direct_packet job p r l (inr (by_and k d c)) = c.is_packet
-direct_packet job p r l (inr (by_or {slot} {s} k d c)) = (c slot s d).is_packet
+direct_packet job p r l (inl (by_bit {j} by)) = earlier_first job p j by.earlier
+direct_packet job p r l (inl (by_queue by)) = earlier_first job p r by.earlier
+direct_packet job p r l (inr (by_and by)) = by.decrements.is_packet
+direct_packet job p r l (inr (by_or any c)) = let (slot, s, d) = any.some in (c slot s d).is_packet
 
 pub few : (job : JobValue) (r : ℕ) → IsPacket (plan job) r → r < length job.packets
 few job r l = omega (arith, count job)
 
+-- the packet behind a barrier bit is one
+pub bit_packet : (job : Job) (p r : ℕ) {j : ℕ} → ByBit job p r j → IsPacket job r
+bit_packet job p r by = elim by.upto [ inl is ↦ subst (IsPacket job) is by.earlier.is_packet | inr f ↦ f.is_packet ]
+
 pub direct_packet_r : (job : Job) (p r : ℕ) → Direct job p r → IsPacket job r
-direct_packet_r job p r (inl (by_bit_of e b)) = e.is_packet
-direct_packet_r job p r (inl (by_bit_ahead e b f)) = f.is_packet
-direct_packet_r job p r (inl (by_queue e b)) = e.is_packet
-direct_packet_r job p r (inr (by_and k d c)) = d.is_packet
-direct_packet_r job p r (inr (by_or k d c)) = d.is_packet
+direct_packet_r job p r (inl (by_bit by)) = bit_packet job p r by
+direct_packet_r job p r (inl (by_queue by)) = by.earlier.is_packet
+direct_packet_r job p r (inr (by_and by)) = by.dependency.is_packet
+direct_packet_r job p r (inr (by_or any c)) = any.some.2.is_packet
 
 -- ---- the packets of a queue
 

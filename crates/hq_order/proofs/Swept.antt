@@ -8,13 +8,13 @@ use Rattle.hq_job.specs.Value.{JobValue}
 use Rattle.hq_job.specs.Plan.{plan}
 use Rattle.hq_model.specs.Job.{Job, packet, Earlier, Dependency, Decrements, IsBarrier}
 use Rattle.hq_model.specs.Job.Kind.{BarrierAnd}
-use Rattle.hq_model.specs.Order.{Before, Branch}
-use Rattle.hq_model.specs.Order.Before.{by_bit_of, by_bit_ahead, by_queue, by_and, by_or, through}
+use Rattle.hq_model.specs.Order.{ByBit, ByQueue, Before, Branch}
+use Rattle.hq_model.specs.Order.Before.{by_bit, by_queue, by_and, by_or, through}
 use Rattle.hq_model.specs.Order.Branch.{itself, after}
 use Rattle.hq_order.specs.Bits.{has, Covers}
 use Rattle.hq_order.specs.Matrix.{Marks, IsSquare, row, words_for}
 use Rattle.hq_order.specs.Uniting.{CanUnite}
-use Rattle.hq_order.specs.Rounds.{Reaches, ByEither}
+use Rattle.hq_order.specs.Rounds.{Reaches, ByOr}
 use Rattle.hq_order.specs.Sweeping.{Asked, StandsTogether, HasAsked, HaveAsked, HaveOrder}
 use Rattle.hq_order.specs.Sweeping.Asked.{by_ahead as asked_ahead, by_queue as asked_queue, by_bit as asked_bit, by_and as asked_and, by_or as asked_or}
 
@@ -54,13 +54,23 @@ module _ (job : Job) (rows : List (Vec ℕ)) (h : HaveAsked job rows) where
     decrements : Decrements job d s
     upto : (m ≡ d) ⊎ Into m d
 
-  from_queue : (p r : ℕ) → Earlier job p r → IsBarrier job p → R p r
-  from_queue p r e b = elim (cases_lt (suc p) r) [
+  from_queue : (p r : ℕ) → ByQueue job p r → R p r
+  from_queue p r by = elim (cases_lt (suc p) r) [
     | inl low ↦
-        let to = next p r e low in
-        along (suc p) r p ((h r e.is_packet).together p e low) ((h (suc p) to.is_packet).asked p (asked_queue refl to b))
-    | inr high ↦ let step : suc p ≡ r = omega (arith, e.ahead, high) in (h r e.is_packet).asked p (asked_queue step e b)
+        let to = next p r by.earlier low in
+        along (suc p) r p ((h r by.earlier.is_packet).together p by.earlier low)
+            ((h (suc p) to.is_packet).asked p (asked_queue refl (record { earlier = to; barrier = by.barrier })))
+    | inr high ↦ let step : suc p ≡ r = omega (arith, by.earlier.ahead, high) in (h r by.earlier.is_packet).asked p (asked_queue step by)
   ]
+
+  -- a packet is before the one with the barrier bit
+  from_bit : (p r j : ℕ) → ByBit job p r j → R p j
+  from_bit p r j by = (h j by.earlier.is_packet).asked p (asked_bit (record { earlier = by.earlier; bit = by.bit; upto = inl refl }))
+
+  -- what is before that one is before those behind it
+  upto : (j r x : ℕ) → (j ≡ r) ⊎ Earlier job j r → R x j → R x r
+  upto j r x (inl is) k = subst (R x) is k
+  upto j r x (inr f) k = along j r x f k
 
   reach : (m s : ℕ) → IntoBranch m s → Reaches job R m s
   reach m s b = record { d = b.d; decrements = b.decrements; upto = elim b.upto [ inl e ↦ inl e | inr i ↦ inr i.here ] }
@@ -70,16 +80,18 @@ module _ (job : Job) (rows : List (Vec ℕ)) (h : HaveAsked job rows) where
 
   mutual
     into : {m r : ℕ} → Before job m r → Into m r
-    into (by_bit_of {p = p} {r = r} e b) = record { here = (h r e.is_packet).asked p (asked_bit e b); behind = λ x k. along p r x e k }
-    into (by_bit_ahead {p = p} {j = j} {r = r} e b f) = record { here = along j r p f ((h j e.is_packet).asked p (asked_bit e b)); behind = λ x k. along j r x f (along p j x e k) }
-    into (by_queue {p = p} {r = r} e b) = record { here = from_queue p r e b; behind = λ x k. along p r x e k }
-    into (by_and {p = p} {r = r} {slot = slot} {s = s} k d c) = record {
-      here = (h r d.is_packet).asked p (asked_and {slot = slot} {s = s} k d (record { d = p; decrements = c; upto = inl refl }));
-      behind = λ x y. (h r d.is_packet).asked x (asked_and {slot = slot} {s = s} k d (record { d = p; decrements = c; upto = inr y }));
+    into (by_bit {p = p} {r = r} {j = j} by) = record {
+      here = upto j r p by.upto (from_bit p r j by);
+      behind = λ x k. upto j r x by.upto (along p j x by.earlier k);
     }
-    into (by_or {p = p} {r = r} {slot = slot} {s = s} k d f) = record {
-      here = (h r d.is_packet).asked p (asked_or (record { kind = k; some = (slot, s, d); each = λ slot s d. reach p s (into_branch (f slot s d)) }));
-      behind = λ x y. (h r d.is_packet).asked x (asked_or (record { kind = k; some = (slot, s, d); each = λ slot s d. reach_behind x p s y (into_branch (f slot s d)) }));
+    into (by_queue {p = p} {r = r} by) = record { here = from_queue p r by; behind = λ x k. along p r x by.earlier k }
+    into (by_and {p = p} {r = r} {slot = slot} {s = s} by) = record {
+      here = (h r by.dependency.is_packet).asked p (asked_and {d = p} {slot = slot} {s = s} by (inl refl));
+      behind = λ x y. (h r by.dependency.is_packet).asked x (asked_and {d = p} {slot = slot} {s = s} by (inr y));
+    }
+    into (by_or {p = p} {r = r} any f) = record {
+      here = (h r any.some.2.is_packet).asked p (asked_or (record { any = any; each = λ slot s d. reach p s (into_branch (f slot s d)) }));
+      behind = λ x y. (h r any.some.2.is_packet).asked x (asked_or (record { any = any; each = λ slot s d. reach_behind x p s y (into_branch (f slot s d)) }));
     }
     into (through {p = p} {m = m} {r = r} b c) =
         let i = into b in
@@ -150,15 +162,15 @@ module _ (job : Job) (rows : List (Vec ℕ)) (r : ℕ) (ahead between waits last
     (of_bit : (p : ℕ) → Earlier job p r → IsTrue (packet job r).bit → IsTrue (has ahead p))
     (kept : (p : ℕ) → IsTrue (has between p) → IsTrue (has waits p))
     (ands : (p slot s : ℕ) → (packet job r).kind ≡ BarrierAnd → Dependency job r slot s → Reaches job (Marks rows) p s → IsTrue (has waits p))
-    (ors : (p : ℕ) → ByEither job (Marks rows) p r → IsTrue (has waits p)) where
+    (ors : (p : ℕ) → ByOr job (Marks rows) p r → IsTrue (has waits p)) where
   on_to : (p : ℕ) → IsTrue (has ahead p) → IsTrue (has waits p)
   on_to p h = kept p (subst (λ xs. IsTrue (has xs p)) (sym e) h)
 
   in_waits : (p : ℕ) → Asked job (Marks rows) p r → IsTrue (has waits p)
   in_waits p (asked_ahead {e} step at k) = on_to p (by_row p e step at k)
-  in_waits p (asked_queue step at b) = on_to p (of_queue p step at b)
-  in_waits p (asked_bit at b) = on_to p (of_bit p at b)
-  in_waits p (asked_and {slot} {s} k d reach) = ands p slot s k d reach
+  in_waits p (asked_queue step by) = on_to p (of_queue p step by.earlier by.barrier)
+  in_waits p (asked_bit by) = on_to p (of_bit p by.earlier by.bit)
+  in_waits p (asked_and {d} {slot} {s} by k) = ands p slot s by.kind by.dependency (record { d = d; decrements = by.decrements; upto = k })
   in_waits p (asked_or b) = ors p b
 
   pub all_asked : (p : ℕ) → Asked job (Marks rows) p r → IsTrue (has last p)

@@ -9,7 +9,7 @@ use Rattle.hq_model.specs.Theorems.{Valid}
 use Rattle.hq_order.specs.Bits.{has}
 use Rattle.hq_order.specs.Matrix.{row, Marks, Square}
 use Rattle.hq_order.specs.Placing.{AllAre, Completing}
-use Rattle.hq_order.specs.Rounds.{Reaches, ByEither, Next, Awaits}
+use Rattle.hq_order.specs.Rounds.{Reaches, ByOr, Next, Awaits}
 use Rattle.hq_order.specs.Rounds.Next.{by_known, by_either, through}
 use Rattle.hq_order.proofs.Single.{Shows, slot_of, dependency, kind_is, awaits_or}
 use Rattle.hq_order.proofs.Lists.{all_rows}
@@ -21,17 +21,17 @@ reach_within job rows words p s sq x = elim x.upto [
   | inr m ↦ let l : x.d < length job.packets = x.decrements.is_packet in omega (arith, within (row rows x.d) p m, sq.width x.d l)
 ]
 
-pub either_exact : (job : Job) (rows : List (Vec ℕ)) (words p r : ℕ) (placed : Placed) (Full Shared : Type 0) → Shows job r placed → Valid job → kind_of placed.packet ≡ BarrierOr → Square (length job.packets) words rows → Full ↔ p / 64 < words → Shared ↔ (Full × ((slot s : ℕ) → slice_get placed.slots slot ≡ Some (Some s) → Reaches job (Marks rows) p s)) → Shared ↔ ByEither job (Marks rows) p r
+pub either_exact : (job : Job) (rows : List (Vec ℕ)) (words p r : ℕ) (placed : Placed) (Full Shared : Type 0) → Shows job r placed → Valid job → kind_of placed.packet ≡ BarrierOr → Square (length job.packets) words rows → Full ↔ p / 64 < words → Shared ↔ (Full × ((slot s : ℕ) → slice_get placed.slots slot ≡ Some (Some s) → Reaches job (Marks rows) p s)) → Shared ↔ ByOr job (Marks rows) p r
 either_exact job rows words p r placed Full Shared w v k sq f h =
     let kind = kind_is job r placed w ∙ k in (
-      λ t. record { kind = kind; some = v.not_null r w.is_packet kind; each = λ slot s d. (h.0 t).1 slot s (slot_of job r slot s placed w d) },
+      λ t. record { any = record { kind = kind; some = v.not_null r w.is_packet kind }; each = λ slot s d. (h.0 t).1 slot s (slot_of job r slot s placed w d) },
       λ e. h.1 (
-        f.1 (reach_within job rows words p e.some.1 sq (e.each e.some.0 e.some.1 e.some.2)),
+        f.1 (let some = e.any.some in reach_within job rows words p some.1 sq (e.each some.0 some.1 some.2)),
         λ slot s there. e.each slot s (dependency job r slot s placed w there),
       ),
     )
 
-pub next_exact : (job : Job) (rows : List (Vec ℕ)) (known : List ℕ) (p r : ℕ) (A B : Type 0) → known ≡ row rows r → A ↔ (Marks rows p r ⊎ ((m : ℕ) × Marks rows p m × IsTrue (has known m))) → B ↔ (A ⊎ ByEither job (Marks rows) p r) → B ↔ Next job (Marks rows) p r
+pub next_exact : (job : Job) (rows : List (Vec ℕ)) (known : List ℕ) (p r : ℕ) (A B : Type 0) → known ≡ row rows r → A ↔ (Marks rows p r ⊎ ((m : ℕ) × Marks rows p m × IsTrue (has known m))) → B ↔ (A ⊎ ByOr job (Marks rows) p r) → B ↔ Next job (Marks rows) p r
 next_exact job rows known p r A B same h g = (
   λ b. elim (g.0 b) [
     | inl a ↦ elim (h.0 a) [
@@ -72,7 +72,7 @@ pub awaits_shared :
 awaits_shared job completing words p r placed Full Shared w v k room all low f h =
     let kind = kind_is job r placed w ∙ k in
     let (slot, s, d) = v.not_null r w.is_packet kind in
-    let e = awaits_or job p r slot s kind d in
+    let e = awaits_or job p r (record { kind = kind; some = (slot, s, d) }) in
     let set : (slot s : ℕ) → slice_get placed.slots slot ≡ Some (Some s) → Completing job s (row completing s) = λ slot s there. (all_rows (λ s items. Completing job s items × (length items ≡ words)) completing s all (low slot s there)).0 in (
       λ t. e.0 (λ slot s g. let there = slot_of job r slot s placed w g in ((set slot s there).are p).0 ((h.0 t).1 slot s there)),
       λ a. h.1 (

@@ -1,18 +1,17 @@
 -- The order of a job's packets, round by round.
-use Rattle.std.specs.Prelude.{◌≡◌, ℕ, zero, suc, ◌<◌, ◌⊎◌, IsTrue}
-use Rattle.hq_model.specs.Job.{Job, packet, Earlier, Dependency, Decrements, IsBarrier}
-use Rattle.hq_model.specs.Job.Kind.{BarrierAnd, BarrierOr}
+use Rattle.std.specs.Prelude.{◌≡◌, ℕ, zero, suc, ◌<◌, ◌⊎◌}
+use Rattle.hq_model.specs.Job.{Job, Decrements}
+use Rattle.hq_model.specs.Order.{ByBit, ByQueue, ByAnd, AwaitsAny, Whichever}
 
 -- p stands before r in a queue, and r waits for it as it is launched.
 pub data Precedes (job : Job) (p r : ℕ) : Type 0 where
-  by_bit_of : Earlier job p r → IsTrue (packet job r).bit → Precedes job p r
-  by_bit_ahead : {j : ℕ} → Earlier job p j → IsTrue (packet job j).bit → Earlier job j r → Precedes job p r
-  by_queue : Earlier job p r → IsBarrier job p → Precedes job p r
+  by_bit : {j : ℕ} → ByBit job p r j → Precedes job p r
+  by_queue : ByQueue job p r → Precedes job p r
 
 -- r waits for signals, and p completes on one of them for a barrier-AND, on each for a barrier-OR.
 pub data Awaits (job : Job) (p r : ℕ) : Type 0 where
-  by_and : {slot s : ℕ} → (packet job r).kind ≡ BarrierAnd → Dependency job r slot s → Decrements job p s → Awaits job p r
-  by_or : {slot s : ℕ} → (packet job r).kind ≡ BarrierOr → Dependency job r slot s → ((slot s : ℕ) → Dependency job r slot s → Decrements job p s) → Awaits job p r
+  by_and : {slot s : ℕ} → ByAnd job p r slot s → Awaits job p r
+  by_or : AwaitsAny job r → Whichever job r (Decrements job p) → Awaits job p r
 
 -- p is before r by a rule that rests on no other pair of packets.
 abbrev pub Direct : Job → ℕ → ℕ → Type 0
@@ -25,15 +24,14 @@ pub record Reaches (job : Job) (known : ℕ → ℕ → Type 0) (p s : ℕ) : Ty
   pub upto : (p ≡ d) ⊎ known p d
 
 -- r is a barrier-OR, and whichever dependency is over, p is known to be complete.
-pub record ByEither (job : Job) (known : ℕ → ℕ → Type 0) (p r : ℕ) : Type 0 where
-  pub kind : (packet job r).kind ≡ BarrierOr
-  pub some : (slot : ℕ) × (s : ℕ) × Dependency job r slot s
-  pub each : (slot s : ℕ) → Dependency job r slot s → Reaches job known p s
+pub record ByOr (job : Job) (known : ℕ → ℕ → Type 0) (p r : ℕ) : Type 0 where
+  pub any : AwaitsAny job r
+  pub each : Whichever job r (Reaches job known p)
 
 -- p is before r by what is known, or by one rule from that.
 pub data Next (job : Job) (known : ℕ → ℕ → Type 0) (p r : ℕ) : Type 0 where
   by_known : known p r → Next job known p r
-  by_either : ByEither job known p r → Next job known p r
+  by_either : ByOr job known p r → Next job known p r
   through : {m : ℕ} → known p m → known m r → Next job known p r
 
 -- p is before r by the rounds up to k.

@@ -2,21 +2,12 @@
 
 ghost use Rattle.std.specs.Prelude.{◌≡◌, ◌↔◌, IsTrue, false, ◌+◌, ◌*◌, ◌<◌, ◌≤◌, ℕ, length, IfOk};
 ghost use Rattle.hq_job.specs.Plan.{plan};
-ghost use Rattle.hq_model.specs.Job.{packet};
 ghost use Rattle.hq_order.specs.Bits.{has};
 ghost use Rattle.hq_order.specs.Placing.{AllAre, Completing, MarksCompletion};
 
 use crate::bits::{empty, insert};
 use hq_job::Job;
 use std::alloc::{AllocError, Global};
-
-/// The numbers of a packet's dependencies, slot by slot.
-pub fn slots(job: &Job, number: usize) -> &[Option<u16>]
-    requires { number < length job.now.packets }
-    ensures { result.now ≡ (packet (plan job.now) number).deps }
-{
-    &job.packet(number).slots
-}
 
 /// Takes each packet that completes on a signal into the row of that signal. The rows lie behind one another.
 fn mark_completions(job: &Job, words: usize, rows: &mut [u64])

@@ -1,9 +1,8 @@
 //! What comes before a packet by a rule that rests on no other pair.
 
-ghost use Rattle.std.specs.Prelude.{◌≡◌, ℕ, ◌-◌, ◌<◌, ◌↔◌, ◌⊎◌, ◌≢◌, ◌*◌, ◌≤◌, IsTrue, IfOk, OnOk, Some, length, slice_get};
-ghost use Rattle.hq_job.specs.Plan.{plan, kind_of};
+ghost use Rattle.std.specs.Prelude.{◌≡◌, ℕ, ◌-◌, ◌<◌, ◌↔◌, ◌⊎◌, ◌*◌, ◌≤◌, IsTrue, IfOk, OnOk, Some, length, slice_get};
+ghost use Rattle.hq_job.specs.Plan.{plan};
 ghost use Rattle.hq_model.specs.Job.{IsPacket};
-ghost use Rattle.hq_model.specs.Job.Kind.{Work};
 ghost use Rattle.hq_order.specs.Bits.{has};
 ghost use Rattle.hq_order.specs.Matrix.{row, Marks};
 ghost use Rattle.hq_order.specs.Placing.{AllAre, Completing};
@@ -14,13 +13,6 @@ use crate::needs::unite_dependencies;
 use hq_job::Job;
 use hq_packet::Packet;
 use std::alloc::{AllocError, Global};
-
-/// Whether the packet is a barrier packet.
-pub fn is_barrier(packet: &Packet) -> bool
-    ensures { IsTrue result ↔ kind_of packet.now ≢ Work }
-{
-    matches!(packet, Packet::And(_) | Packet::Or(_))
-}
 
 /// Goes on from the packets that r - 1 stays behind as it is launched to those that r does.
 pub fn go_on(ahead: &mut [u64], job: &Job, r: usize)
@@ -36,7 +28,7 @@ pub fn go_on(ahead: &mut [u64], job: &Job, r: usize)
         ahead.fill(0);
     } else if placed.packet.head().barrier {
         insert_all(ahead, start, r);
-    } else if is_barrier(&job.packet(r - 1).packet) {
+    } else if job.is_barrier(r - 1) {
         insert(ahead, r - 1);
     }
 }

@@ -2,7 +2,7 @@
 
 ghost use Rattle.std.specs.Prelude.{◌≡◌, ◌↔◌, ◌⊎◌, IsTrue, ◌+◌, ◌*◌, ◌<◌, ◌≤◌, ℕ, length, IfOk, OnOk};
 ghost use Rattle.hq_job.specs.Plan.{plan};
-ghost use Rattle.hq_model.specs.Job.{packet, place_in_queue, Frees};
+ghost use Rattle.hq_model.specs.Job.{place_in_queue, Frees};
 ghost use Rattle.hq_order.specs.Bits.{has};
 ghost use Rattle.hq_order.specs.Placing.{AllAre, Freeing};
 
@@ -50,15 +50,6 @@ pub fn places(alloc: Global, job: &Job) -> Result<Vec<usize>, AllocError>
     Ok(places)
 }
 
-/// Whether two packets go to one queue.
-fn same_queue(job: &Job, earlier: usize, number: usize) -> bool
-    requires earlier { earlier < length job.now.packets }
-    requires number { number < length job.now.packets }
-    ensures { IsTrue result ↔ ((packet (plan job.now) earlier).queue ≡ (packet (plan job.now) number).queue) }
-{
-    job.packet(earlier).queue == job.packet(number).queue
-}
-
 /// Whether a packet has no slot until an earlier one is complete.
 fn frees(job: &Job, places: &[usize], earlier: usize, number: usize) -> bool
     requires places { AllAre (λ p place. place ≡ place_in_queue (plan job.now) p) places.now }
@@ -69,7 +60,7 @@ fn frees(job: &Job, places: &[usize], earlier: usize, number: usize) -> bool
 {
     job.valid();
     let size = job.queues()[job.packet(number).queue as usize].size as usize;
-    job.rings() && same_queue(job, earlier, number) && places[earlier] + size <= places[number]
+    job.rings() && job.same_queue(earlier, number) && places[earlier] + size <= places[number]
 }
 
 /// Takes in the packets that free a packet's slot.

@@ -8,7 +8,6 @@ ghost use Rattle.hq_order.specs.Bits.{has};
 ghost use Rattle.hq_order.specs.Placing.{AllAre, Completing, Freeing, OfDependencies, Needs, Needed};
 
 use crate::bits::{insert_all, unite};
-use crate::completing::slots;
 use hq_job::Job;
 use hq_packet::Packet;
 use std::alloc::{AllocError, Global};
@@ -49,7 +48,7 @@ pub fn unite_dependencies(job: &Job, completing: &[Vec<u64>], number: usize, row
     ensures len { length row.new ≡ length row.old }
 {
     job.valid();
-    for slot in slots(job, number) {
+    for slot in job.slots(number) {
         if let Some(signal) = slot {
             unite(row, &completing[*signal as usize]);
         }

@@ -4,7 +4,7 @@ ghost use Rattle.std.specs.Prelude.{OnOk, Some, slice_get, ◌≡◌, ℕ, ◌/�
 ghost use Rattle.hq_job.specs.Plan.{plan};
 ghost use Rattle.hq_model.specs.Job.{IsPacket};
 ghost use Rattle.hq_order.specs.Bits.{has};
-ghost use Rattle.hq_order.specs.Rounds.{Next, Reaches, ByEither};
+ghost use Rattle.hq_order.specs.Rounds.{Next, Reaches, ByOr};
 ghost use Rattle.hq_order.specs.Matrix.{row, Marks, Square, Grown};
 ghost use Rattle.hq_order.specs.Placing.{AllAre, Completing};
 ghost use Rattle.hq_order.specs.Uniting.{CanUnite, Stepped, Through};
@@ -112,7 +112,7 @@ pub fn unite_shared(
     requires few { length new.old ≤ 16 }
     requires r_is { IsPacket (plan job.now) r }
     ensures grown { OnOk result (Grown new.old new.new) }
-    ensures exact { OnOk result ((p : ℕ) → IsTrue (has new.new p) ↔ (IsTrue (has new.old p) ⊎ ByEither (plan job.now) (Marks known.now.rows.now) p r)) }
+    ensures exact { OnOk result ((p : ℕ) → IsTrue (has new.new p) ↔ (IsTrue (has new.old p) ⊎ ByOr (plan job.now) (Marks known.now.rows.now) p r)) }
     ensures more { IfOk result (λ more. more ≡ false → (p : ℕ) → IsTrue (has new.new p) → IsTrue (has new.old p)) }
 {
     job.valid();

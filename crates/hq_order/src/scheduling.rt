@@ -11,7 +11,7 @@ ghost use Rattle.hq_order.specs.Least.{LeastFirst};
 ghost use Rattle.hq_order.specs.Faults.{StuckWhereSo};
 
 use crate::bits::{covers, has, insert};
-use crate::completing::{completing, slots};
+use crate::completing::completing;
 use crate::fault::OrderFault;
 use crate::freeing::{freeing, places};
 use crate::needs::needs;
@@ -27,7 +27,7 @@ fn one_is_over(job: &Job, completing: &[Vec<u64>], come: &[u64], number: usize) 
     ensures { IsTrue result ↔ OneIsOver (plan job.now) come.now number }
 {
     job.valid();
-    for slot in slots(job, number) {
+    for slot in job.slots(number) {
         if let Some(signal) = slot {
             if covers(come, &completing[*signal as usize]) {
                 return true;

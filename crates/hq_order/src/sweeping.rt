@@ -7,14 +7,13 @@ ghost use Rattle.hq_model.specs.Job.Kind.{BarrierAnd};
 ghost use Rattle.hq_order.specs.Bits.{has};
 ghost use Rattle.hq_order.specs.Matrix.{Marks, IsSquare, words_for};
 ghost use Rattle.hq_order.specs.Placing.{AllAre, Completing};
-ghost use Rattle.hq_order.specs.Rounds.{ByEither, Reaches};
+ghost use Rattle.hq_order.specs.Rounds.{ByOr, Reaches};
 ghost use Rattle.hq_order.specs.Sweeping.{Asked, HaveAsked, HaveOrder, StandsTogether};
 
 use crate::before::words_of;
 use crate::bits::{covers, empty, insert, insert_all, unite};
 use crate::columns::row_of;
-use crate::completing::{completing, slots};
-use crate::direct::is_barrier;
+use crate::completing::completing;
 use crate::gathering::Known;
 use crate::rounds::{reached, unite_shared};
 use hq_job::Job;
@@ -56,7 +55,7 @@ fn unite_ahead(row: &mut [u64], job: &Job, rows: &[Vec<u64>], r: usize)
     unite(row, row_of(rows, r - 1));
     if placed.packet.head().barrier {
         insert_all(row, start, r);
-    } else if is_barrier(&job.packet(r - 1).packet) {
+    } else if job.is_barrier(r - 1) {
         insert(row, r - 1);
     }
 }
@@ -100,7 +99,7 @@ fn unite_branches(
     ensures taken { OnOk result ((p slot s : ℕ) → Dependency (plan job.now) r slot s → Reaches (plan job.now) (Marks rows.now) p s → IsTrue (has row.new p)) }
 {
     job.valid();
-    for slot in slots(job, r) {
+    for slot in job.slots(r) {
         if let Some(signal) = slot {
             unite_branch(alloc, row, job, completing, rows, *signal)?;
         }
@@ -124,7 +123,7 @@ fn unite_waits(
     requires signals { length completing.now ≡ length job.now.signals }
     ensures kept { OnOk result ((p : ℕ) → IsTrue (has row.old p) → IsTrue (has row.new p)) }
     ensures ands { OnOk result ((p slot s : ℕ) → (packet (plan job.now) r).kind ≡ BarrierAnd → Dependency (plan job.now) r slot s → Reaches (plan job.now) (Marks rows.now) p s → IsTrue (has row.new p)) }
-    ensures ors { OnOk result ((p : ℕ) → ByEither (plan job.now) (Marks rows.now) p r → IsTrue (has row.new p)) }
+    ensures ors { OnOk result ((p : ℕ) → ByOr (plan job.now) (Marks rows.now) p r → IsTrue (has row.new p)) }
 {
     match job.packet(r).packet {
         Packet::And(_) => unite_branches(alloc, row, job, completing, rows, r),

@@ -122,8 +122,9 @@ fn pair<'a>(alloc: Global) -> Arg<'a>
 {
     Arg::new(alloc, "PAIR")
         .long("pair")
+        .value_name("P")
         .action(ArgAction::Set)
-        .help("With a second number behind it: explains these two packets alone")
+        .help("With a second number R behind it: explains packets P and R alone")
 }
 
 /// The argument R, behind `--pair P`.
@@ -132,6 +133,7 @@ fn second<'a>(alloc: Global) -> Arg<'a>
     ensures local { result.global ≡ false }
 {
     Arg::new(alloc, "SECOND")
+        .value_name("R")
         .action(ArgAction::Set)
         .help("The second packet of --pair")
 }
@@ -147,26 +149,28 @@ fn all<'a>(alloc: Global) -> Arg<'a>
         .help("Explains all pairs that conflict, and not only the first hundred")
 }
 
-/// The option `--good GOOD`.
+/// The option `--good OUT`.
 fn good<'a>(alloc: Global) -> Arg<'a>
     ensures rule { rule_of result ≡ good_rule }
     ensures local { result.global ≡ false }
 {
     Arg::new(alloc, "GOOD")
         .long("good")
+        .value_name("OUT")
         .action(ArgAction::Set)
-        .help("Writes the timeline of the run that goes right to a file, as `replay` reads it")
+        .help("Writes the timeline of the run that goes right to the file OUT, as `replay` reads it")
 }
 
-/// The option `--bad BAD`.
+/// The option `--bad OUT`.
 fn bad<'a>(alloc: Global) -> Arg<'a>
     ensures rule { rule_of result ≡ bad_rule }
     ensures local { result.global ≡ false }
 {
     Arg::new(alloc, "BAD")
         .long("bad")
+        .value_name("OUT")
         .action(ArgAction::Set)
-        .help("Writes the timeline of the other run to a file")
+        .help("Writes the timeline of the other run to the file OUT")
 }
 
 /// The argument WORDS.

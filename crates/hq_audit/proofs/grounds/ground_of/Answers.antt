@@ -1,6 +1,6 @@
 use Rattle.std.proofs.Common.{◌≡◌, ◌<◌, ℕ, length, sym, subst, ◌∙◌, false, true}
 use Rattle.hq_order.specs.Rounds.{Between, IsMiddle}
-use Rattle.hq_audit.specs.Rests.{ByBit, ByQueue, BySlot}
+use Rattle.hq_model.specs.Order.{ByBit, ByQueue, ByAnd}
 use Rattle.hq_audit.proofs.Founded.{within_first, within_second, never_refuted, some_there, middle_between}
 use Rattle.hq_audit.proofs.grounds.ground_of.Goals as goal
 
@@ -36,9 +36,9 @@ unwrap-requires c =
     some_there c.middle.result ((m : ℕ) → Between job c.args.round p r m → ⊥) (IsMiddle job c.args.round p r) c.middle.ensures
     (λ none. never_refuted job c.args.round p r c.requires
     (record {
-      no_bit = λ j b. c.in_default.ensures j (subst (λ v. ByBit v p r j) (sym c.job-job.ensures) b);
+      no_bit = λ j b. c.in_default.ensures.first j (subst (λ v. ByBit v p r j) (sym c.job-job.ensures) b);
       no_queue = λ b. let t : true ≡ false = sym (c.is_held.ensures.1 (subst (λ v. ByQueue v p r) (sym c.job-job.ensures) b)) ∙ c.if-is_held.false in cc;
-      no_slot = λ slot b. c.in_default-slot_of.ensures.first slot (subst (λ v. BySlot v p r slot) (sym c.job-job.ensures) b);
+      no_slot = λ slot s b. c.in_default-slot_of.ensures.first slot s (subst (λ v. ByAnd v p r slot s) (sym c.job-job.ensures) b);
       no_either = λ b. let t : true ≡ false = sym (c.is_either.ensures.1 b) ∙ c.if-is_either.false in cc;
       no_middle = λ m b. none m (middle_between job c.args.round p r m b);
     }))

@@ -5,7 +5,7 @@ use Rattle.hq_packet.specs.declared.packet.Scope.TheVariants as scope
 use Rattle.hq_audit.specs.Drafted.{acquire_by}
 use Rattle.hq_audit.specs.Kept.{lines_of}
 use Rattle.hq_audit.proofs.Adding.{goes_more}
-use Rattle.hq_audit.proofs.Fencing.{acquire_fits, cites_later}
+use Rattle.hq_audit.proofs.Fencing.{cites_later}
 use Rattle.hq_audit.proofs.pairs.cite_acquire.Goals as goal
 
 pub returns-in_ok-number-in-Some : goal.returns-in_ok-number-in-Some
@@ -23,6 +23,6 @@ returns-in_ok-number-in-Some c =
     record {
       goes = goes_more job c.args.lines.now l1 l2 c.in_ok-to.ensures.goes n.goes;
       to = cites_later job c.args.lines.now l1 l2 y r c.in_ok-to.to c.in_ok-to.ensures n.goes;
-      holds = subst (AcquireHolds job (lines_of l2) p r y2 y) (sym c.line-in-Some.ensures) (h.0, h.1, n.says, acquire_fits job r y scope.Agent h.3);
+      holds = subst (AcquireHolds job (lines_of l2) p r y2 y) (sym c.line-in-Some.ensures) (h.0, h.1, n.says, h.3.fence);
       first = sym (ap (λ o. first_of (acquire_by y2 y o)) is);
     }

@@ -5,7 +5,7 @@ use Rattle.hq_packet.specs.declared.packet.Scope.TheVariants as scope
 use Rattle.hq_audit.specs.Drafted.{release_by}
 use Rattle.hq_audit.specs.Kept.{lines_of}
 use Rattle.hq_audit.proofs.Adding.{goes_more}
-use Rattle.hq_audit.proofs.Fencing.{release_fits, cites_later}
+use Rattle.hq_audit.proofs.Fencing.{cites_later}
 use Rattle.hq_audit.proofs.pairs.cite_release.Goals as goal
 
 pub returns-in_ok-number-in-Some : goal.returns-in_ok-number-in-Some
@@ -23,6 +23,6 @@ returns-in_ok-number-in-Some c =
     record {
       goes = goes_more job c.args.lines.now l1 l2 c.in_ok-from.ensures.goes n.goes;
       from = cites_later job c.args.lines.now l1 l2 p x c.in_ok-from.from c.in_ok-from.ensures n.goes;
-      holds = subst (ReleaseHolds job (lines_of l2) p r x x2) (sym c.line-in-Some.ensures) (h.0, release_fits job p x scope.Agent h.1, n.says, h.3);
+      holds = subst (ReleaseHolds job (lines_of l2) p r x x2) (sym c.line-in-Some.ensures) (h.0, h.1.fence, n.says, h.3);
       last = sym (ap (λ o. end_of (release_by x x2 o)) is);
     }

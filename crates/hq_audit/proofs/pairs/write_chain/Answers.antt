@@ -5,7 +5,7 @@ use Rattle.hq_model.specs.Certificate.Fences.{ForWriteWriteChained}
 use Rattle.hq_packet.specs.declared.packet.Scope.TheVariants as scope
 use Rattle.hq_audit.specs.Kept.{lines_of, Goes}
 use Rattle.hq_audit.proofs.Adding.{goes_more}
-use Rattle.hq_audit.proofs.Fencing.{release_fits, says_later, cites_later}
+use Rattle.hq_audit.proofs.Fencing.{says_later, cites_later}
 use Rattle.hq_audit.proofs.pairs.write_chain.Goals as goal
 
 pub returns : goal.returns
@@ -25,7 +25,7 @@ returns c =
     record {
       goes = goes_more job a l1 l3 from.goes later;
       hold = subst (λ k. FencesHold job (lines_of l3) p r (ForWriteWriteChained k.x k.x2 (cited k.from) k.link k.on)) (sym c.in_ok-new.ensures.ok) (
-        (h.0, release_fits job p c.args.x scope.Agent h.1, says_later job l1 l2 l3 c.args.x c.args.x2 c.in_ok-link.link link on.goes, h.3),
+        (h.0, h.1.fence, says_later job l1 l2 l3 c.args.x c.args.x2 c.in_ok-link.link link on.goes, h.3),
         cites_later job a l1 l3 p c.args.x c.in_ok-from.from from later,
         on.says,
       );

@@ -2,7 +2,7 @@ use Rattle.std.proofs.Common.{refl}
 use Rattle.hq_model.specs.Fence.{need}
 use Rattle.hq_audit.specs.Kept.{Goes}
 use Rattle.hq_audit.proofs.Adding.{goes_more}
-use Rattle.hq_audit.proofs.Fencing.{release_fits, acquire_fits, cites_later, says_later}
+use Rattle.hq_audit.proofs.Fencing.{cites_later, says_later}
 use Rattle.hq_audit.proofs.pairs.write_read.Goals as goal
 
 pub returns : goal.returns
@@ -18,8 +18,8 @@ returns c =
     record {
       goes = goes_more job a l1 l3 c.in_ok-from.ensures.goes later;
       hold = (
-        release_fits job p c.args.x (need job p r) c.requires.releases,
-        acquire_fits job r c.args.y (need job p r) c.requires.acquires,
+        c.requires.releases.fence,
+        c.requires.acquires.fence,
         cites_later job a l1 l3 p c.args.x c.in_ok-from.from c.in_ok-from.ensures later,
         says_later job l1 l2 l3 c.args.x c.args.y c.in_ok-between.between c.in_ok-between.ensures c.in_ok-to.ensures.goes,
         c.in_ok-to.ensures.cites,

@@ -1,7 +1,7 @@
 use Rattle.std.proofs.Common.{refl}
 use Rattle.hq_model.specs.Fence.{need}
 use Rattle.hq_audit.proofs.Adding.{goes_more}
-use Rattle.hq_audit.proofs.Fencing.{release_fits, cites_later}
+use Rattle.hq_audit.proofs.Fencing.{cites_later}
 use Rattle.hq_audit.proofs.pairs.write_write.Goals as goal
 
 pub returns : goal.returns
@@ -14,7 +14,7 @@ returns c =
     record {
       goes = goes_more job c.args.lines.now c.cite.new.lines c.line.new.lines from.goes on.goes;
       hold = (
-        release_fits job p c.args.x (need job p r) c.requires.released.release,
+        c.requires.released.release.fence,
         cites_later job c.args.lines.now c.cite.new.lines c.line.new.lines p c.args.x c.in_ok-from.from from on.goes,
         on.says,
       );

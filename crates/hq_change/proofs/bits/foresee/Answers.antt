@@ -1,12 +1,12 @@
 use Rattle.std.proofs.Common.{◌≡◌, ◌-◌, ◌+◌, sym, ◌∙◌, subst, arith}
 use Rattle.hq_job.specs.Plan.{plan}
 use Rattle.hq_change.specs.Foresight.{AllForeseen}
-use Rattle.hq_change.proofs.Foreseeing.{clashes_stay, more_foreseen}
+use Rattle.hq_change.proofs.Foreseeing.{conflicts_stay, more_foreseen}
 use Rattle.hq_change.proofs.Whole.{as_many_values}
 use Rattle.hq_change.proofs.bits.foresee.Goals as goal
 
-pub foresee_one-requires-clause-clashes : goal.foresee_one-requires-clause-clashes
-foresee_one-requires-clause-clashes g c = clashes_stay (plan c.args.job.now) (plan c.down.job) c.args.foresight.now.clashes.now (sym c.down.invariant.all.below.same) c.requires.clashes
+pub foresee_one-requires-clause-conflicts : goal.foresee_one-requires-clause-conflicts
+foresee_one-requires-clause-conflicts g c = conflicts_stay (plan c.args.job.now) (plan c.down.job) c.args.foresight.now.conflicts.now (sym c.down.invariant.all.below.same) c.requires.conflicts
 
 pub down-preserved : goal.down-preserved
 down-preserved g c =

@@ -3,7 +3,7 @@ use Rattle.std.proofs.lemmas.Option.{slice_get-get_or}
 use Rattle.hq_job.specs.Plan.{plan}
 use Rattle.hq_model.specs.Settings.{SameButHeads}
 use Rattle.hq_model.proofs.SettingsSteps.{heads_are_set}
-use Rattle.hq_change.proofs.Foreseeing.{clashes_stay, back_if, gone_if}
+use Rattle.hq_change.proofs.Foreseeing.{conflicts_stay, back_if, gone_if}
 use Rattle.hq_change.proofs.Whole.{is_planned}
 use Rattle.hq_change.proofs.bits.foresee_one.Goals as goal
 
@@ -11,7 +11,7 @@ pub is_apart-requires : goal.is_apart-requires
 is_apart-requires c =
     let job = plan c.args.job.now in
     let is = is_planned c.args.job.now c.args.p c.requires.p_is in
-    clashes_stay job (plan c.set_head.new.self) c.args.foresight.now.clashes.now (subst (SameButHeads job) (sym c.set_head.ensures.plan) (heads_are_set job c.args.p c.in-Some.lowered is).same) c.requires.clashes
+    conflicts_stay job (plan c.set_head.new.self) c.args.foresight.now.conflicts.now (subst (SameButHeads job) (sym c.set_head.ensures.plan) (heads_are_set job c.args.p c.in-Some.lowered is).same) c.requires.conflicts
 
 pub returns-then-branch-clause-foreseen : goal.returns-then-branch-clause-foreseen
 returns-then-branch-clause-foreseen c =

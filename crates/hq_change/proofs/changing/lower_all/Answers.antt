@@ -23,8 +23,8 @@ settle-requires-4-clause-parts g c =
     let down = raises_on (plan c.settle-3.new.job) (plan c.settle-2.new.job) (plan c.args.job.now) c.in_ok-rounds-3.ensures.settles.below two in
     parts_stay (plan c.args.job.now) (plan c.settle-3.new.job) c.args.parts.now (sym down.same) c.requires.parts
 
-pub clashes_of-requires-clause-parts : goal.clashes_of-requires-clause-parts
-clashes_of-requires-clause-parts g c =
+pub conflicts_of-requires-clause-parts : goal.conflicts_of-requires-clause-parts
+conflicts_of-requires-clause-parts g c =
     let two = raises_on (plan c.settle-2.new.job) (plan c.settle.new.job) (plan c.args.job.now) c.in_ok-rounds-2.ensures.settles.below c.in_ok-rounds.ensures.settles.below in
     let three = raises_on (plan c.settle-3.new.job) (plan c.settle-2.new.job) (plan c.args.job.now) c.in_ok-rounds-3.ensures.settles.below two in
     let down = raises_on (plan c.settle-4.new.job) (plan c.settle-3.new.job) (plan c.args.job.now) c.in_ok-rounds-4.ensures.settles.below three in

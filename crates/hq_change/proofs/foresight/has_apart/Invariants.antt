@@ -5,8 +5,8 @@ use Rattle.hq_change.proofs.foresight.has_apart.Given as goal
 
 abbrev pub invariant-each : goal.invariant-each
 invariant-each l = record {
-  len : length l.left.items ≡ length l.clashes;
-  left : (b : ℕ) → IsTrue (has l.left.items b) → IsTrue (has l.clashes b) × ¬ Marks l.rows b l.a;
+  len : length l.left.items ≡ length l.conflicts;
+  left : (b : ℕ) → IsTrue (has l.left.items b) → IsTrue (has l.conflicts b) × ¬ Marks l.rows b l.a;
 }
 
 abbrev pub decreases-each : goal.decreases-each

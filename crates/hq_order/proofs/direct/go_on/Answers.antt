@@ -1,7 +1,6 @@
-use Rattle.std.proofs.Common.{◌≡◌, ◌≢◌, ◌-◌, ◌<◌, inl, inr, true, false, sym, ◌∙◌, ap, subst, arith}
+use Rattle.std.proofs.Common.{◌≡◌, ◌-◌, ◌<◌, inl, inr, true, false, sym, ◌∙◌, ap, arith}
 use Rattle.hq_job.specs.Plan.{plan}
 use Rattle.hq_model.specs.Job.{IsBarrier}
-use Rattle.hq_model.specs.Job.Kind.{Work}
 use Rattle.hq_order.specs.Bits.{has}
 use Rattle.hq_order.proofs.Crossing.{mark_bit}
 use Rattle.hq_order.proofs.Single.{next_of_queue, precedes_next}
@@ -15,7 +14,7 @@ returns-then-is_barrier c = λ p.
     let next = next_of_queue job c.packet-placed.result.now.queue c.of_queue-start.result.start c.of_queue-start.result.end r c.of_queue-start.ensures (sym (ap (λ q. q.queue) c.packet-placed.ensures)) c.requires.r_is above in
     let bit = ap (λ h. h.barrier) c.head.ensures ∙ ap (λ q. q.bit) c.packet-placed.ensures in
     let goes = precedes_next job p (r - 1) r next (λ t. let x : false ≡ true = sym c.if-head.false ∙ bit ∙ t in cc) in
-    let barrier : IsBarrier job (r - 1) = subst (λ q. q.kind ≢ Work) c.packet.ensures (c.is_barrier.ensures.0 c.if-is_barrier.true) in
+    let barrier : IsBarrier job (r - 1) = c.is_barrier.ensures.0 c.if-is_barrier.true in
     let more = mark_bit (has c.args.ahead.now p) (has c.insert.new.row p) p (r - 1) (c.insert.ensures p) in (
       λ h. goes.1 (elim (more.0 h) [ inl o ↦ inl ((c.requires.ahead p).0 o).1 | inr e ↦ inr (e, barrier) ]),
       λ x. more.1 (elim (goes.0 x) [ inl y ↦ inl ((c.requires.ahead p).1 (omega arith, y)) | inr z ↦ inr z.0 ]),
@@ -32,6 +31,6 @@ returns-else-is_barrier c = λ p.
       λ h. goes.1 (inl ((c.requires.ahead p).0 h).1),
       λ x. elim (goes.0 x) [
         | inl y ↦ (c.requires.ahead p).1 (omega arith, y)
-        | inr z ↦ absurd (let t : c.is_barrier.result ≡ true = c.is_barrier.ensures.1 (subst (λ q. q.kind ≢ Work) (sym c.packet.ensures) z.1) in let x : false ≡ true = sym c.if-is_barrier.false ∙ t in cc)
+        | inr z ↦ absurd (let t : c.is_barrier.result ≡ true = c.is_barrier.ensures.1 z.1 in let x : false ≡ true = sym c.if-is_barrier.false ∙ t in cc)
       ],
     )

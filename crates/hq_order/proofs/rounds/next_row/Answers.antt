@@ -2,7 +2,7 @@ use Rattle.std.proofs.Common.{◌↔◌, ◌⊎◌, length, refl, sym, ◌∙◌
 use Rattle.hq_job.specs.Plan.{plan}
 use Rattle.hq_order.specs.Bits.{has}
 use Rattle.hq_order.specs.Matrix.{row, Marks}
-use Rattle.hq_order.specs.Rounds.{Next, ByEither}
+use Rattle.hq_order.specs.Rounds.{Next, ByOr}
 use Rattle.hq_order.specs.Uniting.{Through}
 use Rattle.hq_order.proofs.Rows.{given_back}
 use Rattle.hq_order.proofs.Turns.{next_exact}
@@ -16,7 +16,7 @@ returns-clause-exact c = λ p.
     let back = given_back c.in_ok-new.new.len c.in_ok-new.new.items c.unite_shared.new.new (sym c.in_ok-new.new.ok.0) (c.unite_shared.auto.new ∙ ap length c.deref_mut.ensures.value) in
     subst (λ row. IsTrue (has row p) ↔ Next job (Marks rows) p c.args.r) (sym back)
     (next_exact job rows (row rows c.args.r) p c.args.r (IsTrue (has c.in_ok-new.new.items p)) (IsTrue (has c.unite_shared.new.new p)) refl (c.in_ok-new.ensures.exact p)
-    (subst (λ old. IsTrue (has c.unite_shared.new.new p) ↔ (IsTrue (has old p) ⊎ ByEither job (Marks rows) p c.args.r)) c.deref_mut.ensures.value (c.in_ok-more.ensures.exact p)))
+    (subst (λ old. IsTrue (has c.unite_shared.new.new p) ↔ (IsTrue (has old p) ⊎ ByOr job (Marks rows) p c.args.r)) c.deref_mut.ensures.value (c.in_ok-more.ensures.exact p)))
 
 pub returns-clause-rests : goal.returns-clause-rests
 returns-clause-rests c = λ p h.

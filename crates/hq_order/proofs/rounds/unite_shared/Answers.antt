@@ -3,7 +3,7 @@ use Rattle.std.proofs.lemmas.Option.{get_or_from_slice_get}
 use Rattle.hq_job.specs.Plan.{plan, kind_of}
 use Rattle.hq_order.specs.Bits.{has}
 use Rattle.hq_order.specs.Matrix.{Marks, Square}
-use Rattle.hq_order.specs.Rounds.{ByEither}
+use Rattle.hq_order.specs.Rounds.{ByOr}
 use Rattle.hq_order.proofs.Rows.{given_back, joined}
 use Rattle.hq_order.proofs.Single.{count, few}
 use Rattle.hq_order.proofs.Slots.{signal_there}
@@ -24,5 +24,5 @@ returns-in-Or-clause-exact c = λ p.
     let back = given_back c.in_ok-shared.shared.len c.in_ok-shared.shared.items c.meet_branches.new.shared (sym c.in_ok-shared.shared.ok.0) (c.meet_branches.auto.shared ∙ ap length c.deref_mut.ensures.value) in
     let full = subst (λ row. IsTrue (has row p) ↔ p / 64 < words) (sym c.deref_mut.ensures.value) (c.in_ok-shared.ensures.all p) in
     let exact = either_exact job rows words p c.args.r c.packet-placed.result.now (IsTrue (has c.deref_mut.result.now p)) (IsTrue (has c.meet_branches.new.shared p)) (record { is_packet = c.requires.r_is; same = c.packet-placed.ensures }) c.valid.ensures.valid (ap kind_of c.in-Or.is) square full (c.in_ok-meet_branches.ensures p) in
-    joined (has c.args.new.now p) (has c.deref.result.now p) (has c.unite_more.new.row p) (ByEither job (Marks rows) p c.args.r) (c.unite_more.ensures.exact p)
-    (subst (λ row. IsTrue (has row p) ↔ ByEither job (Marks rows) p c.args.r) (sym (c.deref.ensures.value ∙ back)) exact)
+    joined (has c.args.new.now p) (has c.deref.result.now p) (has c.unite_more.new.row p) (ByOr job (Marks rows) p c.args.r) (c.unite_more.ensures.exact p)
+    (subst (λ row. IsTrue (has row p) ↔ ByOr job (Marks rows) p c.args.r) (sym (c.deref.ensures.value ∙ back)) exact)

@@ -3,7 +3,7 @@ use Rattle.std.specs.Prelude.{MatchOption}
 use Rattle.std.proofs.lemmas.Option.{MatchOption-at_some}
 use Rattle.hq_cert.specs.View.{cited}
 use Rattle.hq_model.specs.Certificate.{Follows, signals}
-use Rattle.hq_model.specs.Certificate.Rule.{Or as ByOr}
+use Rattle.hq_model.specs.Certificate.Rule.{Or as OrRule}
 use Rattle.hq_model.specs.Job.{Job, packet}
 use Rattle.hq_audit.specs.Rests.{Below, ByBranch}
 use Rattle.hq_audit.specs.Kept.{lines_of, AllBranched}
@@ -49,7 +49,7 @@ either-returns t c =
     let same : slots ≡ (packet job c.args.r).deps = ap (λ x. x.deps) c.packet-waiting.ensures ∙ ap (λ v. (packet v c.args.r).deps) c.job.ensures in
     record {
       goes = c.in_ok-citations.ensures.goes;
-      follows = subst (λ x. Follows job (lines_of new) (length (lines_of new)) c.args.p c.args.r (ByOr (map cited x.citations.items))) (sym c.in_ok-new.ensures.ok)
+      follows = subst (λ x. Follows job (lines_of new) (length (lines_of new)) c.args.p c.args.r (OrRule (map cited x.citations.items))) (sym c.in_ok-new.ensures.ok)
           (either_follows job c.args.self.now new c.args.p c.args.r slots c.in_ok-citations.citations.items (Below job c.args.round) c.requires.either same c.in_ok-citations.ensures);
     }
 

@@ -1,7 +1,7 @@
 use Rattle.std.proofs.Common.{◌≡◌, ℕ, ◌<◌, ◌≤◌, ap, sym, subst, ◌∙◌, true, false, IsTrue, ◌↔◌, length}
 use Rattle.std.proofs.lemmas.Bool.{true≢false}
 use Rattle.hq_packet.specs.declared.packet.Scope.TheVariants as scope
-use Rattle.hq_model.specs.Job.{reaches}
+use Rattle.hq_packet.specs.Scopes.{reaches}
 use Rattle.hq_model.specs.Machine.{is_dirty}
 use Rattle.hq_model.specs.View.{copies_of}
 use Rattle.hq_copies.specs.Copies.{CopiesValue, IsReleased}

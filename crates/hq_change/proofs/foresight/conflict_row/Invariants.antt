@@ -1,14 +1,14 @@
 use Rattle.std.proofs.Common.{◌-◌, ◌≡◌, ◌≤◌, ◌<◌, ℕ, IsTrue, length}
 use Rattle.hq_order.specs.Bits.{has}
 use Rattle.hq_order.specs.Matrix.{words_for}
-use Rattle.hq_change.specs.Foresight.{Clash}
-use Rattle.hq_change.proofs.foresight.clash_row.Given as goal
+use Rattle.hq_fence.specs.Judgement.{HaveConflict}
+use Rattle.hq_change.proofs.foresight.conflict_row.Given as goal
 
 abbrev pub invariant-others : goal.invariant-others
 invariant-others l = record {
   below : l.b ≤ length l.before.packets;
   len : length l.row.items ≡ words_for (length l.before.packets);
-  clash : (b : ℕ) → IsTrue (has l.row.items b) → (b < l.a) × Clash l.before b l.a;
+  conflict : (b : ℕ) → IsTrue (has l.row.items b) → (b < l.a) × HaveConflict l.before b l.a;
 }
 
 abbrev pub decreases-others : goal.decreases-others

@@ -1,0 +1,125 @@
+//! What is asked of a job's packets, by their numbers.
+
+ghost use Rattle.std.specs.Prelude.{◌≡◌, ℕ, ◌↔◌, IsTrue, Some};
+ghost use Rattle.hq_job.specs.Plan.{plan};
+ghost use Rattle.hq_model.specs.Job.{packet, IsPacket, Earlier, IsBarrier, Decrements, Dependency, agent_of};
+ghost use Rattle.hq_model.specs.Fence.{need};
+
+use crate::job::Job;
+use hq_packet::{Packet, Scope};
+
+impl Job {
+    /// Whether there is a packet of this number.
+    #[inline(always)]
+    pub fn is_packet(&self, number: usize) -> bool
+        ensures { IsTrue result ↔ IsPacket (plan self.now) number }
+    {
+        number < self.packets().len()
+    }
+
+    /// Whether two packets stand in one queue.
+    #[inline(always)]
+    pub fn same_queue(&self, p: usize, r: usize) -> bool
+        requires p_is { IsPacket (plan self.now) p }
+        requires r_is { IsPacket (plan self.now) r }
+        ensures { IsTrue result ↔ ((packet (plan self.now) p).queue ≡ (packet (plan self.now) r).queue) }
+    {
+        self.packet(p).queue == self.packet(r).queue
+    }
+
+    /// Whether there is a packet `r`, and `p` stands ahead of it in its queue.
+    #[inline(always)]
+    pub fn is_earlier(&self, p: usize, r: usize) -> bool
+        ensures { IsTrue result ↔ Earlier (plan self.now) p r }
+    {
+        p < r && self.is_packet(r) && self.same_queue(p, r)
+    }
+
+    /// Whether a packet has the barrier bit.
+    #[inline(always)]
+    pub fn has_bit(&self, number: usize) -> bool
+        requires { numbeIsPacket (plan self.now) r }
+        ensures { result ≡ (packet (plan self.now) number).bit }
+    {
+        self.packet(number).packet.head().barrier
+    }
+
+    /// The scope of a packet's acquire fence.
+    #[inline(always)]
+    pub fn acquire_of(&self, number: usize) -> Scope
+        requires { numbeIsPacket (plan self.now) r }
+        ensures { result ≡ (packet (plan self.now) number).acquire }
+    {
+        self.packet(number).packet.head().acquire
+    }
+
+    /// The scope of a packet's release fence.
+    #[inline(always)]
+    pub fn release_of(&self, number: usize) -> Scope
+        requires { numbeIsPacket (plan self.now) r }
+        ensures { result ≡ (packet (plan self.now) number).release }
+    {
+        self.packet(number).packet.head().release
+    }
+
+    /// Whether a packet is a barrier packet.
+    #[inline(always)]
+    pub fn is_barrier(&self, number: usize) -> bool
+        requires { numbeIsPacket (plan self.now) r }
+        ensures { IsTrue result ↔ IsBarrier (plan self.now) number }
+    {
+        matches!(&self.packet(number).packet, Packet::And(_) | Packet::Or(_))
+    }
+
+    /// The signals of a packet's dependency slots, slot by slot.
+    #[inline(always)]
+    pub fn slots(&self, number: usize) -> &[Option<u16>]
+        requires { numbeIsPacket (plan self.now) r }
+        ensures { result.now ≡ (packet (plan self.now) number).deps }
+    {
+        &self.packet(number).slots
+    }
+
+    /// The signal in a dependency slot of the packet of this number, where there is one.
+    #[inline(always)]
+    pub fn dependency(&self, number: usize, slot: usize) -> Option<u16>
+        ensures { (s : ℕ) → (result ≡ Some s) ↔ Dependency (plan self.now) number slot s }
+    {
+        if !self.is_packet(number) {
+            return None;
+        }
+        *self.slots(number).get(slot)?
+    }
+
+    /// Whether there is a packet of this number, and it completes on the signal.
+    #[inline(always)]
+    pub fn completes_on(&self, number: usize, signal: u16) -> bool
+        ensures { IsTrue result ↔ Decrements (plan self.now) number signal }
+    {
+        self.is_packet(number) && self.packet(number).done == Some(signal)
+    }
+
+    /// The number of the agent of a packet's queue.
+    #[inline(always)]
+    pub fn agent_of(&self, number: usize) -> usize
+        requires { numbeIsPacket (plan self.now) r }
+        ensures { result ≡ agent_of (plan self.now) number }
+    {
+        self.valid();
+        self.queues()[self.packet(number).queue as usize].agent as usize
+    }
+
+    /// The scope that a fence between two packets needs: agent where their queues are of one agent, else system.
+    #[inline(always)]
+    pub fn need(&self, p: usize, r: usize) -> Scope
+        requires p_is { IsPacket (plan self.now) p }
+        requires r_is { IsPacket (plan self.now) r }
+        ensures { result ≡ need (plan self.now) p r }
+    {
+        if self.agent_of(p) == self.agent_of(r) {
+            Scope::Agent
+        } else {
+            Scope::System
+        }
+    }
+}
