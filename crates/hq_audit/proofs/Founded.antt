@@ -10,7 +10,8 @@ use Rattle.hq_order.specs.Rounds.{Direct, Next, Within, Reaches, ByOr, IsFirstWi
 use Rattle.hq_order.specs.Rounds.Precedes.{by_bit, by_queue}
 use Rattle.hq_order.specs.Rounds.Awaits.{by_and, by_or}
 use Rattle.hq_order.specs.Rounds.Next.{by_known, by_either, through as joining}
-use Rattle.hq_order.proofs.Single.{bit_packet, direct_packet, direct_packet_r, earlier_first}
+use Rattle.hq_model.proofs.Orders.{bit_packet, earlier_packet}
+use Rattle.hq_order.proofs.Single.{direct_packet, direct_packet_r}
 use Rattle.hq_order.proofs.Closure.{within_before}
 use Rattle.hq_order.proofs.Middles.{within_le}
 use Rattle.hq_audit.specs.Rests.{Below, ByBranch, ByMiddle}
@@ -48,8 +49,8 @@ before_second job p r (through {m} b c) = before_second job m r c
 
 mutual
   first_of : (job : Job) {p r : ℕ} → Before job p r → IsPacket job p
-  first_of job (bit_behind {p = p} {j = j} by) = earlier_first job p j by.earlier
-  first_of job (queued {p = p} {r = r} by) = earlier_first job p r by.earlier
+  first_of job (bit_behind {p = p} {j = j} by) = earlier_packet job p j by.earlier
+  first_of job (queued {p = p} {r = r} by) = earlier_packet job p r by.earlier
   first_of job (waits_one by) = by.decrements.is_packet
   first_of job (waits_each any f) = let (slot, s, d) = any.some in branch_first job (f slot s d)
   first_of job (through b c) = first_of job b

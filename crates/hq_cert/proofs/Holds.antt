@@ -10,6 +10,7 @@ use Rattle.hq_model.specs.Theorems.{Valid}
 use Rattle.hq_model.specs.Certificate.{Certificate, Line, Pair, Rule, Fences, Says, Cites, signals, Follows, LineHolds, ReleaseHolds, AcquireHolds, FencesHold, PairHolds, CertHolds}
 use Rattle.hq_model.specs.Certificate.Rule.{Bit, Queue, And, Or, Through}
 use Rattle.hq_model.specs.Certificate.Fences.{ForReadWrite, ForWriteWrite, ForWriteRead, ForWriteWriteChained, ForWriteReadChained}
+use Rattle.hq_model.proofs.Orders.{bit_packet, earlier_packet}
 use Rattle.hq_cert.specs.Grammar.{IsSmall, IsBelow, IsCited, RuleFits, LineFits, LinesFit, FencesFit, PairFits, OrderFits, CertificateFits}
 use Rattle.hq_cert.specs.Printed.{is_chain, has_chain, Limited, PrintedIsRead}
 use Rattle.hq_cert.proofs.Split.{printed_is_text}
@@ -68,10 +69,9 @@ cited_packet job lines limit h p d s None f c = subst (λ (x : ℕ). IsPacket jo
 cited_packet job lines limit h p d s (Some k) f c = (h k p d c).0
 
 follows_packets : (job : Job) (lines : List Line) (limit : ℕ) → Valid job → ((k p r : ℕ) → Says lines limit k p r → IsPacket job p × IsPacket job r) → (p r : ℕ) (rule : Rule) → Follows job lines limit p r rule → IsPacket job p × IsPacket job r
-follows_packets job lines limit valid h p r (Bit j) (e, b, inl is) = (let a : p < j = e.ahead in let i : j < length job.packets = e.is_packet in omega arith, subst (λ (x : ℕ). IsPacket job x) is e.is_packet)
-follows_packets job lines limit valid h p r (Bit j) (e, b, inr f) = (let a : p < j = e.ahead in let i : j < length job.packets = e.is_packet in omega arith, f.is_packet)
-follows_packets job lines limit valid h p r Queue (e, b) = (let a : p < r = e.ahead in let i : r < length job.packets = e.is_packet in omega arith, e.is_packet)
-follows_packets job lines limit valid h p r (And slot) (s, k, w, d) = (d.is_packet, w.is_packet)
+follows_packets job lines limit valid h p r (Bit j) by = (earlier_packet job p j by.earlier, bit_packet job p r by)
+follows_packets job lines limit valid h p r Queue by = (earlier_packet job p r by.earlier, by.earlier.is_packet)
+follows_packets job lines limit valid h p r (And slot) (s, by) = (by.decrements.is_packet, by.dependency.is_packet)
 follows_packets job lines limit valid h p r (Or branches) (there, k, all) =
     let (slot, s, w) = valid.not_null r there k in
     let (t, branch, found) = first_branch (λ t branch. (d : ℕ) × Decrements job d t × Cites lines limit branch p d) (packet job r).deps branches slot s all w.signal in
@@ -118,9 +118,9 @@ cites_below lines limit None p r few s = tt
 cites_below lines limit (Some k) p r few s = says_below lines limit k p r few s
 
 rule_fits : (job : Job) (lines : List Line) (limit p r : ℕ) (rule : Rule) → limit ≤ 2 ^ 32 → Valid job → Limited job → Follows job lines limit p r rule → RuleFits limit rule
-rule_fits job lines limit p r (Bit j) few valid limits (e, b, more) = let i : j < length job.packets = e.is_packet in let l = limits.packets in omega arith
+rule_fits job lines limit p r (Bit j) few valid limits by = let i : j < length job.packets = by.earlier.is_packet in let l = limits.packets in omega arith
 rule_fits job lines limit p r Queue few valid limits h = tt
-rule_fits job lines limit p r (And slot) few valid limits (s, k, w, d) = let i = within (packet job r).deps slot (Some s) w.signal in let l = limits.slots r in omega arith
+rule_fits job lines limit p r (And slot) few valid limits (s, by) = let i = within (packet job r).deps slot (Some s) by.dependency.signal in let l = limits.slots r in omega arith
 rule_fits job lines limit p r (Or branches) few valid limits (there, k, all) =
     let (slot, s, w) = valid.not_null r there k in
     let R : ℕ → Option ℕ → Type 0 = λ t branch. (d : ℕ) × Decrements job d t × Cites lines limit branch p d in

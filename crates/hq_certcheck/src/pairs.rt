@@ -4,7 +4,7 @@ ghost use Rattle.std.specs.Prelude.{◌<◌, ◌↔◌, IsTrue, Some, None, map,
 ghost use Rattle.hq_cert.specs.View.{line_of, pair_of, fences_of, cited};
 ghost use Rattle.hq_job.specs.Plan.{plan};
 ghost use Rattle.hq_model.specs.Job.{packet, IsPacket};
-ghost use Rattle.hq_model.specs.Fence.{Forwards};
+ghost use Rattle.hq_model.specs.Fence.{FenceReaches, Forwards};
 ghost use Rattle.hq_model.specs.Certificate.{ReleaseHolds, AcquireHolds, FencesHold};
 ghost use Rattle.hq_model.specs.Certificate.Fences.{ForWriteWrite, ForWriteRead, ForWriteWriteChained, ForWriteReadChained};
 ghost use Rattle.hq_certcheck.specs.Listed.{PairFollows, FirstBadPair, NeedsSystem};

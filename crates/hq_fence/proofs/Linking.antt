@@ -47,8 +47,8 @@ ends_before job p r form goal.Acquire other (ending.Acquired fences) e =
 
 -- a release begins in p's queue
 pub begins_there : (job : Job) (p r : ℕ) (fences : Release) → IsRelease job p r fences → IsPacket job (begin_of fences) × ((packet job (begin_of fences)).queue ≡ (packet job p).queue)
-begins_there job p r (release.Alone x) a = (a.is_packet, a.queue)
-begins_there job p r (release.Chained x x2) a = (a.1.is_packet, a.1.queue)
+begins_there job p r (release.Alone x) a = (a.fence.is_packet, a.fence.queue)
+begins_there job p r (release.Chained x x2) a = (a.1.fence.is_packet, a.1.fence.queue)
 
 -- where system scope isn't needed, there are plain forms alone
 pub plain_acquire : (job : Job) (p r : ℕ) (fences : Acquire) → (need job p r ≡ scope.System → ⊥) → IsAcquire job p r fences → IsAcquireIn job p r form.Plain fences
@@ -72,7 +72,7 @@ plain_answer job p r in_form goal fences end plain not a =
 
 -- and ends with a packet
 pub ends_there : (job : Job) (p r : ℕ) (fences : Release) → IsRelease job p r fences → IsPacket job (end_of fences)
-ends_there job p r (release.Alone x) a = a.is_packet
+ends_there job p r (release.Alone x) a = a.fence.is_packet
 ends_there job p r (release.Chained x x2) a = a.3.is_packet
 
 -- ---- what comes after a release comes after p

@@ -38,7 +38,7 @@ impl Job {
     /// Whether a packet has the barrier bit.
     #[inline(always)]
     pub fn has_bit(&self, number: usize) -> bool
-        requires { numbeIsPacket (plan self.now) r }
+        requires { IsPacket (plan self.now) number }
         ensures { result ≡ (packet (plan self.now) number).bit }
     {
         self.packet(number).packet.head().barrier
@@ -47,7 +47,7 @@ impl Job {
     /// The scope of a packet's acquire fence.
     #[inline(always)]
     pub fn acquire_of(&self, number: usize) -> Scope
-        requires { numbeIsPacket (plan self.now) r }
+        requires { IsPacket (plan self.now) number }
         ensures { result ≡ (packet (plan self.now) number).acquire }
     {
         self.packet(number).packet.head().acquire
@@ -56,7 +56,7 @@ impl Job {
     /// The scope of a packet's release fence.
     #[inline(always)]
     pub fn release_of(&self, number: usize) -> Scope
-        requires { numbeIsPacket (plan self.now) r }
+        requires { IsPacket (plan self.now) number }
         ensures { result ≡ (packet (plan self.now) number).release }
     {
         self.packet(number).packet.head().release
@@ -65,7 +65,7 @@ impl Job {
     /// Whether a packet is a barrier packet.
     #[inline(always)]
     pub fn is_barrier(&self, number: usize) -> bool
-        requires { numbeIsPacket (plan self.now) r }
+        requires { IsPacket (plan self.now) number }
         ensures { IsTrue result ↔ IsBarrier (plan self.now) number }
     {
         matches!(&self.packet(number).packet, Packet::And(_) | Packet::Or(_))
@@ -74,7 +74,7 @@ impl Job {
     /// The signals of a packet's dependency slots, slot by slot.
     #[inline(always)]
     pub fn slots(&self, number: usize) -> &[Option<u16>]
-        requires { numbeIsPacket (plan self.now) r }
+        requires { IsPacket (plan self.now) number }
         ensures { result.now ≡ (packet (plan self.now) number).deps }
     {
         &self.packet(number).slots
@@ -102,7 +102,7 @@ impl Job {
     /// The number of the agent of a packet's queue.
     #[inline(always)]
     pub fn agent_of(&self, number: usize) -> usize
-        requires { numbeIsPacket (plan self.now) r }
+        requires { IsPacket (plan self.now) number }
         ensures { result ≡ agent_of (plan self.now) number }
     {
         self.valid();

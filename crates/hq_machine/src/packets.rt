@@ -42,7 +42,7 @@ pub fn dependency(job: &Job, number: usize, slot: usize) -> Option<u16>
     ensures found { (s : ℕ) → (result ≡ Some s) ↔ Dependency (plan job.now) number slot s }
     ensures few { IfSome result (λ s. slot < 5) }
 {
-    match job.slots(number).get(slot) {
+    match job.packet(number).slots.get(slot) {
         Some(signal) => *signal,
         None => None,
     }

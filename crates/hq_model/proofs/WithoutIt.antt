@@ -12,6 +12,7 @@ use Rattle.hq_model.specs.Theorems.{Valid}
 use Rattle.hq_model.specs.HoldsBack.{NeedsOneOf, HoldsBack}
 use Rattle.hq_model.specs.HoldsBack.NeedsOneOf.{for_bit, for_queue, for_and, for_or}
 use Rattle.hq_model.proofs.Sums.{sum_one, put_same, put_other}
+use Rattle.hq_model.proofs.Orders.{earlier_packet}
 use Rattle.hq_model.proofs.Places.{in_first, in_rest, in_cons, in_filter, in_numbers}
 use Rattle.hq_model.proofs.Kept.{KeptBy, kept_start, kept_steps, is_complete, waiting≢complete, launched≢complete, active≢complete, first_waits}
 use Rattle.hq_model.proofs.NoRings.{without_rings}
@@ -56,9 +57,6 @@ fewer job old new x there others l = omega (arith, l, sum_one (length job.packet
 
 earlier_still : (job : Job) (a b c : ℕ) → Earlier job a b → Earlier job b c → Earlier job a c
 earlier_still job a b c f g = record { ahead = omega (arith, f.ahead, g.ahead); is_packet = g.is_packet; same_queue = f.same_queue ∙ g.same_queue }
-
-earlier_packet : (job : Job) (e x : ℕ) → Earlier job e x → IsPacket job e
-earlier_packet job e x f = omega (arith, f.ahead, f.is_packet)
 
 module _ (job : Job) (p : ℕ) (valid : Valid job) (plain : job.rings ≡ false) where
   -- a run in which p isn't complete, and at whose end no packet is active

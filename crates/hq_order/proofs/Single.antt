@@ -10,7 +10,8 @@ use Rattle.hq_model.specs.Job.Kind.{BarrierAnd, BarrierOr}
 use Rattle.hq_job.specs.Access.{AreOfQueue}
 use Rattle.hq_order.specs.Placing.{OfDependencies}
 use Rattle.hq_order.specs.Rounds.{Precedes, Awaits, Direct}
-use Rattle.hq_model.specs.Order.{ByBit, AwaitsAny, Whichever}
+use Rattle.hq_model.specs.Order.{AwaitsAny, Whichever}
+use Rattle.hq_model.proofs.Orders.{bit_packet, earlier_packet}
 use Rattle.hq_order.specs.Rounds.Precedes.{by_bit, by_queue}
 use Rattle.hq_order.specs.Rounds.Awaits.{by_and, by_or}
 
@@ -24,7 +25,7 @@ further : (job : Job) (p q r : ℕ) → Earlier job p q → Earlier job q r → 
 further job p q r e f = record { ahead = omega (arith, e.ahead, f.ahead); is_packet = f.is_packet; same_queue = e.same_queue ∙ f.same_queue }
 
 -- what stays ahead of a packet of the queue stays ahead of the later ones
-precedes_further : (job : Job) (p q r : ℕ) → Earlier job q r → Precedes job p q → Precedes job p r
+pub precedes_further : (job : Job) (p q r : ℕ) → Earlier job q r → Precedes job p q → Precedes job p r
 precedes_further job p q r f (by_bit {j} by) = by_bit {j = j} (record { earlier = by.earlier; bit = by.bit; upto = inr (elim by.upto [
   | inl is ↦ subst (λ k. Earlier job k r) (sym is) f
   | inr g ↦ further job j q r g f
@@ -101,21 +102,14 @@ awaits_or job p r any = (
     back (by_and by) = absurd (let x : BarrierOr ≡ BarrierAnd = sym any.kind ∙ by.kind in cc)
     back (by_or any all) = all
 
-pub earlier_first : (job : Job) (p r : ℕ) → Earlier job p r → IsPacket job p
-earlier_first job p r e = let a : p < r = e.ahead in let b : r < length job.packets = e.is_packet in omega arith
-
 pub direct_packet : (job : Job) (p r : ℕ) → IsPacket job r → Direct job p r → IsPacket job p
-direct_packet job p r l (inl (by_bit {j} by)) = earlier_first job p j by.earlier
-direct_packet job p r l (inl (by_queue by)) = earlier_first job p r by.earlier
+direct_packet job p r l (inl (by_bit {j} by)) = earlier_packet job p j by.earlier
+direct_packet job p r l (inl (by_queue by)) = earlier_packet job p r by.earlier
 direct_packet job p r l (inr (by_and by)) = by.decrements.is_packet
 direct_packet job p r l (inr (by_or any c)) = let (slot, s, d) = any.some in (c slot s d).is_packet
 
 pub few : (job : JobValue) (r : ℕ) → IsPacket (plan job) r → r < length job.packets
 few job r l = omega (arith, count job)
-
--- the packet behind a barrier bit is one
-pub bit_packet : (job : Job) (p r : ℕ) {j : ℕ} → ByBit job p r j → IsPacket job r
-bit_packet job p r by = elim by.upto [ inl is ↦ subst (IsPacket job) is by.earlier.is_packet | inr f ↦ f.is_packet ]
 
 pub direct_packet_r : (job : Job) (p r : ℕ) → Direct job p r → IsPacket job r
 direct_packet_r job p r (inl (by_bit by)) = bit_packet job p r by
@@ -137,6 +131,16 @@ earlier_range job queue start stop p r q e l = (
       let inside : r < stop = (q.within r l e).1 in
       record { ahead = h.0; is_packet = l; same_queue = (q.of_queue p h.1 (let ahead : p < r = h.0 in omega arith)).1 ∙ sym e },
 )
+
+-- what stays ahead of r stands ahead of it in its queue, so that nothing does where r is the first
+pub precedes_earlier : (job : Job) (p r : ℕ) → Precedes job p r → Earlier job p r
+precedes_earlier job p r (by_bit {j} by) = elim by.upto [ inl is ↦ subst (Earlier job p) is by.earlier | inr f ↦ further job p j r by.earlier f ]
+precedes_earlier job p r (by_queue by) = by.earlier
+
+pub none_precedes : (job : Job) (queue start stop p r : ℕ) → AreOfQueue job queue start stop → (packet job r).queue ≡ queue → IsPacket job r → r ≤ start → Precedes job p r → ⊥
+none_precedes job queue start stop p r q e l first x =
+    let within = (earlier_range job queue start stop p r q e l).0 (precedes_earlier job p r x) in
+    omega (arith, within.0, within.1, first)
 
 -- the one ahead of r, which isn't the first
 pub next_of_queue : (job : Job) (queue start stop r : ℕ) → AreOfQueue job queue start stop → (packet job r).queue ≡ queue → IsPacket job r → start < r → StandsNext job (r - 1) r

@@ -49,6 +49,14 @@ pub fn insert(row: &mut [u64], number: usize)
     row[number / 64] |= 1 << (number % 64);
 }
 
+/// Takes all numbers out.
+pub fn clear(row: &mut [u64])
+    ensures none { (p : ℕ) → has row.new p ≡ false }
+    ensures len { length row.new ≡ length row.old }
+{
+    row.fill(0);
+}
+
 /// The bits of a word from one on up to another.
 fn bits_between(from: usize, to: usize) -> u64
     requires order { from ≤ to }

@@ -8,7 +8,7 @@ ghost use Rattle.hq_order.specs.Matrix.{row, Marks};
 ghost use Rattle.hq_order.specs.Placing.{AllAre, Completing};
 ghost use Rattle.hq_order.specs.Rounds.{Precedes, Awaits, Direct};
 
-use crate::bits::{full, insert, insert_all, meet, unite};
+use crate::bits::{clear, full, insert, insert_all, meet, unite};
 use crate::needs::unite_dependencies;
 use hq_job::Job;
 use hq_packet::Packet;
@@ -25,7 +25,7 @@ pub fn go_on(ahead: &mut [u64], job: &Job, r: usize)
     let placed = job.packet(r);
     let start = job.of_queue(placed.queue as usize).start;
     if r <= start {
-        ahead.fill(0);
+        clear(ahead);
     } else if placed.packet.head().barrier {
         insert_all(ahead, start, r);
     } else if job.is_barrier(r - 1) {

@@ -30,7 +30,7 @@ fn next_place(job: &Job, places: &[usize], number: usize) -> usize
     requires number { number < length job.now.packets }
     ensures { result ≡ place_in_queue (plan job.now) number }
 {
-    if number > 0 && same_queue(job, number - 1, number) {
+    if number > 0 && job.same_queue(number - 1, number) {
         places[number - 1] + 1
     } else {
         place_in_queue(job, number)

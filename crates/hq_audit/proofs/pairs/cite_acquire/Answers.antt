@@ -1,7 +1,6 @@
 use Rattle.std.proofs.Common.{sym, ap, subst, ◌∙◌}
 use Rattle.hq_fence.specs.Judgement.{IsAcquire, first_of}
 use Rattle.hq_model.specs.Certificate.{AcquireHolds}
-use Rattle.hq_packet.specs.declared.packet.Scope.TheVariants as scope
 use Rattle.hq_audit.specs.Drafted.{acquire_by}
 use Rattle.hq_audit.specs.Kept.{lines_of}
 use Rattle.hq_audit.proofs.Adding.{goes_more}

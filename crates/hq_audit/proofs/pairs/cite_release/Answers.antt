@@ -1,7 +1,6 @@
 use Rattle.std.proofs.Common.{sym, ap, subst, ◌∙◌}
 use Rattle.hq_fence.specs.Judgement.{IsRelease, end_of}
 use Rattle.hq_model.specs.Certificate.{ReleaseHolds}
-use Rattle.hq_packet.specs.declared.packet.Scope.TheVariants as scope
 use Rattle.hq_audit.specs.Drafted.{release_by}
 use Rattle.hq_audit.specs.Kept.{lines_of}
 use Rattle.hq_audit.proofs.Adding.{goes_more}

@@ -2,7 +2,6 @@ use Rattle.std.proofs.Common.{refl, sym, subst}
 use Rattle.hq_cert.specs.View.{cited}
 use Rattle.hq_model.specs.Certificate.{FencesHold}
 use Rattle.hq_model.specs.Certificate.Fences.{ForWriteWriteChained}
-use Rattle.hq_packet.specs.declared.packet.Scope.TheVariants as scope
 use Rattle.hq_audit.specs.Kept.{lines_of, Goes}
 use Rattle.hq_audit.proofs.Adding.{goes_more}
 use Rattle.hq_audit.proofs.Fencing.{says_later, cites_later}

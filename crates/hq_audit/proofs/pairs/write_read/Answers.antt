@@ -1,5 +1,4 @@
 use Rattle.std.proofs.Common.{refl}
-use Rattle.hq_model.specs.Fence.{need}
 use Rattle.hq_audit.specs.Kept.{Goes}
 use Rattle.hq_audit.proofs.Adding.{goes_more}
 use Rattle.hq_audit.proofs.Fencing.{cites_later, says_later}

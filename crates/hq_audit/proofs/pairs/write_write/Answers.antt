@@ -1,5 +1,4 @@
 use Rattle.std.proofs.Common.{refl}
-use Rattle.hq_model.specs.Fence.{need}
 use Rattle.hq_audit.proofs.Adding.{goes_more}
 use Rattle.hq_audit.proofs.Fencing.{cites_later}
 use Rattle.hq_audit.proofs.pairs.write_write.Goals as goal

@@ -1,10 +1,39 @@
-use Rattle.std.proofs.Common.{◌≡◌, ◌-◌, ◌<◌, inl, inr, true, false, sym, ◌∙◌, ap, arith}
+use Rattle.std.proofs.Common.{◌≡◌, ◌-◌, ◌<◌, inl, inr, true, false, refl, sym, ◌∙◌, ap, arith}
 use Rattle.hq_job.specs.Plan.{plan}
 use Rattle.hq_model.specs.Job.{IsBarrier}
 use Rattle.hq_order.specs.Bits.{has}
 use Rattle.hq_order.proofs.Crossing.{mark_bit}
-use Rattle.hq_order.proofs.Single.{next_of_queue, precedes_next}
+use Rattle.hq_order.specs.Rounds.Precedes.{by_bit}
+use Rattle.hq_order.proofs.Single.{earlier_range, next_of_queue, none_precedes, precedes_earlier, precedes_further, precedes_next}
 use Rattle.hq_order.proofs.direct.go_on.Goals as goal
+
+pub returns-then-r-start : goal.returns-then-r-start
+returns-then-r-start c = λ p.
+    let job = plan c.args.job.now in
+    let queue = c.packet-placed.result.now.queue in
+    let start = c.of_queue-start.result.start in
+    let is = sym (ap (λ q. q.queue) c.packet-placed.ensures) in
+    (λ h. absurd (let x : false ≡ true = sym (c.clear.ensures.none p) ∙ h in cc), λ x. absurd (none_precedes job queue start c.of_queue-start.result.end p c.args.r c.of_queue-start.ensures is c.requires.r_is c.if-r-start.true x))
+
+pub returns-then-head : goal.returns-then-head
+returns-then-head c = λ p.
+    let job = plan c.args.job.now in
+    let r = c.args.r in
+    let queue = c.packet-placed.result.now.queue in
+    let start = c.of_queue-start.result.start in
+    let stop = c.of_queue-start.result.end in
+    let is = sym (ap (λ q. q.queue) c.packet-placed.ensures) in
+    let above : start < r = let n = c.if-r-start.false in omega arith in
+    let next = next_of_queue job queue start stop r c.of_queue-start.ensures is c.requires.r_is above in
+    let bit = ap (λ h. h.barrier) c.head.ensures ∙ ap (λ q. q.bit) c.packet-placed.ensures in
+    let range = earlier_range job queue start stop p r c.of_queue-start.ensures is c.requires.r_is in
+    let e = c.insert_all.ensures p in (
+      λ h. elim (e.0 h) [
+        | inl old ↦ precedes_further job p (r - 1) r next.0 ((c.requires.ahead p).0 old).1
+        | inr within ↦ by_bit {j = r} (record { earlier = range.1 within; bit = sym bit ∙ c.if-head.true; upto = inl refl })
+      ],
+      λ x. e.1 (inr (range.0 (precedes_earlier job p r x))),
+    )
 
 pub returns-then-is_barrier : goal.returns-then-is_barrier
 returns-then-is_barrier c = λ p.

@@ -1,6 +1,6 @@
 use Rattle.std.proofs.Common.{arith}
 use Rattle.std.proofs.lemmas.Grind.{common_steps}
-use Rattle.hq_job.proofs.asking.Job.is_packet.Goals as goal
+use Rattle.hq_job.proofs.job.Job.is_packet.Goals as goal
 
 pub returns : goal.returns
 returns c = grind (arith, common_steps)

@@ -1,6 +1,6 @@
 use Rattle.std.proofs.Common.{arith}
 use Rattle.std.proofs.lemmas.Grind.{common_steps}
-use Rattle.hq_job.proofs.asking.Job.agent_of.Goals as goal
+use Rattle.hq_job.proofs.job.Job.agent_of.Goals as goal
 
 pub packet-requires : goal.packet-requires
 packet-requires c = grind (arith, common_steps)
