@@ -1,8 +1,7 @@
 -- Pair lines that are made part by part.
-use Rattle.std.proofs.Common.{◌≡◌, ℕ, ◌+◌, ◌*◌, ◌<◌, ◌≤◌, ◌⊎◌, inl, inr, List, [], ◌∷◌, ◌++◌, length, refl, sym, ◌∙◌, ap, subst, arith, slice_index_or, map}
+use Rattle.std.proofs.Common.{◌≡◌, ℕ, ◌+◌, ◌*◌, ◌<◌, ◌≤◌, ◌⊎◌, inl, inr, List, [], ◌∷◌, ◌++◌, length, refl, sym, ◌∙◌, ap, subst, arith, slice_index_or, map, Option, Some}
+use Rattle.std.specs.Prelude.{IfSome}
 use Rattle.std.specs.Global.{Vec}
-use Rattle.std.proofs.Math.ListN.{get_or-append}
-use Rattle.std.proofs.Math.Seq.{get_or-append_seam}
 use Rattle.std.proofs.lemmas.Bool.{cases_eq, cases_lt}
 use Rattle.std.proofs.lemmas.List.{map-append}
 use Rattle.std.proofs.lemmas.List.Elements.{All-append}
@@ -14,8 +13,12 @@ use Rattle.hq_model.specs.Job.{Job, IsPacket}
 use Rattle.hq_model.specs.Fence.{Conflict}
 use Rattle.hq_model.specs.Certificate as model
 use Rattle.hq_model.specs.Certificate.{FencesHold}
-use Rattle.hq_audit.specs.Paired.{pairs_of, Longer, HasPairIn, HasAll, AllHold, RowPaired, RowsPaired, AllPaired, SameHeads}
-use Rattle.hq_audit.specs.Rowed.{RowsBetween, DraftsRows, AllDraft, IsWhole, CitesRows}
+use Rattle.hq_audit.specs.Paired.{pairs_of, Fenced, Longer, HasPairIn, HasAll, AllHold, RowPaired, RowsPaired, AllPaired, SameHeads}
+use Rattle.hq_cert.specs.declared.certificate.Fences.{Fences}
+use Rattle.hq_audit.specs.declared.lines.Lines.{Lines}
+use Rattle.hq_audit.specs.Kept.{lines_of, Kept}
+use Rattle.hq_audit.specs.Rowed.{RowsBetween, DraftsRows, IsWhole, CitesRows, AllMayCite, Holds}
+use Rattle.hq_audit.proofs.Adding.{goes_same}
 use Rattle.hq_audit.proofs.Pairing.{one_later}
 use Rattle.hq_audit.proofs.Numbering.{all_cited}
 
@@ -26,21 +29,6 @@ rows_next job from a ps qs h l o = λ q s low upto above is. elim (cases_eq q a)
   | inl e ↦ let above' : a < s = omega arith in subst (λ x. HasAll job qs x s ⊎ HasAll job qs s x) (sym e) (o s above' is is)
   | inr apart ↦ one_later job ps qs q s l (h q s low (omega arith) above is)
 ]
-
--- ---- all parts
-
-pub all_draft_more : (job : Job) (xs : List (Vec Pair)) (v : Vec Pair) → AllDraft job xs → DraftsRows job (length xs * 64) (length xs * 64 + 64) v → AllDraft job (xs ++ v ∷ [])
-all_draft_more job xs v h o = λ k d low. elim (cases_lt k (length xs)) [
-  | inl before ↦ subst (DraftsRows job (k * 64) (k * 64 + 64)) (sym (get_or-append xs (v ∷ []) d k before)) (h k d before)
-  | inr behind ↦
-      let last : k ≡ length xs = omega (arith, low, behind, length_more xs v) in
-      subst (λ n. DraftsRows job (n * 64) (n * 64 + 64) (slice_index_or (xs ++ v ∷ []) n d)) (sym last)
-      (subst (DraftsRows job (length xs * 64) (length xs * 64 + 64)) (sym (get_or-append_seam xs v [] d)) o)
-]
-  where
-    length_more : (ys : List (Vec Pair)) (w : Vec Pair) → length (ys ++ w ∷ []) ≡ length ys + 1
-    length_more [] w = refl
-    length_more (y ∷ ys) w = omega (arith, length_more ys w)
 
 -- ---- with their numbers
 
@@ -53,7 +41,22 @@ cited_rows job lines a b v w d h s = record {
   ];
 }
 
+-- what is known by lines that stay as they are
+pub fenced : (job : Job) (l : Lines) (kind : Conflict) (p r : ℕ) (fences : Fences) → Kept job l → Holds job (lines_of l) kind p r fences → Fenced job l l kind p r fences
+fenced job l kind p r fences kept h = record { goes = goes_same job l kept; hold = h.hold; kind_is = h.kind_is }
+
 -- ---- one part behind another
+
+-- the part that stands in the list, where it is there
+pub part_cited : (job : Job) (lines : List model.Line) (first now : List (Option (Vec Pair))) (i : ℕ) (item : Option (Vec Pair)) (v : Vec Pair) → AllMayCite job lines first → i < length first
+    → item ≡ slice_index_or now i item → slice_index_or now i item ≡ slice_index_or first i item → item ≡ Some v → CitesRows job lines (i * 64) (i * 64 + 64) v
+part_cited job lines first now i item v all low is same some = subst (λ (o : Option (Vec Pair)). IfSome o (CitesRows job lines (i * 64) (i * 64 + 64))) (sym (is ∙ same) ∙ some) (all i item low)
+
+pub hold_none : (job : Job) (lines : List model.Line) (v : Vec Pair) → v.items ≡ [] → AllHold job lines (pairs_of v)
+hold_none job lines v e = subst (λ (xs : List Pair). AllHold job lines (map pair_of xs)) (sym e) (λ k d low. absurd (omega (arith, low)))
+
+pub rows_none : (job : Job) (ps : List model.Pair) → RowsPaired job ps 0
+rows_none job ps = λ q s low above is. absurd (omega (arith, low))
 
 longer_front : (xs ys : List model.Pair) → Longer xs (xs ++ ys)
 longer_front xs ys = record { pairs = λ k pair t. let low : k < length xs = slice_get_within xs k pair t in get_before xs ys k low ∙ t }

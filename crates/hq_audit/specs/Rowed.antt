@@ -28,9 +28,6 @@ MayDraft job k drafts = IfSome drafts (λ d. DraftsRows job (k * 64) (k * 64 + 6
 abbrev pub AllMayDraft : Job → List (Option Drafts) → Type 0
 AllMayDraft job parts = (k : ℕ) (d : Option Drafts) → k < length parts → MayDraft job k (slice_index_or parts k d)
 
-abbrev pub AllDraft : Job → List (Vec Pair) → Type 0
-AllDraft job parts = (k : ℕ) (d : Vec Pair) → k < length parts → DraftsRows job (k * 64) (k * 64 + 64) (slice_index_or parts k d)
-
 -- there are all parts of a job
 abbrev pub IsWhole : Job → ℕ → Type 0
 IsWhole job count = length job.packets < count * 64
@@ -43,6 +40,10 @@ pub record CitesRows (job : Job) (lines : List model.Line) (a b : ℕ) (pairs : 
 -- so are those of each part, where it is there
 abbrev pub AllMayCite : Job → List model.Line → List (Option (Vec Pair)) → Type 0
 AllMayCite job lines parts = (k : ℕ) (d : Option (Vec Pair)) → k < length parts → IfSome (slice_index_or parts k d) (CitesRows job lines (k * 64) (k * 64 + 64))
+
+-- whichever packets' pair lines a part has as they are judged, it has with their numbers, where it is there
+abbrev pub CitesPart : Job → List model.Line → Option Drafts → Option (Vec Pair) → Type 0
+CitesPart job lines part cited = (a b : ℕ) → IfSome part (λ d. DraftsRows job a b d.pairs) → IfSome cited (CitesRows job lines a b)
 
 -- the fences, with what they cite, order a conflict of this kind of p with r
 pub record Holds (job : Job) (lines : List model.Line) (kind : Conflict) (p r : ℕ) (fences : Fences) : Type 0 where

@@ -1,6 +1,6 @@
 //! The lines that pair lines cite, where all of these are there.
 
-ghost use Rattle.std.specs.Prelude.{◌≡◌, ◌<◌, IfSome, IsTrue, length, map};
+ghost use Rattle.std.specs.Prelude.{◌≡◌, ℕ, IfSome, IsTrue, length, map};
 ghost use Rattle.hq_model.specs.Order as order;
 ghost use Rattle.hq_model.specs.Fence as model;
 ghost use Rattle.hq_model.specs.Certificate.{Cites, kind_of};
@@ -11,10 +11,11 @@ ghost use Rattle.hq_packet.specs.declared.packet.Scope.TheVariants as scope;
 ghost use Rattle.hq_audit.specs.Kept.{lines_of, Kept};
 ghost use Rattle.hq_audit.specs.Drafted.{acquire_by, release_by, Drafted, AllDrafted};
 ghost use Rattle.hq_audit.specs.Paired.{pairs_of, ReleaseCited, AcquireCited, AllHold, SameHeads};
-ghost use Rattle.hq_audit.specs.Rowed.{Holds, AllDraft, AllMayCite};
+ghost use Rattle.hq_audit.specs.Rowed.{Holds, AllMayDraft, AllMayCite, CitesPart, CitesRows, DraftsRows};
 
 use crate::lines::Lines;
 use crate::pairs::{CitedAcquire, CitedRelease};
+use crate::spreading::Drafts;
 use hq_cert::{Citation, Fences, Pair, ReadChain, WriteChain};
 use hq_order::Before;
 use std::alloc::Global;
@@ -65,7 +66,10 @@ fn write_chain(
         link,
         on,
     };
-    Some(Fences::WriteWriteChained(Box::new(alloc, chain).ok()?))
+    match Box::new(alloc, chain) {
+        Ok(chain) => Some(Fences::WriteWriteChained(chain)),
+        Err(_) => None,
+    }
 }
 
 /// What is cited for a release of p: by x alone where the link is `=`, else from x to x2.
@@ -164,18 +168,14 @@ fn read_chain(
         link2: acquire.link2,
         to: acquire.to,
     };
-    Some(Fences::WriteReadChained(Box::new(alloc, chain).ok()?))
+    match Box::new(alloc, chain) {
+        Ok(chain) => Some(Fences::WriteReadChained(chain)),
+        Err(_) => None,
+    }
 }
 
 /// What orders a write and a read, where x alone releases and y alone acquires.
-fn write_read(
-    lines: &Lines,
-    before: &Before,
-    p: usize,
-    r: usize,
-    x: u32,
-    y: u32,
-) -> Option<Fences>
+fn write_read(lines: &Lines, before: &Before, p: usize, r: usize, x: u32, y: u32) -> Option<Fences>
     requires releases { model.Releases before.now p x (model.need before.now p r) }
     requires acquires { model.Acquires before.now r y (model.need before.now p r) }
     ensures { IfSome result (Holds before.now (lines_of lines.now) model.Conflict.WriteRead p r) }
@@ -241,21 +241,33 @@ fn cite_known(pairs: &mut [Pair], lines: &Lines, alloc: Global, before: &Before)
 }
 
 /// The pair lines with the numbers of the lines that they cite, if these are there.
-fn cite_part(
-    lines: &Lines,
-    alloc: Global,
-    before: &Before,
-    mut pairs: Vec<Pair>,
-) -> Option<Vec<Pair>>
+fn cite_drafts(lines: &Lines, alloc: Global, before: &Before, drafts: Drafts) -> Option<Vec<Pair>>
     requires kept { Kept before.now lines.now }
-    requires drafted { AllDrafted before.now (pairs_of pairs) }
-    ensures hold { IfSome result (λ now. AllHold before.now (lines_of lines.now) (pairs_of now)) }
-    ensures heads { IfSome result (λ now. SameHeads pairs.items now.items) }
+    requires drafted { AllDrafted before.now (pairs_of drafts.pairs) }
+    ensures { (a b : ℕ) → DraftsRows before.now a b drafts.pairs → IfSome result (CitesRows before.now (lines_of lines.now) a b) }
 {
+    let mut pairs = drafts.pairs;
     if cite_known(&mut pairs, lines, alloc, before) {
         Some(pairs)
     } else {
         None
+    }
+}
+
+/// Those of a part, if it is there.
+fn cite_part(
+    lines: &Lines,
+    alloc: Global,
+    before: &Before,
+    part: Option<Drafts>,
+) -> Option<Vec<Pair>>
+    requires kept { Kept before.now lines.now }
+    requires drafted { IfSome part (λ d. AllDrafted before.now (pairs_of d.pairs)) }
+    ensures { CitesPart before.now (lines_of lines.now) part result }
+{
+    match part {
+        Some(drafts) => cite_drafts(lines, alloc, before, drafts),
+        None => None,
     }
 }
 
@@ -265,20 +277,23 @@ pub fn cite_wide<R: Threads + Sync>(
     lines: &Lines,
     alloc: Global,
     before: &Before,
-    parts: Vec<Vec<Pair>>,
+    parts: Vec<Option<Drafts>>,
 ) -> Option<Vec<Option<Vec<Pair>>>>
     requires kept { Kept before.now lines.now }
-    requires drafts { AllDraft before.now parts.items }
+    requires drafts { AllMayDraft before.now parts.items }
     ensures each { IfSome result (λ all. AllMayCite before.now (lines_of lines.now) all.items) }
     ensures count { IfSome result (λ all. length all.items ≡ length parts.items) }
 {
     let cited = thread::map_vec(
         rt,
         parts,
-        &|pairs: Vec<Pair>| -> Option<Vec<Pair>>
-            requires { Kept before.now lines.now × AllDrafted before.now (pairs_of pairs) }
-            ensures { IfSome result (λ now. AllHold before.entry.now (lines_of lines.entry.now) (pairs_of now) × SameHeads pairs.items now.items) }
-        { cite_part(lines, alloc, before, pairs) },
+        &|part: Option<Drafts>| -> Option<Vec<Pair>>
+            requires { Kept before.now lines.now × IfSome part (λ d. AllDrafted before.now (pairs_of d.pairs)) }
+            ensures { CitesPart before.entry.now (lines_of lines.entry.now) part result }
+        { cite_part(lines, alloc, before, part) },
     );
-    cited.ok()
+    match cited {
+        Ok(cited) => Some(cited),
+        Err(_) => None,
+    }
 }

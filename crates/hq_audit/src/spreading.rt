@@ -1,9 +1,8 @@
 //! Pair lines as pairs are judged in many threads.
 
-ghost use Rattle.std.specs.Prelude.{◌≡◌, ◌+◌, ◌*◌, ◌<◌, IfOk, IfSome, length};
-ghost use Rattle.hq_audit.specs.Paired.{pairs_of};
+ghost use Rattle.std.specs.Prelude.{◌+◌, ◌*◌, ◌<◌, IfOk, IfSome, length};
 ghost use Rattle.hq_audit.specs.Parts.{AreParts};
-ghost use Rattle.hq_audit.specs.Rowed.{DraftsRows, MayDraft, AllMayDraft, AllDraft, IsWhole};
+ghost use Rattle.hq_audit.specs.Rowed.{DraftsRows, MayDraft, AllMayDraft, IsWhole};
 
 use crate::drafting::add_row;
 use crate::fault::AuditNo;
@@ -20,8 +19,8 @@ const ROWS: usize = 64;
 
 /// The pair lines of a part, in which no line has its number yet, and which lines they need.
 #[derive(Drop)]
-struct Drafts {
-    pairs: Vec<Pair>,
+pub struct Drafts {
+    pub pairs: Vec<Pair>,
     needs: Needs,
 }
 
@@ -50,7 +49,10 @@ fn draft_part(alloc: Global, before: &Before, parts: &Parts, k: usize) -> Option
     requires few { k < 1024 }
     ensures { MayDraft before.now k result }
 {
-    draft_rows(alloc, before, parts, k * ROWS, k * ROWS + ROWS).ok()
+    match draft_rows(alloc, before, parts, k * ROWS, k * ROWS + ROWS) {
+        Ok(drafts) => Some(drafts),
+        Err(_) => None,
+    }
 }
 
 /// Those of all parts, each in a thread of its own.
@@ -75,27 +77,19 @@ fn draft_parts<R: Threads + Sync>(
             ensures { MayDraft before.entry.now k result }
         { draft_part(alloc, before, parts, k) },
     );
-    drafted.ok()
+    match drafted {
+        Ok(drafted) => Some(drafted),
+        Err(_) => None,
+    }
 }
 
-/// The pair lines of each part, if all are there; takes in which lines they need.
-fn gathered(
-    needs: &mut Needs,
-    alloc: Global,
-    before: &Before,
-    drafted: Vec<Option<Drafts>>,
-) -> Option<Vec<Vec<Pair>>>
-    requires { AllMayDraft before.now drafted.items }
-    ensures each { IfSome result (λ all. AllDraft before.now all.items) }
-    ensures count { IfSome result (λ all. length all.items ≡ length drafted.items) }
-{
-    let mut all = Vec::with_capacity(alloc, drafted.len()).ok()?;
+/// Takes in which lines all parts need.
+fn take_all(needs: &mut Needs, drafted: &[Option<Drafts>]) {
     for part in drafted {
-        let drafts = part?;
-        needs.take_in(&drafts.needs);
-        all.push(drafts.pairs).ok()?;
+        if let Some(drafts) = part {
+            needs.take_in(&drafts.needs);
+        }
     }
-    Some(all)
 }
 
 /// The pair lines of all packets, part by part, in which no line has its number yet, unless a pair isn't ordered or there is no memory;
@@ -106,11 +100,15 @@ pub fn draft_wide<R: Threads + Sync>(
     alloc: Global,
     before: &Before,
     parts: &Parts,
-) -> Option<Vec<Vec<Pair>>>
+) -> Option<Vec<Option<Drafts>>>
     requires { AreParts before.now parts.now }
-    ensures each { IfSome result (λ all. AllDraft before.now all.items) }
+    ensures each { IfSome result (λ all. AllMayDraft before.now all.items) }
     ensures whole { IfSome result (λ all. IsWhole before.now (length all.items)) }
 {
     let drafted = draft_parts(rt, alloc, before, parts)?;
-    gathered(needs, alloc, before, drafted)
+    if drafted.iter().any(|part| part.is_none()) {
+        return None;
+    }
+    take_all(needs, &drafted);
+    Some(drafted)
 }

@@ -1,6 +1,6 @@
 //! The audit of a job in many threads.
 
-ghost use Rattle.std.specs.Prelude.{◌≡◌, ◌*◌, IfOk, IfErr, IfSome, IsOk, length};
+ghost use Rattle.std.specs.Prelude.{◌≡◌, ◌*◌, [], ◌++◌, IfOk, IfErr, IfSome, IsOk, IsTrue, length};
 ghost use Rattle.hq_job.specs.Plan.{plan};
 ghost use Rattle.hq_model.specs.Certificate.{CertHolds};
 ghost use Rattle.hq_model.specs.Fence.{Ordered};
@@ -30,23 +30,53 @@ use std::thread::Threads;
 /// How many packets are worth more than one thread.
 const MANY: usize = 256;
 
+/// Adds the pair lines of a part, which loses them; answers whether there was memory for it.
+fn add_part(all: &mut Vec<Pair>, pairs: &mut Vec<Pair>) -> bool
+    ensures { IsTrue result → all.new.items ≡ all.old.items ++ pairs.old.items }
+{
+    all.append(pairs).is_ok()
+}
+
+/// Adds the pair lines of all parts, one part behind another; answers whether all are there.
+fn join(
+    all: &mut Vec<Pair>,
+    before: &Before,
+    lines: &Lines,
+    parts: &mut [Option<Vec<Pair>>],
+) -> bool
+    requires parts { AllMayCite before.now (lines_of lines.now) parts.old }
+    requires empty { all.old.items ≡ [] }
+    ensures hold { IsTrue result → AllHold before.now (lines_of lines.now) (pairs_of all.new) }
+    ensures paired { IsTrue result → RowsPaired before.now (pairs_of all.new) (length parts.old * 64) }
+{
+    for part in parts.iter_mut() {
+        let Some(pairs) = part else {
+            return false;
+        };
+        if !add_part(all, pairs) {
+            return false;
+        }
+    }
+    true
+}
+
 /// The pair lines of all parts, one part behind another, if all are there.
 fn joined(
     alloc: Global,
     before: &Before,
     lines: &Lines,
-    parts: Vec<Option<Vec<Pair>>>,
+    mut parts: Vec<Option<Vec<Pair>>>,
 ) -> Option<Vec<Pair>>
     requires { AllMayCite before.now (lines_of lines.now) parts.items }
     ensures hold { IfSome result (λ all. AllHold before.now (lines_of lines.now) (pairs_of all)) }
     ensures paired { IfSome result (λ all. RowsPaired before.now (pairs_of all) (length parts.items * 64)) }
 {
     let mut all = Vec::new(alloc);
-    for part in parts {
-        let mut pairs = part?;
-        all.append(&mut pairs).ok()?;
+    if join(&mut all, before, lines, &mut parts) {
+        Some(all)
+    } else {
+        None
     }
-    Some(all)
 }
 
 /// The lines that are needed.
@@ -56,6 +86,34 @@ fn lines_for(alloc: Global, before: &Before, needs: Needs) -> Result<Lines, Allo
     let mut lines = Lines::new(alloc, before, needs)?;
     add_all(&mut lines, alloc, before)?;
     Ok(lines)
+}
+
+/// The same, if there is memory for them.
+fn lines_if(alloc: Global, before: &Before, needs: Needs) -> Option<Lines>
+    ensures { IfSome result (Kept before.now) }
+{
+    match lines_for(alloc, before, needs) {
+        Ok(lines) => Some(lines),
+        Err(_) => None,
+    }
+}
+
+/// The numbers in 32 bits, if there is memory for them.
+fn widened_if(alloc: Global, numbers: &[u16]) -> Option<Vec<u32>>
+    ensures { IfSome result (λ wide. wide.items ≡ numbers.now) }
+{
+    match widened(alloc, numbers) {
+        Ok(wide) => Some(wide),
+        Err(_) => None,
+    }
+}
+
+/// That no line is needed yet, if there is memory for it.
+fn no_needs(alloc: Global, before: &Before) -> Option<Needs> {
+    match Needs::new(alloc, before) {
+        Ok(needs) => Some(needs),
+        Err(_) => None,
+    }
 }
 
 /// The certificate of an order list, unless a pair isn't ordered or there is no memory.
@@ -70,12 +128,12 @@ fn certified_wide<R: Threads + Sync>(
     requires parts { AreParts before.now parts.now }
     ensures { IfSome result (λ c. CertHolds before.now c) }
 {
-    let mut needs = Needs::new(alloc, before).ok()?;
+    let mut needs = no_needs(alloc, before)?;
     let drafts = draft_wide(rt, &mut needs, alloc, before, parts)?;
-    let lines = lines_for(alloc, before, needs).ok()?;
+    let lines = lines_if(alloc, before, needs)?;
     let cited = cite_wide(rt, &lines, alloc, before, drafts)?;
     let pairs = joined(alloc, before, &lines, cited)?;
-    let order = widened(alloc, order).ok()?;
+    let order = widened_if(alloc, order)?;
     Some(Certificate::new(order, lines.into_lines(), pairs))
 }
 
