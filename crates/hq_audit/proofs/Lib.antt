@@ -8,3 +8,4 @@ pub mod Fencing
 pub mod Pairing
 pub mod Numbering
 pub mod Certifying
+pub mod Rowing

@@ -112,7 +112,7 @@ has_cited first now p r kind s h =
       kind_is = same.kind_is ∙ ap (λ (m : model.Pair). kind_of m.fences) e ∙ h.kind_is;
     }
 
-all_cited : (job : Job) (first now : List Pair) (p r : ℕ) → SameHeads first now → HasAll job (map pair_of first) p r → HasAll job (map pair_of now) p r
+pub all_cited : (job : Job) (first now : List Pair) (p r : ℕ) → SameHeads first now → HasAll job (map pair_of first) p r → HasAll job (map pair_of now) p r
 all_cited job first now p r s h = λ kind c. has_cited first now p r kind s (h kind c)
 
 pub paired_cited : (job : Job) (first now : List Pair) → SameHeads first now → AllPaired job (map pair_of first) → AllPaired job (map pair_of now)

@@ -4,5 +4,6 @@ pub mod Kept
 pub mod Marked
 pub mod Paired
 pub mod Drafted
+pub mod Rowed
 pub mod Refused
 pub mod Lawful

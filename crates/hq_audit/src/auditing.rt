@@ -23,7 +23,7 @@ use hq_order::{Before, schedule};
 use std::alloc::{AllocError, Global};
 
 /// The numbers in 32 bits.
-fn widened(alloc: Global, numbers: &[u16]) -> Result<Vec<u32>, AllocError>
+pub fn widened(alloc: Global, numbers: &[u16]) -> Result<Vec<u32>, AllocError>
     ensures { IfOk result (λ wide. wide.items ≡ numbers.now) }
 {
     let mut wide = Vec::with_capacity(alloc, numbers.len())?;
@@ -34,7 +34,7 @@ fn widened(alloc: Global, numbers: &[u16]) -> Result<Vec<u32>, AllocError>
 }
 
 /// The certificate of an order list, of these needs and of pair lines in which no line has its number yet.
-fn certified(
+pub fn certified(
     alloc: Global,
     before: &Before,
     order: &[u16],

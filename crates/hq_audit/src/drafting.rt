@@ -267,7 +267,7 @@ fn add_pair(
 }
 
 /// Adds the pair lines of a with the packets above it.
-fn add_row(
+pub fn add_row(
     pairs: &mut Vec<Pair>,
     needs: &mut Needs,
     alloc: Global,

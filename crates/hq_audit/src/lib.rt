@@ -7,6 +7,7 @@
 #![tactic(auto)]
 
 mod auditing;
+mod citing;
 mod directed;
 mod drafting;
 mod fault;
@@ -19,7 +20,9 @@ mod needs;
 mod pairs;
 mod parts;
 mod slots;
+mod spreading;
 mod verdicts;
+mod wide;
 
 pub use auditing::audit;
 pub use directed::{Directed, Unshown, direct};
@@ -27,3 +30,4 @@ pub use fault::AuditNo;
 pub use hq_fence::{Kind, Why};
 pub use parts::{Others, Parts};
 pub use verdicts::{all_shown, verdict};
+pub use wide::audit_wide;

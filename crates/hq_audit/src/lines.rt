@@ -80,7 +80,7 @@ impl Lines {
     }
 
     /// The number of the line that p is before r, if there is one.
-    fn known(&self, p: usize, r: usize) -> Option<u32>
+    pub fn known(&self, p: usize, r: usize) -> Option<u32>
         ensures { MatchOption result (Unit {0}) (λ k. Says (lines_of self.now) (length (lines_of self.now)) k p r × (k + 1 < 2 ^ 32)) }
     {
         let slot = self.slots.slot(p, r)?;

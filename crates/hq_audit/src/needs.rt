@@ -39,6 +39,15 @@ impl Needs {
         self.bits
     }
 
+    /// The lines are needed too that others note as needed.
+    pub fn take_in(&mut self, others: &Needs) {
+        for (place, word) in self.bits.iter_mut().enumerate() {
+            if let Some(more) = others.bits.get(place) {
+                *word |= *more;
+            }
+        }
+    }
+
     /// Whether a line that p is before r is needed.
     fn has(&self, p: usize, r: usize) -> bool {
         match self.bits.get(place_of(p, r)) {

@@ -98,20 +98,20 @@ fn write_chain(
 
 /// A release, and what is cited for it: that p is x or before it, and that x is x2 or before it.
 #[derive(Clone, Copy, Debug)]
-struct CitedRelease {
-    x: u32,
-    x2: u32,
-    from: Citation,
-    link: Citation,
+pub struct CitedRelease {
+    pub x: u32,
+    pub x2: u32,
+    pub from: Citation,
+    pub link: Citation,
 }
 
 /// An acquire, and what is cited for it: that y2 is y or before it, and that y is r or before it.
 #[derive(Clone, Copy, Debug)]
-struct CitedAcquire {
-    y2: u32,
-    y: u32,
-    link2: Citation,
-    to: Citation,
+pub struct CitedAcquire {
+    pub y2: u32,
+    pub y: u32,
+    pub link2: Citation,
+    pub to: Citation,
 }
 
 /// What is cited for a release of p: by x alone where the link is `=`, else from x to x2.

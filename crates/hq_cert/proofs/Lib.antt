@@ -14,3 +14,4 @@ pub mod Nine
 pub mod Placed
 pub mod OnePass
 pub mod Taking
+pub mod Parting

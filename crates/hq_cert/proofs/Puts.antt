@@ -15,7 +15,7 @@ use Rattle.hq_cert.proofs.States.{lines_more}
 
 -- ---- with a writer
 
-appends_both : (a b c : Option (List ℕ)) (s t : List ℕ) → Appends a b s → Appends b c t → Appends a c (s ++ t)
+pub appends_both : (a b c : Option (List ℕ)) (s t : List ℕ) → Appends a b s → Appends b c t → Appends a c (s ++ t)
 appends_both None b c s t h k = tt
 appends_both (Some xs) None c s t h k = absurd h
 appends_both (Some xs) (Some ys) None s t h k = absurd k
@@ -59,16 +59,16 @@ next v (x ∷ xs) (suc i) d lt = ap (λ ys. v x ∷ ys) (next v xs i d (omega ar
 one_text : (ws : List (List ℕ)) → lines_text (ws ∷ []) ≡ line_text ws
 one_text ws = append-nil (line_text ws)
 
--- the text of the lines up to i, and of line i
-pub line_next : {A : Type 0} (v : A → model.Line) (xs : List A) (i : ℕ) (d : A) → i < length xs
-    → lines_text (lines_words 0 (map v (take i xs))) ++ line_text (line_words i (v (get_or xs i d))) ≡ lines_text (lines_words 0 (map v (take (i + 1) xs)))
-line_next v xs i d lt =
-    let long : 0 + length (map v (take i xs)) ≡ i = omega (arith, length-map (take i xs) v, length-take i xs) in
+-- the text of the lines up to i, of which the first has number n, and of the line behind them
+pub line_next : {A : Type 0} (v : A → model.Line) (n : ℕ) (xs : List A) (i : ℕ) (d : A) → i < length xs
+    → lines_text (lines_words n (map v (take i xs))) ++ line_text (line_words (n + i) (v (get_or xs i d))) ≡ lines_text (lines_words n (map v (take (i + 1) xs)))
+line_next v n xs i d lt =
+    let long : n + length (map v (take i xs)) ≡ n + i = omega (arith, length-map (take i xs) v, length-take i xs) in
     sym
-    (ap (λ ls. lines_text (lines_words 0 ls)) (rw add-one (next v xs i d lt))
-    ∙ ap lines_text (lines_more 0 (map v (take i xs)) (v (get_or xs i d)) ∙ ap (λ n. lines_words 0 (map v (take i xs)) ++ line_words n (v (get_or xs i d)) ∷ []) long)
-    ∙ flat_map-append line_text (lines_words 0 (map v (take i xs))) (line_words i (v (get_or xs i d)) ∷ [])
-    ∙ ap (λ t. lines_text (lines_words 0 (map v (take i xs))) ++ t) (one_text (line_words i (v (get_or xs i d)))))
+    (ap (λ ls. lines_text (lines_words n ls)) (rw add-one (next v xs i d lt))
+    ∙ ap lines_text (lines_more n (map v (take i xs)) (v (get_or xs i d)) ∙ ap (λ m. lines_words n (map v (take i xs)) ++ line_words m (v (get_or xs i d)) ∷ []) long)
+    ∙ flat_map-append line_text (lines_words n (map v (take i xs))) (line_words (n + i) (v (get_or xs i d)) ∷ [])
+    ∙ ap (λ t. lines_text (lines_words n (map v (take i xs))) ++ t) (one_text (line_words (n + i) (v (get_or xs i d)))))
 
 pub pair_next : {A B : Type 0} (f : B → List (List ℕ)) (v : A → B) (xs : List A) (i : ℕ) (d : A) → i < length xs
     → lines_text (map f (map v (take i xs))) ++ line_text (f (v (get_or xs i d))) ≡ lines_text (map f (map v (take (i + 1) xs)))
@@ -105,12 +105,12 @@ line_is k l =
 -- ---- the whole text
 
 -- the text by its parts
-text_parts : (head order last : List (List ℕ)) (ls ps : List (List (List ℕ))) → lines_text (head ∷ order ∷ (ls ++ (ps ++ last ∷ []))) ≡ line_text head ++ (line_text order ++ (lines_text ls ++ (lines_text ps ++ line_text last)))
+pub text_parts : (head order last : List (List ℕ)) (ls ps : List (List (List ℕ))) → lines_text (head ∷ order ∷ (ls ++ (ps ++ last ∷ []))) ≡ line_text head ++ (line_text order ++ (lines_text ls ++ (lines_text ps ++ line_text last)))
 text_parts head order last ls ps =
     ap (λ t. line_text head ++ (line_text order ++ t))
     (flat_map-append line_text ls (ps ++ last ∷ []) ∙ ap (λ t. lines_text ls ++ t) (flat_map-append line_text ps (last ∷ []) ∙ ap (λ t. lines_text ps ++ t) (one_text last)))
 
-any_map : {A B : Type 0} (p : B → Bool) (v : A → B) (xs : List A) → list_any (λ x. p (v x)) xs ≡ list_any p (map v xs)
+pub any_map : {A B : Type 0} (p : B → Bool) (v : A → B) (xs : List A) → list_any (λ x. p (v x)) xs ≡ list_any p (map v xs)
 any_map p v [] = refl
 any_map p v (x ∷ xs) = ap (λ b. p (v x) || b) (any_map p v xs)
 

@@ -11,3 +11,4 @@ pub mod OnePass
 pub mod Rows
 pub mod Gains
 pub mod SoFar
+pub mod Parted

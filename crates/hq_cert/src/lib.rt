@@ -20,6 +20,7 @@ mod reader;
 mod reading;
 mod rows;
 mod rules;
+mod wide;
 
 pub use certificate::{Branches, Certificate, Fences, Line, Pair, ReadChain, Rule, WriteChain};
 pub use citation::Citation;
@@ -28,3 +29,4 @@ pub use hq_text::ReadFault;
 pub use printing::{PrintFault, print};
 pub use reader::read;
 pub use reading::parse;
+pub use wide::print_wide;

@@ -1,6 +1,6 @@
 //! Certificates to texts.
 
-ghost use Rattle.std.specs.Prelude.{◌≡◌, ◌+◌, ◌≤◌, ◌∷◌, [], ◌++◌, map, IfOk, OnOk, Err, length, codes};
+ghost use Rattle.std.specs.Prelude.{◌≡◌, ◌+◌, ◌^◌, ◌<◌, ◌≤◌, ◌∷◌, [], ◌++◌, map, IfOk, OnOk, Err, length, codes};
 ghost use Rattle.std.specs.Fmt.{decimal};
 ghost use Rattle.std.specs.List.{list_any};
 ghost use Rattle.std.specs.Io.KnownBytes.{Appends};
@@ -36,7 +36,8 @@ fn is_chain(fences: &Fences) -> bool
     }
 }
 
-fn has_chain(pairs: &[Pair]) -> bool
+/// Whether a chained pair line is there.
+pub fn has_chain(pairs: &[Pair]) -> bool
     ensures { result ≡ list_any (λ pair. is_chain (pair_of pair).fences) pairs.now }
 {
     pairs.iter().any(|pair| is_chain(&pair.fences))
@@ -44,12 +45,12 @@ fn has_chain(pairs: &[Pair]) -> bool
 
 /// The writer failed.
 #[derive(Clone, Copy)]
-struct WriterFailed;
+pub struct WriterFailed;
 
 /// Writes what was put. Answers where the next text goes.
 #[cold]
 #[inline(never)]
-fn spill<W: Write>(bytes: &[u8], at: usize, writer: &mut W) -> Result<usize, WriterFailed>
+pub fn spill<W: Write>(bytes: &[u8], at: usize, writer: &mut W) -> Result<usize, WriterFailed>
     requires { at ≤ length bytes.now }
     ensures written { IfOk result (λ next. Gains (W.contents writer.old) bytes.now at (W.contents writer.new) bytes.now next []) }
     ensures front { IfOk result (λ next. next ≡ 0) }
@@ -160,29 +161,33 @@ fn write_rule<W: Write>(
     }
 }
 
-fn write_lines<W: Write>(
+/// Lines, of which the first has this number.
+pub fn write_lines<W: Write>(
     bytes: &mut [u8],
     start: usize,
     rows: &Rows,
+    first: usize,
     lines: &[Line],
     writer: &mut W,
 ) -> Result<usize, WriterFailed>
     requires within { start ≤ length bytes.old }
     requires long { 256 ≤ length bytes.old }
-    ensures written { IfOk result (λ end. Gains (W.contents writer.old) bytes.old start (W.contents writer.new) bytes.new end (lines_text (lines_words 0 (map line_of lines.now)))) }
+    requires few { first + length lines.now < 2 ^ 64 }
+    ensures written { IfOk result (λ end. Gains (W.contents writer.old) bytes.old start (W.contents writer.new) bytes.new end (lines_text (lines_words first (map line_of lines.now)))) }
     ensures within { IfOk result (λ end. end ≤ length bytes.new) }
 {
     let mut at = start;
     for (k, line) in lines.iter().enumerate() {
         at = make_room(bytes, at, writer)?;
-        at = put_line(bytes, at, rows, k, line);
+        at = put_line(bytes, at, rows, first + k, line);
         at = write_rule(bytes, at, rows, &line.rule, writer)?;
         at = put(bytes, at, b"\n");
     }
     Ok(at)
 }
 
-fn write_pairs<W: Write>(
+/// Pair lines.
+pub fn write_pairs<W: Write>(
     bytes: &mut [u8],
     start: usize,
     rows: &Rows,
@@ -203,7 +208,7 @@ fn write_pairs<W: Write>(
 }
 
 /// The first line and the order.
-fn write_order<W: Write>(
+pub fn write_order<W: Write>(
     bytes: &mut [u8],
     rows: &Rows,
     chained: bool,
@@ -233,7 +238,7 @@ fn write_text<W: Write>(
 {
     let chained = has_chain(certificate.pairs());
     let at = write_order(bytes, rows, chained, certificate.order(), writer)?;
-    let at = write_lines(bytes, at, rows, certificate.lines(), writer)?;
+    let at = write_lines(bytes, at, rows, 0, certificate.lines(), writer)?;
     let at = write_pairs(bytes, at, rows, certificate.pairs(), writer)?;
     let at = make_room(bytes, at, writer)?;
     let at = put(bytes, at, b"end\n");
@@ -252,11 +257,18 @@ pub enum PrintFault {
     Writer,
 }
 
+/// A buffer for texts.
+pub fn buffer(alloc: Global) -> Result<Vec<u8>, AllocError>
+    ensures { IfOk result (λ bytes. length bytes.items ≡ 32768) }
+{
+    vec![in alloc; 0; ROOM]
+}
+
 /// All memory that printing takes: a buffer, and the texts of small numbers.
-fn taken(alloc: Global) -> Result<(Vec<u8>, Rows), AllocError>
+pub fn taken(alloc: Global) -> Result<(Vec<u8>, Rows), AllocError>
     ensures { IfOk result (λ t. length t.0.items ≡ 32768) }
 {
-    let bytes = vec![in alloc; 0; ROOM]?;
+    let bytes = buffer(alloc)?;
     Ok((bytes, Rows::new(alloc)?))
 }
 

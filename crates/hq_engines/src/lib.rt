@@ -6,6 +6,7 @@
 
 mod accepting;
 mod audit;
+mod audit_wide;
 mod buffers;
 mod change;
 mod chart;
@@ -26,6 +27,7 @@ mod witness;
 
 pub use accepting::accept;
 pub use audit::audit_engine;
+pub use audit_wide::audit_wide_engine;
 pub use change::{Aim, Changed, change_engine};
 pub use chart::chart_engine;
 pub use check::check_engine;

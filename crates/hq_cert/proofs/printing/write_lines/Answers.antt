@@ -1,4 +1,4 @@
-use Rattle.std.proofs.Common.{arith, ap, ◌∙◌, ◌++◌, take}
+use Rattle.std.proofs.Common.{◌+◌, arith, ap, ◌∙◌, ◌++◌, take}
 use Rattle.std.specs.Prelude.{map}
 use Rattle.hq_cert.specs.Grammar.{line_words, lines_words}
 use Rattle.hq_text.specs.Printed.{line_text, lines_text}
@@ -12,10 +12,10 @@ loop-k-preserved g c =
     let made = roomed c.loop-k.invariant.written c.in_ok-at.ensures.written in
     let line = as_text
     (then_gains (put_gains (contents c.make_room.new.writer) c.put_line-at.ensures.put)
-    (then_gains c.in_ok-at-2.ensures.written (put_gains (contents c.write_rule.new.writer) c.put-at.ensures.put))) (line_is c.loop-k.k (line_of c.index-lines-k.result)) in
+    (then_gains c.in_ok-at-2.ensures.written (put_gains (contents c.write_rule.new.writer) c.put-at.ensures.put))) (line_is (c.args.first + c.loop-k.k) (line_of c.index-lines-k.result)) in
     record {
       written = as_text (then_gains made line)
-          (ap (λ l. lines_text (lines_words 0 (map line_of (take c.loop-k.k c.args.lines.now))) ++ line_text (line_words c.loop-k.k (line_of l))) c.index-lines-k.is
-          ∙ line_next line_of c.args.lines.now c.loop-k.k c.index-lines-k.result c.loop-k-test.true);
+          (ap (λ l. lines_text (lines_words c.args.first (map line_of (take c.loop-k.k c.args.lines.now))) ++ line_text (line_words (c.args.first + c.loop-k.k) (line_of l))) c.index-lines-k.is
+          ∙ line_next line_of c.args.first c.args.lines.now c.loop-k.k c.index-lines-k.result c.loop-k-test.true);
       within = omega (arith, c.in_ok-at-2.ensures.room);
     }

@@ -1,0 +1,17 @@
+use Rattle.std.proofs.Common.{◌*◌, ◌∙◌, ap, subst, map, length}
+use Rattle.hq_cert.specs.View.{line_of}
+use Rattle.hq_audit.specs.Kept.{lines_of}
+use Rattle.hq_audit.specs.Paired.{pairs_of, RowsPaired}
+use Rattle.hq_audit.proofs.Certifying.{cert_holds, cert_same}
+use Rattle.hq_audit.proofs.Rowing.{all_paired}
+use Rattle.hq_audit.proofs.wide.certified_wide.Goals as goal
+
+pub returns : goal.returns
+returns g c =
+    let job = c.args.before.now in
+    let order = c.args.order.now in
+    let lines = lines_of c.in_ok-lines.lines in
+    let pairs = pairs_of c.in_ok-pairs.pairs in
+    let paired = subst (λ n. RowsPaired job pairs (n * 64)) c.in_ok-cited.ensures.count c.in_ok-pairs.ensures.paired in
+    cert_same job c.new.result order lines pairs (c.new.ensures.order ∙ c.in_ok-order.ensures) (c.new.ensures.lines ∙ ap (map line_of) c.into_lines.ensures) c.new.ensures.pairs
+    (cert_holds job order lines pairs c.requires.order c.in_ok-lines.ensures.follow c.in_ok-pairs.ensures.hold (all_paired job pairs (length c.in_ok-drafts.drafts.items) c.in_ok-drafts.ensures.whole paired))

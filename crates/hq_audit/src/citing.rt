@@ -1,0 +1,299 @@
+//! The lines that pair lines cite, where all of these are there.
+
+ghost use Rattle.std.specs.Prelude.{◌≡◌, ℕ, IfSome, IsTrue, length, map};
+ghost use Rattle.hq_model.specs.Order as order;
+ghost use Rattle.hq_model.specs.Fence as model;
+ghost use Rattle.hq_model.specs.Certificate.{Cites, kind_of};
+ghost use Rattle.hq_cert.specs.View.{cited, fences_of, pair_of};
+ghost use Rattle.hq_fence.specs.Judgement.{IsRelease, IsAcquire, ReleasesBefore, ReleasesToAcquire};
+ghost use Rattle.hq_fence.specs.declared.shown.Release.TheVariants as release;
+ghost use Rattle.hq_packet.specs.declared.packet.Scope.TheVariants as scope;
+ghost use Rattle.hq_audit.specs.Kept.{lines_of, Kept};
+ghost use Rattle.hq_audit.specs.Drafted.{acquire_by, release_by, Drafted, AllDrafted};
+ghost use Rattle.hq_audit.specs.Paired.{pairs_of, ReleaseCited, AcquireCited, AllHold, SameHeads};
+ghost use Rattle.hq_audit.specs.Rowed.{Holds, AllMayDraft, AllMayCite, CitesPart, CitesRows, DraftsRows};
+
+use crate::lines::Lines;
+use crate::pairs::{CitedAcquire, CitedRelease};
+use crate::spreading::Drafts;
+use hq_cert::{Citation, Fences, Pair, ReadChain, WriteChain};
+use hq_order::Before;
+use std::alloc::Global;
+use std::thread;
+use std::thread::Threads;
+
+/// The citation that p is x, or before it, if its line is there.
+fn cite(lines: &Lines, p: usize, x: usize) -> Option<Citation>
+    ensures { IfSome result (λ citation. Cites (lines_of lines.now) (length (lines_of lines.now)) (cited citation) p x) }
+{
+    if p == x {
+        return Some(Citation::same());
+    }
+    let number = lines.known(p, x)?;
+    Some(Citation::line(number))
+}
+
+/// What orders two writes, where x alone releases p.
+fn write_write(lines: &Lines, before: &Before, p: usize, r: usize, x: u32) -> Option<Fences>
+    requires released { ReleasesBefore before.now p r (release.Alone x) }
+    ensures { IfSome result (Holds before.now (lines_of lines.now) model.Conflict.WriteWrite p r) }
+{
+    let from = cite(lines, p, x as usize)?;
+    let on = lines.known(x as usize, r)?;
+    Some(Fences::WriteWrite { x, from, on })
+}
+
+/// What orders two writes, where a release of p goes on from x to x2.
+fn write_chain(
+    lines: &Lines,
+    alloc: Global,
+    before: &Before,
+    p: usize,
+    r: usize,
+    x: u32,
+    x2: u32,
+) -> Option<Fences>
+    requires released { ReleasesBefore before.now p r (release.Chained x x2) }
+    ensures { IfSome result (Holds before.now (lines_of lines.now) model.Conflict.WriteWrite p r) }
+{
+    let from = cite(lines, p, x as usize)?;
+    let link = lines.known(x as usize, x2 as usize)?;
+    let on = lines.known(x2 as usize, r)?;
+    let chain = WriteChain {
+        x,
+        x2,
+        from,
+        link,
+        on,
+    };
+    match Box::new(alloc, chain) {
+        Ok(chain) => Some(Fences::WriteWriteChained(chain)),
+        Err(_) => None,
+    }
+}
+
+/// What is cited for a release of p: by x alone where the link is `=`, else from x to x2.
+fn cite_release(
+    lines: &Lines,
+    before: &Before,
+    p: usize,
+    r: usize,
+    x: u32,
+    x2: u32,
+    link: Citation,
+) -> Option<CitedRelease>
+    requires kept { Kept before.now lines.now }
+    requires release { IsRelease before.now p r (release_by x x2 (cited link)) }
+    ensures { IfSome result (λ c. ReleaseCited before.now lines.now lines.now p r (release_by x x2 (cited link)) c) }
+{
+    let from = cite(lines, p, x as usize)?;
+    match link.number() {
+        None => Some(CitedRelease {
+            x,
+            x2: x,
+            from,
+            link: Citation::same(),
+        }),
+        Some(_) => {
+            let number = lines.known(x as usize, x2 as usize)?;
+            Some(CitedRelease {
+                x,
+                x2,
+                from,
+                link: Citation::line(number),
+            })
+        }
+    }
+}
+
+/// What is cited for an acquire for r: by y alone where the link is `=`, else from y2 to y.
+fn cite_acquire(
+    lines: &Lines,
+    before: &Before,
+    p: usize,
+    r: usize,
+    y2: u32,
+    y: u32,
+    link2: Citation,
+) -> Option<CitedAcquire>
+    requires kept { Kept before.now lines.now }
+    requires acquire { IsAcquire before.now p r (acquire_by y2 y (cited link2)) }
+    ensures { IfSome result (λ c. AcquireCited before.now lines.now lines.now p r (acquire_by y2 y (cited link2)) c) }
+{
+    let to = cite(lines, y as usize, r)?;
+    match link2.number() {
+        None => Some(CitedAcquire {
+            y2: y,
+            y,
+            link2: Citation::same(),
+            to,
+        }),
+        Some(_) => {
+            let number = lines.known(y2 as usize, y as usize)?;
+            Some(CitedAcquire {
+                y2,
+                y,
+                link2: Citation::line(number),
+                to,
+            })
+        }
+    }
+}
+
+/// What orders a write and a read, where one of the fences is chained.
+fn read_chain(
+    lines: &Lines,
+    alloc: Global,
+    before: &Before,
+    p: usize,
+    r: usize,
+    chain: ReadChain,
+) -> Option<Fences>
+    requires kept { Kept before.now lines.now }
+    requires system { model.need before.now p r ≡ scope.System }
+    requires fences { ReleasesToAcquire before.now p r (release_by chain.x chain.x2 (cited chain.link), acquire_by chain.y2 chain.y (cited chain.link2)) }
+    ensures { IfSome result (Holds before.now (lines_of lines.now) model.Conflict.WriteRead p r) }
+{
+    let release = cite_release(lines, before, p, r, chain.x, chain.x2, chain.link)?;
+    let acquire = cite_acquire(lines, before, p, r, chain.y2, chain.y, chain.link2)?;
+    let between = lines.known(release.x2 as usize, acquire.y2 as usize)?;
+    let chain = ReadChain {
+        x: release.x,
+        x2: release.x2,
+        y2: acquire.y2,
+        y: acquire.y,
+        from: release.from,
+        link: release.link,
+        between,
+        link2: acquire.link2,
+        to: acquire.to,
+    };
+    match Box::new(alloc, chain) {
+        Ok(chain) => Some(Fences::WriteReadChained(chain)),
+        Err(_) => None,
+    }
+}
+
+/// What orders a write and a read, where x alone releases and y alone acquires.
+fn write_read(lines: &Lines, before: &Before, p: usize, r: usize, x: u32, y: u32) -> Option<Fences>
+    requires releases { model.Releases before.now p x (model.need before.now p r) }
+    requires acquires { model.Acquires before.now r y (model.need before.now p r) }
+    ensures { IfSome result (Holds before.now (lines_of lines.now) model.Conflict.WriteRead p r) }
+{
+    let from = cite(lines, p, x as usize)?;
+    let between = lines.known(x as usize, y as usize)?;
+    let to = cite(lines, y as usize, r)?;
+    Some(Fences::WriteRead {
+        x,
+        y,
+        from,
+        between,
+        to,
+    })
+}
+
+/// What orders a read and a write.
+fn read_write(lines: &Lines, before: &Before, p: usize, r: usize) -> Option<Fences>
+    ensures { IfSome result (Holds before.now (lines_of lines.now) model.Conflict.ReadWrite p r) }
+{
+    Some(Fences::ReadWrite(lines.known(p, r)?))
+}
+
+/// The fences with the numbers of the lines that they cite, if these are there.
+fn cite_fences(
+    lines: &Lines,
+    alloc: Global,
+    before: &Before,
+    p: usize,
+    r: usize,
+    fences: &Fences,
+) -> Option<Fences>
+    requires kept { Kept before.now lines.now }
+    requires drafted { Drafted before.now p r (fences_of fences.now) }
+    ensures { IfSome result (Holds before.now (lines_of lines.now) (kind_of (fences_of fences.now)) p r) }
+{
+    match fences {
+        Fences::ReadWrite(_) => read_write(lines, before, p, r),
+        Fences::WriteWrite { x, .. } => write_write(lines, before, p, r, *x),
+        Fences::WriteRead { x, y, .. } => write_read(lines, before, p, r, *x, *y),
+        Fences::WriteWriteChained(chain) => {
+            write_chain(lines, alloc, before, p, r, chain.x, chain.x2)
+        }
+        Fences::WriteReadChained(chain) => read_chain(lines, alloc, before, p, r, **chain),
+    }
+}
+
+/// Gives each pair line the numbers of the lines that it cites, or answers that one of these isn't there.
+fn cite_known(pairs: &mut [Pair], lines: &Lines, alloc: Global, before: &Before) -> bool
+    requires kept { Kept before.now lines.now }
+    requires drafted { AllDrafted before.now (map pair_of pairs.old) }
+    ensures hold { IsTrue result → AllHold before.now (lines_of lines.now) (map pair_of pairs.new) }
+    ensures heads { IsTrue result → SameHeads pairs.old pairs.new }
+{
+    for pair in pairs.iter_mut() {
+        let (p, r) = (pair.p as usize, pair.r as usize);
+        match cite_fences(lines, alloc, before, p, r, &pair.fences) {
+            Some(fences) => pair.fences = fences,
+            None => return false,
+        }
+    }
+    true
+}
+
+/// The pair lines with the numbers of the lines that they cite, if these are there.
+fn cite_drafts(lines: &Lines, alloc: Global, before: &Before, drafts: Drafts) -> Option<Vec<Pair>>
+    requires kept { Kept before.now lines.now }
+    requires drafted { AllDrafted before.now (pairs_of drafts.pairs) }
+    ensures { (a b : ℕ) → DraftsRows before.now a b drafts.pairs → IfSome result (CitesRows before.now (lines_of lines.now) a b) }
+{
+    let mut pairs = drafts.pairs;
+    if cite_known(&mut pairs, lines, alloc, before) {
+        Some(pairs)
+    } else {
+        None
+    }
+}
+
+/// Those of a part, if it is there.
+fn cite_part(
+    lines: &Lines,
+    alloc: Global,
+    before: &Before,
+    part: Option<Drafts>,
+) -> Option<Vec<Pair>>
+    requires kept { Kept before.now lines.now }
+    requires drafted { IfSome part (λ d. AllDrafted before.now (pairs_of d.pairs)) }
+    ensures { CitesPart before.now (lines_of lines.now) part result }
+{
+    match part {
+        Some(drafts) => cite_drafts(lines, alloc, before, drafts),
+        None => None,
+    }
+}
+
+/// Does so for each part, in a thread of its own.
+pub fn cite_wide<R: Threads + Sync>(
+    rt: &R,
+    lines: &Lines,
+    alloc: Global,
+    before: &Before,
+    parts: Vec<Option<Drafts>>,
+) -> Option<Vec<Option<Vec<Pair>>>>
+    requires kept { Kept before.now lines.now }
+    requires drafts { AllMayDraft before.now parts.items }
+    ensures each { IfSome result (λ all. AllMayCite before.now (lines_of lines.now) all.items) }
+    ensures count { IfSome result (λ all. length all.items ≡ length parts.items) }
+{
+    let cited = thread::map_vec(
+        rt,
+        parts,
+        &|part: Option<Drafts>| -> Option<Vec<Pair>>
+            requires { Kept before.now lines.now × IfSome part (λ d. AllDrafted before.now (pairs_of d.pairs)) }
+            ensures { CitesPart before.entry.now (lines_of lines.entry.now) part result }
+        { cite_part(lines, alloc, before, part) },
+    );
+    match cited {
+        Ok(cited) => Some(cited),
+        Err(_) => None,
+    }
+}

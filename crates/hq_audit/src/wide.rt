@@ -1,0 +1,200 @@
+//! The audit of a job in many threads.
+
+ghost use Rattle.std.specs.Prelude.{◌≡◌, ◌*◌, [], ◌++◌, IfOk, IfErr, IfSome, IsOk, IsTrue, length};
+ghost use Rattle.hq_job.specs.Plan.{plan};
+ghost use Rattle.hq_model.specs.Certificate.{CertHolds};
+ghost use Rattle.hq_model.specs.Fence.{Ordered};
+ghost use Rattle.hq_model.specs.Order.{OrderList};
+ghost use Rattle.hq_audit.specs.Kept.{lines_of, Kept};
+ghost use Rattle.hq_audit.specs.Paired.{pairs_of, AllHold, RowsPaired};
+ghost use Rattle.hq_audit.specs.Parts.{AreParts};
+ghost use Rattle.hq_audit.specs.Refused.{IsRefused, AllRefused};
+ghost use Rattle.hq_audit.specs.Rowed.{AllMayCite};
+ghost use Rattle.hq_audit.specs.declared.fault.AuditNo.TheVariants.{Memory};
+
+use crate::auditing::{certified, widened};
+use crate::citing::cite_wide;
+use crate::drafting::draft_all;
+use crate::fault::AuditNo;
+use crate::gathering::add_all;
+use crate::lines::Lines;
+use crate::needs::Needs;
+use crate::parts::Parts;
+use crate::spreading::draft_wide;
+use hq_cert::{Certificate, Pair};
+use hq_job::Job;
+use hq_order::{Before, schedule};
+use std::alloc::{AllocError, Global};
+use std::thread::Threads;
+
+/// How many packets are worth more than one thread.
+const MANY: usize = 256;
+
+/// Adds the pair lines of a part, which loses them; answers whether there was memory for it.
+fn add_part(all: &mut Vec<Pair>, pairs: &mut Vec<Pair>) -> bool
+    ensures { IsTrue result → all.new.items ≡ all.old.items ++ pairs.old.items }
+{
+    all.append(pairs).is_ok()
+}
+
+/// Adds the pair lines of all parts, one part behind another; answers whether all are there.
+fn join(
+    all: &mut Vec<Pair>,
+    before: &Before,
+    lines: &Lines,
+    parts: &mut [Option<Vec<Pair>>],
+) -> bool
+    requires parts { AllMayCite before.now (lines_of lines.now) parts.old }
+    requires empty { all.old.items ≡ [] }
+    ensures hold { IsTrue result → AllHold before.now (lines_of lines.now) (pairs_of all.new) }
+    ensures paired { IsTrue result → RowsPaired before.now (pairs_of all.new) (length parts.old * 64) }
+{
+    for part in parts.iter_mut() {
+        let Some(pairs) = part else {
+            return false;
+        };
+        if !add_part(all, pairs) {
+            return false;
+        }
+    }
+    true
+}
+
+/// The pair lines of all parts, one part behind another, if all are there.
+fn joined(
+    alloc: Global,
+    before: &Before,
+    lines: &Lines,
+    mut parts: Vec<Option<Vec<Pair>>>,
+) -> Option<Vec<Pair>>
+    requires { AllMayCite before.now (lines_of lines.now) parts.items }
+    ensures hold { IfSome result (λ all. AllHold before.now (lines_of lines.now) (pairs_of all)) }
+    ensures paired { IfSome result (λ all. RowsPaired before.now (pairs_of all) (length parts.items * 64)) }
+{
+    let mut all = Vec::new(alloc);
+    if join(&mut all, before, lines, &mut parts) {
+        Some(all)
+    } else {
+        None
+    }
+}
+
+/// The lines that are needed.
+fn lines_for(alloc: Global, before: &Before, needs: Needs) -> Result<Lines, AllocError>
+    ensures { IfOk result (Kept before.now) }
+{
+    let mut lines = Lines::new(alloc, before, needs)?;
+    add_all(&mut lines, alloc, before)?;
+    Ok(lines)
+}
+
+/// The same, if there is memory for them.
+fn lines_if(alloc: Global, before: &Before, needs: Needs) -> Option<Lines>
+    ensures { IfSome result (Kept before.now) }
+{
+    match lines_for(alloc, before, needs) {
+        Ok(lines) => Some(lines),
+        Err(_) => None,
+    }
+}
+
+/// The numbers in 32 bits, if there is memory for them.
+fn widened_if(alloc: Global, numbers: &[u16]) -> Option<Vec<u32>>
+    ensures { IfSome result (λ wide. wide.items ≡ numbers.now) }
+{
+    match widened(alloc, numbers) {
+        Ok(wide) => Some(wide),
+        Err(_) => None,
+    }
+}
+
+/// That no line is needed yet, if there is memory for it.
+fn no_needs(alloc: Global, before: &Before) -> Option<Needs> {
+    match Needs::new(alloc, before) {
+        Ok(needs) => Some(needs),
+        Err(_) => None,
+    }
+}
+
+/// The certificate of an order list, unless a pair isn't ordered or there is no memory.
+fn certified_wide<R: Threads + Sync>(
+    rt: &R,
+    alloc: Global,
+    before: &Before,
+    parts: &Parts,
+    order: &[u16],
+) -> Option<Certificate>
+    requires order { OrderList before.now order.now }
+    requires parts { AreParts before.now parts.now }
+    ensures { IfSome result (λ c. CertHolds before.now c) }
+{
+    let mut needs = no_needs(alloc, before)?;
+    let drafts = draft_wide(rt, &mut needs, alloc, before, parts)?;
+    let lines = lines_if(alloc, before, needs)?;
+    let cited = cite_wide(rt, &lines, alloc, before, drafts)?;
+    let pairs = joined(alloc, before, &lines, cited)?;
+    let order = widened_if(alloc, order)?;
+    Some(Certificate::new(order, lines.into_lines(), pairs))
+}
+
+/// The certificate of an order list, or the first two packets that aren't ordered.
+fn certified_alone(
+    alloc: Global,
+    before: &Before,
+    parts: &Parts,
+    order: &[u16],
+) -> Result<Certificate, AuditNo>
+    requires order { OrderList before.now order.now }
+    requires parts { AreParts before.now parts.now }
+    ensures holds { IfOk result (λ c. CertHolds before.now c) }
+    ensures refused { IfErr result (AllRefused before.now) }
+{
+    let mut needs = Needs::new(alloc, before)?;
+    let pairs = draft_all(&mut needs, alloc, before, parts)?;
+    let certificate = certified(alloc, before, order, needs, pairs)?;
+    Ok(certificate)
+}
+
+/// The same, in many threads where that is worth it. What isn't ordered is told of by one thread.
+fn certified_by_all<R: Threads + Sync>(
+    rt: &R,
+    alloc: Global,
+    before: &Before,
+    parts: &Parts,
+    order: &[u16],
+) -> Result<Certificate, AuditNo>
+    requires order { OrderList before.now order.now }
+    requires parts { AreParts before.now parts.now }
+    ensures holds { IfOk result (λ c. CertHolds before.now c) }
+    ensures refused { IfErr result (AllRefused before.now) }
+{
+    if before.len() >= MANY {
+        if let Some(certificate) = certified_wide(rt, alloc, before, parts, order) {
+            return Ok(certificate);
+        }
+    }
+    certified_alone(alloc, before, parts, order)
+}
+
+/// What `audit` answers, with the pairs judged in many threads.
+///
+/// # Errors
+///
+/// Those of `audit`: with `Conflict` the first two packets, whichever thread met them first.
+pub fn audit_wide<R: Threads + Sync>(
+    rt: &R,
+    alloc: Global,
+    job: &Job,
+) -> Result<Certificate, AuditNo>
+    ensures holds { IfOk result (λ c. CertHolds (plan job.now) c) }
+    ensures refused { IfErr result (λ no. IsRefused (plan job.now) no) }
+    ensures ordered { Ordered (plan job.now) → IfErr result (λ no. no ≡ Memory) }
+    ensures exact { IsOk result → Ordered (plan job.now) }
+{
+    job.valid();
+    let order = schedule(alloc, job)?;
+    let before = Before::build(alloc, job)?;
+    let parts = Parts::build(alloc, job)?;
+    let certificate = certified_by_all(rt, alloc, &before, &parts, &order)?;
+    Ok(certificate)
+}
