@@ -14,3 +14,5 @@ pub mod Nine
 pub mod Placed
 pub mod OnePass
 pub mod Taking
+pub mod Shared
+pub mod WideTaken

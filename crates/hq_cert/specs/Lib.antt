@@ -11,3 +11,5 @@ pub mod OnePass
 pub mod Rows
 pub mod Gains
 pub mod SoFar
+pub mod Sharing
+pub mod WideSoFar
