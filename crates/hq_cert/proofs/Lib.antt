@@ -15,3 +15,5 @@ pub mod Placed
 pub mod OnePass
 pub mod Taking
 pub mod Parting
+pub mod Shared
+pub mod WideTaken

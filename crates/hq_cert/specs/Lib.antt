@@ -12,3 +12,5 @@ pub mod Rows
 pub mod Gains
 pub mod SoFar
 pub mod Parted
+pub mod Sharing
+pub mod WideSoFar

@@ -1,6 +1,7 @@
 pub mod Saying
 pub mod Zipped
 pub mod Firsts
+pub mod FirstPlaces
 pub mod Tables
 pub mod Orders
 pub mod Flags
@@ -10,6 +11,7 @@ pub mod Leasts
 pub mod Places
 pub mod Lasts
 pub mod Bounds
+pub mod Possible
 pub mod Counts
 pub mod Blocks
 pub mod Slots

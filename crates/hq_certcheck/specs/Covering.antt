@@ -103,6 +103,12 @@ pub record FirstUnflaggedAfter (job : Job) (cells : List ℕ) (count p r : ℕ) 
   pub missing : ¬ IsFlagged job cells count p r
   pub first : AllFlagged job cells count p r
 
+-- p is the least packet that has such packets after it.
+pub record FirstUnflaggedRow (job : Job) (cells : List ℕ) (count p : ℕ) : Type 0 where
+  pub below : p < count
+  pub missing : ¬ AllFlagged job cells count p count
+  pub first : (q : ℕ) → q < p → AllFlagged job cells count q count
+
 -- p and r are the first in number order.
 pub record FirstUnflagged (job : Job) (cells : List ℕ) (count p r : ℕ) : Type 0 where
   pub after : FirstUnflaggedAfter job cells count p r

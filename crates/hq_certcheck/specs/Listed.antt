@@ -27,6 +27,16 @@ NeedsSystem job p r = need job p r ≡ scope.System
 abbrev pub PairFollows : Job → List Line → Pair → Type 0
 PairFollows job lines pair = IsPacket job pair.p × IsPacket job pair.r × FencesHold job lines pair.p pair.r pair.fences
 
+-- Pair line k concludes so.
+abbrev pub PairFollowsAt : Job → List Line → List Pair → ℕ → Type 0
+PairFollowsAt job lines pairs k = (pair : Pair) → slice_get pairs k ≡ Some pair → PairFollows job lines pair
+
+-- Pair line k is the first that doesn't.
+pub record FirstBadPlace (job : Job) (lines : List Line) (pairs : List Pair) (k : ℕ) : Type 0 where
+  pub there : k < length pairs
+  pub bad : ¬ PairFollowsAt job lines pairs k
+  pub first : (j : ℕ) → j < k → PairFollowsAt job lines pairs j
+
 -- The first of the pair lines that don't hold, in their order, names p and r.
 pub record FirstBadPair (job : Job) (lines : List Line) (pairs : List Pair) (p r : ℕ) : Type 0 where
   pub k : ℕ

@@ -51,7 +51,7 @@ fn bad_pair(job: &Job, certificate: &Certificate) -> Option<(u32, u32)>
 }
 
 /// Checks the pair lines of a certificate whose order and lines hold.
-pub fn check_pairs(alloc: Global, job: &Job, certificate: &Certificate) -> Result<(), CheckNo>
+fn check_pairs(alloc: Global, job: &Job, certificate: &Certificate) -> Result<(), CheckNo>
     requires order { OrderList (plan job.now) certificate.now.order }
     requires lines { (k : ℕ) → LineHolds (plan job.now) certificate.now k }
     ensures ok { OnOk result (CertHolds (plan job.now) certificate.now) }

@@ -20,6 +20,8 @@ mod rings;
 mod steps;
 mod waits;
 mod wide;
+mod wide_missing;
+mod wide_pairs;
 
 pub use accepted::Accepted;
 pub use checking::check;

@@ -1,6 +1,6 @@
 //! Conflicts that have no pair lines.
 
-ghost use Rattle.std.specs.Prelude.{◌≡◌, ℕ, ◌+◌, ◌*◌, ◌<◌, ◌≤◌, ◌↔◌, IsTrue, IfOk, MatchOption, false, map, length};
+ghost use Rattle.std.specs.Prelude.{◌≡◌, ℕ, ◌+◌, ◌*◌, ◌<◌, ◌≤◌, ◌↔◌, IsTrue, IfOk, MatchOption, All, false, map, length};
 ghost use Rattle.hq_cert.specs.View.{pair_of, fences_of};
 ghost use Rattle.hq_job.specs.Plan.{plan};
 ghost use Rattle.hq_model.specs.Fence.{Conflict, Conflicts};
@@ -10,7 +10,7 @@ ghost use Rattle.hq_certcheck.specs.Extents.{AreExtents};
 
 use crate::extents::{BLOCK, Extents};
 use hq_cert::{Certificate, Fences, Pair};
-use hq_footprint::Kinds;
+use hq_footprint::{Footprint, Kinds};
 use hq_job::Job;
 use std::alloc::{AllocError, Global};
 
@@ -73,7 +73,7 @@ fn mark_all(cells: &mut [u8], count: usize, pairs: &[Pair])
 }
 
 /// The kinds that have pair lines, for each two packets: a byte of flags.
-fn listed(alloc: Global, count: usize, pairs: &[Pair]) -> Result<Vec<u8>, AllocError>
+pub fn listed(alloc: Global, count: usize, pairs: &[Pair]) -> Result<Vec<u8>, AllocError>
     requires { count ≤ 1024 }
     ensures { let found = map pair_of pairs.now in IfOk result (λ cells. AreListed found (length found) count cells.items) }
 {
@@ -104,6 +104,54 @@ fn covers(found: Kinds, listed: Kinds) -> bool
     keeps(found.rw, listed.rw)
 }
 
+/// Whether a footprint reads nothing.
+fn reads_nothing(foot: &Footprint) -> bool
+    ensures { IsTrue result ↔ All (λ range. range.len ≡ 0) foot.now.reads }
+{
+    foot.reads.iter().all(|range| range.len == 0)
+}
+
+/// Whether a footprint writes nothing.
+fn writes_nothing(foot: &Footprint) -> bool
+    ensures { IsTrue result ↔ (foot.now.write.len ≡ 0) }
+{
+    foot.write.len == 0
+}
+
+/// Whether neither is so.
+fn neither(first: bool, second: bool) -> bool
+    ensures { IsTrue result ↔ ((first ≡ false) × (second ≡ false)) }
+{
+    !first && !second
+}
+
+/// The kinds of conflict that p can have with r, by whether they read and write at all.
+fn possible_kinds(job: &Job, p: usize, r: usize) -> Kinds
+    requires p_is { p < length job.now.packets }
+    requires r_is { r < length job.now.packets }
+    ensures { (kind : Conflict) → Conflicts (plan job.now) kind p r → IsTrue (has_kind kind result) }
+{
+    let first = &job.packet(p).bytes;
+    let second = &job.packet(r).bytes;
+    Kinds {
+        wr: neither(writes_nothing(first), reads_nothing(second)),
+        ww: neither(writes_nothing(first), writes_nothing(second)),
+        rw: neither(reads_nothing(first), writes_nothing(second)),
+    }
+}
+
+/// Whether each kind of conflict that p can have with r has its flag.
+fn all_possible_are_flagged(job: &Job, cells: &[u8], p: usize, r: usize) -> bool
+    requires len { length cells.now ≡ length job.now.packets * length job.now.packets }
+    requires p_is { p < length job.now.packets }
+    requires r_is { r < length job.now.packets }
+    ensures { IsTrue result → AreFlagged (plan job.now) cells.now (length job.now.packets) p r }
+{
+    job.valid();
+    let listed = cells[place(job.packets().len(), p, r)];
+    covers(possible_kinds(job, p, r), kinds_in(listed))
+}
+
 /// Whether each kind of conflict of p with r has its flag.
 fn are_flagged(job: &Job, cells: &[u8], p: usize, r: usize) -> bool
     requires len { length cells.now ≡ length job.now.packets * length job.now.packets }
@@ -127,6 +175,16 @@ fn is_flagged(job: &Job, cells: &[u8], p: usize, r: usize) -> bool
     are_flagged(job, cells, p, r) || are_flagged(job, cells, r, p)
 }
 
+/// Whether each conflict of p with r has its flags, which is told at once where all that there can be are flagged.
+fn is_covered(job: &Job, cells: &[u8], p: usize, r: usize) -> bool
+    requires len { length cells.now ≡ length job.now.packets * length job.now.packets }
+    requires p_is { p < length job.now.packets }
+    requires r_is { r < length job.now.packets }
+    ensures { IsTrue result ↔ IsFlagged (plan job.now) cells.now (length job.now.packets) p r }
+{
+    all_possible_are_flagged(job, cells, p, r) || is_flagged(job, cells, p, r)
+}
+
 /// Whether each conflict of p with r has its flags, where the extents don't tell that there is none.
 fn lacks_none(job: &Job, extents: &Extents, cells: &[u8], p: usize, r: usize) -> bool
     requires extents { AreExtents (plan job.now) extents.now }
@@ -135,7 +193,7 @@ fn lacks_none(job: &Job, extents: &Extents, cells: &[u8], p: usize, r: usize) ->
     requires r_is { r < length job.now.packets }
     ensures { IsTrue result ↔ IsFlagged (plan job.now) cells.now (length job.now.packets) p r }
 {
-    extents.are_apart(p, r) || is_flagged(job, cells, p, r)
+    extents.are_apart(p, r) || is_covered(job, cells, p, r)
 }
 
 /// The least packet of a block after p whose conflicts with p lack flags.
@@ -165,7 +223,7 @@ fn first_unflagged_of(
 }
 
 /// The least packet after p whose conflicts with p lack flags.
-fn first_unflagged_after(job: &Job, extents: &Extents, cells: &[u8], p: usize) -> Option<usize>
+pub fn first_unflagged_after(job: &Job, extents: &Extents, cells: &[u8], p: usize) -> Option<usize>
     requires extents { AreExtents (plan job.now) extents.now }
     requires len { length cells.now ≡ length job.now.packets * length job.now.packets }
     requires p_is { p < length job.now.packets }

@@ -1,13 +1,13 @@
 //! Pair lines of a certificate, one by one.
 
-ghost use Rattle.std.specs.Prelude.{◌<◌, ◌↔◌, IsTrue, Some, None, map, MatchOption, All};
+ghost use Rattle.std.specs.Prelude.{◌<◌, ◌↔◌, IsTrue, Some, None, map, length, MatchOption, All};
 ghost use Rattle.hq_cert.specs.View.{line_of, pair_of, fences_of, cited};
 ghost use Rattle.hq_job.specs.Plan.{plan};
 ghost use Rattle.hq_model.specs.Job.{packet, IsPacket};
 ghost use Rattle.hq_model.specs.Fence.{FenceReaches, Forwards};
 ghost use Rattle.hq_model.specs.Certificate.{ReleaseHolds, AcquireHolds, FencesHold};
 ghost use Rattle.hq_model.specs.Certificate.Fences.{ForWriteWrite, ForWriteRead, ForWriteWriteChained, ForWriteReadChained};
-ghost use Rattle.hq_certcheck.specs.Listed.{PairFollows, FirstBadPair, NeedsSystem};
+ghost use Rattle.hq_certcheck.specs.Listed.{PairFollows, PairFollowsAt, FirstBadPair, NeedsSystem};
 
 use crate::citing::{cites, says};
 use hq_cert::{Citation, Fences, Line, Pair, ReadChain, WriteChain};
@@ -249,6 +249,14 @@ fn pair_holds(job: &Job, lines: &[Line], pair: &Pair) -> bool
     let p = pair.p as usize;
     let r = pair.r as usize;
     job.is_packet(p) && job.is_packet(r) && fences_hold(job, lines, p, r, &pair.fences)
+}
+
+/// Whether pair line k holds.
+pub fn pair_line_holds(job: &Job, lines: &[Line], pairs: &[Pair], k: usize) -> bool
+    requires { k < length pairs.now }
+    ensures { IsTrue result ↔ PairFollowsAt (plan job.now) (map line_of lines.now) (map pair_of pairs.now) k }
+{
+    pair_holds(job, lines, &pairs[k])
 }
 
 /// The packets of the first pair line that doesn't hold.

@@ -1,19 +1,21 @@
 //! Checks whole certificates in many threads.
 
-ghost use Rattle.std.specs.Prelude.{◌≡◌, ℕ, ◌<◌, IfOk, IfErr, IsTrue, MatchOption, false, map, length};
+ghost use Rattle.std.specs.Prelude.{◌≡◌, ℕ, ◌<◌, IfOk, IfErr, OnOk, IsTrue, MatchOption, All, false, map, length};
 ghost use Rattle.hq_cert.specs.View.{line_of};
 ghost use Rattle.hq_job.specs.Plan.{plan};
-ghost use Rattle.hq_model.specs.Order.{Extends};
-ghost use Rattle.hq_model.specs.Certificate.{LineHolds, CertHolds};
+ghost use Rattle.hq_model.specs.Order.{OrderList, Extends};
+ghost use Rattle.hq_model.specs.Certificate.{LineHolds, PairHolds, CertHolds};
 ghost use Rattle.hq_model.specs.Fence.{Ordered};
 ghost use Rattle.hq_model.specs.Theorems.{Headline};
 ghost use Rattle.hq_certcheck.specs.Listed.{LineFollows, FirstBadLine};
-ghost use Rattle.hq_certcheck.specs.Refusals.{IsRefused, IsBadLine};
+ghost use Rattle.hq_certcheck.specs.Refusals.{IsRefused, IsBadLine, IsBadPair};
 
 use crate::accepted::Accepted;
-use crate::checking::{check_pairs, conclude, order_of};
+use crate::checking::{conclude, order_of};
 use crate::fault::CheckNo;
 use crate::lines::line_holds;
+use crate::wide_missing::first_missing;
+use crate::wide_pairs::first_bad_pair;
 use hq_cert::{Certificate, Line};
 use hq_job::Job;
 use rayon::prelude::*;
@@ -52,6 +54,34 @@ fn bad_line(rt: &(impl Threads + Sync), job: &Job, certificate: &Certificate) ->
     first_bad_line(rt, job, certificate.lines())
 }
 
+/// The packets of the first pair line of the certificate that doesn't hold.
+fn bad_pair(rt: &(impl Threads + Sync), job: &Job, certificate: &Certificate) -> Option<(u32, u32)>
+    ensures { MatchOption result (All (PairHolds (plan job.now) certificate.now) certificate.now.pairs) (λ pair. IsBadPair (plan job.now) certificate.now pair.0 pair.1) }
+{
+    first_bad_pair(rt, job, certificate.lines(), certificate.pairs())
+}
+
+/// Checks the pair lines of a certificate whose order and lines hold.
+fn check_pairs(
+    rt: &(impl Threads + Sync),
+    alloc: Global,
+    job: &Job,
+    certificate: &Certificate,
+) -> Result<(), CheckNo>
+    requires order { OrderList (plan job.now) certificate.now.order }
+    requires lines { (k : ℕ) → LineHolds (plan job.now) certificate.now k }
+    ensures ok { OnOk result (CertHolds (plan job.now) certificate.now) }
+    ensures refused { IfErr result (IsRefused (plan job.now) certificate.now) }
+{
+    if let Some((p, r)) = first_missing(rt, alloc, job, certificate)? {
+        return Err(CheckNo::PairMissing(p, r));
+    }
+    if let Some((p, r)) = bad_pair(rt, job, certificate) {
+        return Err(CheckNo::BadPair(p, r));
+    }
+    Ok(())
+}
+
 /// The certificate's order, if the certificate holds.
 fn examine(
     rt: &(impl Threads + Sync),
@@ -66,15 +96,16 @@ fn examine(
     if let Some(k) = bad_line(rt, job, certificate) {
         return Err(CheckNo::BadLine(k));
     }
-    check_pairs(alloc, job, certificate)?;
+    check_pairs(rt, alloc, job, certificate)?;
     Ok(order)
 }
 
-/// What `check` answers, with the lines checked by as many threads as there are processors.
+/// What `check` answers, with the lines and the pair lines checked, and those that are missing sought, by as many threads as there
+/// are processors.
 ///
 /// # Errors
 ///
-/// Those of `check`: with `BadLine` the least line that doesn't hold, whichever thread met it first.
+/// Those of `check`: with `BadLine` the least line that doesn't hold, and so with the others, whichever thread met it first.
 pub fn check_wide(
     rt: &(impl Threads + Sync),
     alloc: Global,
