@@ -1,6 +1,5 @@
 -- A job as another with its own heads.
 use Rattle.std.proofs.Common.{◌≡◌, refl, List, [], ◌∷◌, map, sym, ◌∙◌, ap}
-use Rattle.std.specs.Prelude.{Result, Ok, Err, IfOk}
 use Rattle.hq_packet.specs.declared.packet.Head.{Head}
 use Rattle.hq_packet.specs.declared.packet.Packet.{Packet}
 use Rattle.hq_packet.specs.declared.packet.Packet.TheVariants as packet
@@ -48,11 +47,3 @@ all_are (x ∷ xs) (y ∷ ys) e = λ i. one_is x y (first (bare x) (bare y) (eac
 -- where two jobs differ in nothing but heads, each is the other with its own
 pub heads_make : (j k : JobValue) → SameButHeads j k → job_with_heads j (heads_of k) ≡ k
 heads_make j k same = ap (λ (ps : List Placed). record j { packets = ps }) (all_are j.packets k.packets (ap (λ (x : JobValue). x.packets) same)) ∙ ap (λ (x : JobValue). record x { packets = k.packets }) same
-
-pub heads_make_if : {E : Type 0} (j : JobValue) (r : Result JobValue E) → IfOk r (λ k. SameButHeads j k) → IfOk r (λ k. job_with_heads j (heads_of k) ≡ k)
-heads_make_if j (Ok k) same = heads_make j k same
-heads_make_if j (Err e) same = tt
-
-pub same_if : {E : Type 0} (i j : JobValue) (r : Result JobValue E) → SameButHeads i j → IfOk r (λ k. SameButHeads j k) → IfOk r (λ k. SameButHeads i k)
-same_if i j (Ok k) e f = e ∙ f
-same_if i j (Err x) e f = tt

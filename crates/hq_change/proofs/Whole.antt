@@ -141,13 +141,13 @@ module _ (job : JobValue) where
         | inr past ↦ subst (λ (e : Packet). HeadRaises (head_of e) (head_at k p)) (sym (get_or_past (plan job).packets p no_packet (omega (arith, past)))) (none_is_lowest (head_at k p))
       ]
 
-pub fixed_if : {E : Type 0} (job : JobValue) (floor : List Head) (top : Job) (r : Result JobValue E) → floor ≡ heads_of job → top ≡ highest (plan job) → IfOk r (λ k. IsMinimal floor (plan k)) → IfOk r (λ k. Raises (plan k) top) → IfOk r (λ k. IsFixed (plan job) (plan k))
-fixed_if job floor top (Ok k) e f h below = fixed_of job (plan k) (subst (λ x. IsMinimal x (plan k)) e h) (subst (Raises (plan k)) f below)
-fixed_if job floor top (Err x) e f h below = tt
+pub fixed_if : {A E : Type 0} (job : JobValue) (floor : List Head) (top k : Job) (r : Result A E) → floor ≡ heads_of job → top ≡ highest (plan job) → IfOk r (λ _. IsMinimal floor k) → IfOk r (λ _. Raises k top) → IfOk r (λ _. IsFixed (plan job) k)
+fixed_if job floor top k (Ok x) e f h below = fixed_of job k (subst (λ x. IsMinimal x k) e h) (subst (Raises k) f below)
+fixed_if job floor top k (Err x) e f h below = tt
 
-pub trimmed_if : {E : Type 0} (floor : List Head) (job : Job) (r : Result JobValue E) → IsGround floor → IfOk r (λ k. IsMinimal floor (plan k)) → IfOk r (λ k. Raises (plan k) job) → IfOk r (λ k. IsTrimmed job (plan k))
-trimmed_if floor job (Ok k) ground h below = trimmed_of floor job (plan k) ground h below
-trimmed_if floor job (Err x) ground h below = tt
+pub trimmed_if : {A E : Type 0} (floor : List Head) (job k : Job) (r : Result A E) → IsGround floor → IfOk r (λ _. IsMinimal floor k) → IfOk r (λ _. Raises k job) → IfOk r (λ _. IsTrimmed job k)
+trimmed_if floor job k (Ok x) ground h below = trimmed_of floor job k ground h below
+trimmed_if floor job k (Err x) ground h below = tt
 
 -- ---- while one level is settled
 

@@ -71,6 +71,16 @@ fn foresee(
     Ok(())
 }
 
+/// Drops a job. In a proof a call is one step, and a drop among others takes as long as a hundred.
+pub fn let_go(_job: Job) {}
+
+/// Puts another job in the place of one.
+fn put(job: &mut Job, other: Job)
+    ensures { job.new ≡ other }
+{
+    *job = other;
+}
+
 /// Whether all conflicts of a job are ordered, whose order is worked out anew.
 fn is_ordered(alloc: Global, job: &Job, parts: &Parts) -> Result<bool, AllocError>
     requires { AreParts (plan job.now) parts.now }
@@ -81,6 +91,26 @@ fn is_ordered(alloc: Global, job: &Job, parts: &Parts) -> Result<bool, AllocErro
     };
     let (ordered, _rounds) = judged(job, before.into_rounds(), parts, 0, job.packets().len());
     Ok(ordered)
+}
+
+/// Lowers each bit that by foresight can go, and answers whether the job is ordered then.
+fn foresee_all(
+    alloc: Global,
+    job: &mut Job,
+    search: &Search,
+    foresight: &Foresight,
+    watch: &dyn Watch,
+) -> Result<bool, AllocError>
+    requires floored { length search.now.floor.now ≡ length job.old.packets }
+    requires above { AtOrAbove search.now.floor.now (plan job.old) }
+    requires ordered { Ordered (plan job.old) }
+    requires parts { AreParts (plan job.old) search.now.parts.now }
+    requires conflicts { AreConflicts (plan job.old) foresight.now.conflicts.now }
+    ensures settled { IfOk result (λ yes. IsTrue yes → BitsSettled search.now.floor.now (plan job.old) (plan job.new)) }
+    ensures same { OnOk result (SameButHeads job.old job.new) }
+{
+    foresee(alloc, job, search.floor, foresight, watch)?;
+    is_ordered(alloc, job, search.parts)
 }
 
 /// The job with each bit lowered that by foresight can go, where it is ordered then.
@@ -100,11 +130,16 @@ fn foreseen(
     ensures same { IfOk result (λ it. IfSome it (λ k. SameButHeads job.now k)) }
 {
     let mut low = job.copy(alloc)?;
-    foresee(alloc, &mut low, search.floor, foresight, watch)?;
-    if is_ordered(alloc, &low, search.parts)? {
-        Ok(Some(low))
-    } else {
-        Ok(None)
+    match foresee_all(alloc, &mut low, search, foresight, watch) {
+        Ok(true) => Ok(Some(low)),
+        Ok(false) => {
+            let_go(low);
+            Ok(None)
+        }
+        Err(error) => {
+            let_go(low);
+            Err(error)
+        }
     }
 }
 
@@ -128,7 +163,7 @@ pub fn settle_bits(
 {
     job.valid();
     match foreseen(alloc, job, search, foresight, watch)? {
-        Some(low) => *job = low,
+        Some(low) => put(job, low),
         None => {
             let _rounds = settle(alloc, job, heads, rounds, search, watch)?;
         }

@@ -9,10 +9,11 @@ ghost use Rattle.hq_model.specs.Settings.{highest, Raises};
 ghost use Rattle.hq_order.specs.View.{AreOf};
 ghost use Rattle.hq_audit.specs.Parts.{AreParts};
 ghost use Rattle.hq_audit.specs.Refused.{IsRefused};
+ghost use Rattle.hq_audit.specs.declared.fault.AuditNo.TheVariants.{Memory};
 ghost use Rattle.hq_change.specs.Minimal.{AtOrAbove, IsFixed, IsMinimal, IsOn, IsTrimmed};
 
 use crate::attempt::Search;
-use crate::bits::settle_bits;
+use crate::bits::{let_go, settle_bits};
 use crate::foresight::{Foresight, conflicts_of};
 use crate::level::Level;
 use crate::settling::settle;
@@ -52,8 +53,47 @@ fn begun(alloc: Global, job: &Job) -> Result<(Rounds, Parts, Vec<u16>), AuditNo>
     Ok((before.into_rounds(), parts, order))
 }
 
-/// Lowers all parts of the heads of an ordered job, one level behind another.
+/// Lowers all parts of the heads of an ordered job, which has these, one level behind another.
 fn lower_all(
+    alloc: Global,
+    job: &mut Job,
+    heads: &mut Vec<Head>,
+    rounds: Rounds,
+    parts: &Parts,
+    order: &[u16],
+    floor: &[Head],
+    watch: &dyn Watch,
+) -> Result<(), AllocError>
+    requires on { IsOn floor.now (plan job.old) heads.old.items }
+    requires rounds { AreOf (plan job.old) rounds }
+    requires parts { AreParts (plan job.old) parts.now }
+    ensures minimal { IfOk result (λ _. IsMinimal floor.now (plan job.new)) }
+    ensures below { IfOk result (λ _. Raises (plan job.new) (plan job.old)) }
+    ensures same { IfOk result (λ _. SameButHeads job.old job.new) }
+{
+    let mut search = Search {
+        parts,
+        floor,
+        level: Level::ReleaseSystem,
+    };
+    let rounds = settle(alloc, job, heads, rounds, &search, watch)?;
+    search.level = Level::AcquireSystem;
+    let rounds = settle(alloc, job, heads, rounds, &search, watch)?;
+    search.level = Level::ReleaseAgent;
+    let rounds = settle(alloc, job, heads, rounds, &search, watch)?;
+    search.level = Level::AcquireAgent;
+    let rounds = settle(alloc, job, heads, rounds, &search, watch)?;
+    search.level = Level::Bit;
+    let (conflicts, rounds) = conflicts_of(alloc, job, rounds, parts)?;
+    let foresight = Foresight {
+        conflicts: &conflicts,
+        order,
+    };
+    settle_bits(alloc, job, heads, rounds, &search, &foresight, watch)
+}
+
+/// Lowers the heads of an ordered job as far as it is ordered with them, and no lower than the floor.
+fn lower_ordered(
     alloc: Global,
     job: &mut Job,
     rounds: Rounds,
@@ -61,7 +101,7 @@ fn lower_all(
     order: &[u16],
     floor: &[Head],
     watch: &dyn Watch,
-) -> Result<(), AllocError>
+) -> Result<(), AuditNo>
     requires floored { length floor.now ≡ length job.old.packets }
     requires above { AtOrAbove floor.now (plan job.old) }
     requires ordered { Ordered (plan job.old) }
@@ -70,42 +110,44 @@ fn lower_all(
     ensures minimal { IfOk result (λ _. IsMinimal floor.now (plan job.new)) }
     ensures below { IfOk result (λ _. Raises (plan job.new) (plan job.old)) }
     ensures same { IfOk result (λ _. SameButHeads job.old job.new) }
+    ensures memory { IfErr result (λ no. no ≡ Memory) }
 {
     let mut heads = job.heads(alloc)?;
-    let mut search = Search {
-        parts,
-        floor,
-        level: Level::ReleaseSystem,
-    };
-    let rounds = settle(alloc, job, &mut heads, rounds, &search, watch)?;
-    search.level = Level::AcquireSystem;
-    let rounds = settle(alloc, job, &mut heads, rounds, &search, watch)?;
-    search.level = Level::ReleaseAgent;
-    let rounds = settle(alloc, job, &mut heads, rounds, &search, watch)?;
-    search.level = Level::AcquireAgent;
-    let rounds = settle(alloc, job, &mut heads, rounds, &search, watch)?;
-    search.level = Level::Bit;
-    let (conflicts, rounds) = conflicts_of(alloc, job, rounds, parts)?;
-    let foresight = Foresight {
-        conflicts: &conflicts,
-        order,
-    };
-    settle_bits(alloc, job, &mut heads, rounds, &search, &foresight, watch)?;
-    Ok(())
+    Ok(lower_all(alloc, job, &mut heads, rounds, parts, order, floor, watch)?)
 }
 
-/// The job with heads as low as it is ordered with, and no lower than the floor.
-fn minimal(alloc: Global, mut job: Job, floor: &[Head], watch: &dyn Watch) -> Result<Job, AuditNo>
-    requires floored { length floor.now ≡ length job.packets }
-    requires above { AtOrAbove floor.now (plan job) }
-    ensures minimal { IfOk result (λ k. IsMinimal floor.now (plan k)) }
-    ensures below { IfOk result (λ k. Raises (plan k) (plan job)) }
-    ensures same { IfOk result (λ k. SameButHeads job k) }
-    ensures refused { IfErr result (λ no. IsRefused (plan job) no) }
+/// Lowers the heads of a job as far as it is ordered with them, and no lower than the floor.
+fn lower(alloc: Global, job: &mut Job, floor: &[Head], watch: &dyn Watch) -> Result<(), AuditNo>
+    requires floored { length floor.now ≡ length job.old.packets }
+    requires above { AtOrAbove floor.now (plan job.old) }
+    ensures minimal { IfOk result (λ _. IsMinimal floor.now (plan job.new)) }
+    ensures below { IfOk result (λ _. Raises (plan job.new) (plan job.old)) }
+    ensures same { IfOk result (λ _. SameButHeads job.old job.new) }
+    ensures refused { IfErr result (λ no. IsRefused (plan job.old) no) }
 {
-    let (rounds, parts, order) = begun(alloc, &job)?;
-    lower_all(alloc, &mut job, rounds, &parts, &order, floor, watch)?;
-    Ok(job)
+    let (rounds, parts, order) = begun(alloc, job)?;
+    lower_ordered(alloc, job, rounds, &parts, &order, floor, watch)
+}
+
+/// Takes from a job what it doesn't need.
+fn take_needless(alloc: Global, job: &mut Job, watch: &dyn Watch) -> Result<(), AuditNo>
+    ensures trimmed { IfOk result (λ _. IsTrimmed (plan job.old) (plan job.new)) }
+    ensures same { IfOk result (λ _. SameButHeads job.old job.new) }
+    ensures refused { IfErr result (λ no. IsRefused (plan job.old) no) }
+{
+    let floor = vec![in alloc; NO_HEAD; job.packets().len()]?;
+    lower(alloc, job, &floor, watch)
+}
+
+/// Gives a job what it lacks.
+fn give_lacking(alloc: Global, job: &mut Job, watch: &dyn Watch) -> Result<(), AuditNo>
+    ensures fixed { IfOk result (λ _. IsFixed (plan job.old) (plan job.new)) }
+    ensures same { IfOk result (λ _. SameButHeads job.old job.new) }
+    ensures refused { IfErr result (λ no. IsRefused (highest (plan job.old)) no) }
+{
+    let floor = job.heads(alloc)?;
+    job.set_each_head(FULL_HEAD);
+    lower(alloc, job, &floor, watch)
 }
 
 /// The job without what it doesn't need: its bits and scopes are at or below those that it had, it is ordered, and in no other
@@ -114,13 +156,18 @@ fn minimal(alloc: Global, mut job: Job, floor: &[Head], watch: &dyn Watch) -> Re
 /// # Errors
 ///
 /// As those of an audit of the job: `Stuck`, `Conflict`, `Memory`.
-pub fn trim(alloc: Global, job: Job, watch: &dyn Watch) -> Result<Job, AuditNo>
+pub fn trim(alloc: Global, mut job: Job, watch: &dyn Watch) -> Result<Job, AuditNo>
     ensures trimmed { IfOk result (λ k. IsTrimmed (plan job) (plan k)) }
     ensures heads { IfOk result (λ k. job_with_heads job (heads_of k) ≡ k) }
     ensures refused { IfErr result (λ no. IsRefused (plan job) no) }
 {
-    let floor = vec![in alloc; NO_HEAD; job.packets().len()]?;
-    minimal(alloc, job, &floor, watch)
+    match take_needless(alloc, &mut job, watch) {
+        Ok(()) => Ok(job),
+        Err(no) => {
+            let_go(job);
+            Err(no)
+        }
+    }
 }
 
 /// The job with what it lacks: its bits and scopes are at or above those that it had, it is ordered, and in no other setting between
@@ -135,7 +182,11 @@ pub fn fix(alloc: Global, mut job: Job, watch: &dyn Watch) -> Result<Job, AuditN
     ensures heads { IfOk result (λ k. job_with_heads job (heads_of k) ≡ k) }
     ensures refused { IfErr result (λ no. IsRefused (highest (plan job)) no) }
 {
-    let floor = job.heads(alloc)?;
-    job.set_each_head(FULL_HEAD);
-    minimal(alloc, job, &floor, watch)
+    match give_lacking(alloc, &mut job, watch) {
+        Ok(()) => Ok(job),
+        Err(no) => {
+            let_go(job);
+            Err(no)
+        }
+    }
 }

@@ -13,7 +13,7 @@ ghost use Rattle.hq_explain.specs.declared.fault.ExplainFault.TheVariants.{Memor
 use crate::bits::note_bits;
 use crate::change::Fence;
 use crate::fault::ExplainFault;
-use crate::scopes::Trial;
+use crate::scopes::{Trial, let_trial_go};
 use hq_job::Job;
 use hq_order::bits::{WORDS, empty, has};
 use hq_packet::Scope;
@@ -89,9 +89,15 @@ fn advise(
 {
     for p in 0..job.packets().len() {
         let (advice, next) = advice_of(trial, job, bits, a, b, p);
-        push(list, advice)?;
-        trial = next;
+        match push(list, advice) {
+            Ok(()) => trial = next,
+            Err(error) => {
+                let_trial_go(next);
+                return Err(error);
+            }
+        }
     }
+    let_trial_go(trial);
     Ok(())
 }
 

@@ -11,7 +11,7 @@ ghost use Rattle.hq_explain.specs.declared.fault.ExplainFault.TheVariants.{Memor
 
 use crate::change::{Change, changed};
 use crate::fault::ExplainFault;
-use crate::scopes::is_ordered;
+use crate::scopes::{is_ordered, let_go};
 use hq_job::Job;
 use hq_order::Before;
 use hq_order::bits::insert;
@@ -58,7 +58,9 @@ fn bits_order(
 {
     let mut copy = job.copy(alloc)?;
     set_bits(&mut copy, lo, hi);
-    orders(alloc, &copy, a, b)
+    let ordered = orders(alloc, &copy, a, b);
+    let_go(copy);
+    ordered
 }
 
 /// Notes the packet where its bit isn't set: with it, a and b are ordered.

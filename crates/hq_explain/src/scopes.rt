@@ -29,6 +29,9 @@ pub fn is_ordered(before: &Before, a: usize, b: usize) -> bool
     direct(before, a, b).is_ok()
 }
 
+/// Drops a job. In a proof a call is one step, and a drop among others takes as long as a hundred.
+pub fn let_go(_job: Job) {}
+
 /// The rounds of a job's order.
 fn rounds_of(alloc: Global, job: &Job) -> Result<Rounds, ExplainFault>
     ensures rounds { IfOk result (AreOf (plan job.now)) }
@@ -45,6 +48,9 @@ pub struct Trial {
     rounds: Rounds,
 }
 
+/// Drops a trial.
+pub fn let_trial_go(_trial: Trial) {}
+
 impl Trial {
     /// A trial of a job.
     pub fn build(alloc: Global, job: &Job) -> Result<Trial, ExplainFault>
@@ -52,8 +58,13 @@ impl Trial {
         ensures memory { IfErr result (λ e. e ≡ Memory) }
     {
         let copy = job.copy(alloc)?;
-        let rounds = rounds_of(alloc, &copy)?;
-        Ok(Trial { copy, rounds })
+        match rounds_of(alloc, &copy) {
+            Ok(rounds) => Ok(Trial { copy, rounds }),
+            Err(error) => {
+                let_go(copy);
+                Err(error)
+            }
+        }
     }
 
     /// Whether all conflicts of a and b are ordered, in one direction, once packet p has this head, which has the bit as it was.

@@ -3,13 +3,15 @@
 ghost use Rattle.std.specs.Prelude.{IfOk, IfSome};
 ghost use Rattle.hq_job.specs.Plan.{plan};
 ghost use Rattle.hq_model.specs.Machine.{IsByte};
-ghost use Rattle.hq_witness.specs.Differences.{AreFound};
+ghost use Rattle.hq_machine.specs.View.{state_of};
+ghost use Rattle.hq_witness.specs.Differences.{AreFound, TellApart};
 ghost use Rattle.hq_witness.specs.Traces.{IsRecording};
+ghost use Rattle.hq_witness.specs.Witness.{IsOver};
 
 use crate::difference::{Difference, apart};
 use crate::eager::{in_order, with_first};
 use crate::late::late;
-use crate::recording::Recording;
+use crate::recording::{Recording, let_go};
 use crate::target::Target;
 use hq_fence::Why;
 use hq_job::Job;
@@ -25,21 +27,38 @@ pub struct Found {
     pub bad: Journal,
 }
 
+/// Where two runs differ, if both are over and they do.
+fn difference_of(job: &Job, good: &Recording, bad: &Recording) -> Option<Difference>
+    requires good { IsRecording (plan job.now) good.now }
+    requires bad { IsRecording (plan job.now) bad.now }
+    ensures good { IfSome result (λ _. IsOver (plan job.now) (state_of (plan job.now) good.now.state)) }
+    ensures bad { IfSome result (λ _. IsOver (plan job.now) (state_of (plan job.now) bad.now.state)) }
+    ensures apart { IfSome result (TellApart good.now.trace bad.now.trace) }
+{
+    if !good.is_over(job) || !bad.is_over(job) {
+        return None;
+    }
+    apart(&good.trace, &bad.trace)
+}
+
 /// The two runs, where both are over and they differ.
 fn compare(job: &Job, good: Recording, bad: Recording) -> Option<Found>
     requires good { IsRecording (plan job.now) good }
     requires bad { IsRecording (plan job.now) bad }
     ensures { IfSome result (AreFound (plan job.now)) }
 {
-    if !good.is_over(job) || !bad.is_over(job) {
-        return None;
+    match difference_of(job, &good, &bad) {
+        Some(difference) => Some(Found {
+            difference,
+            good: good.into_journal(),
+            bad: bad.into_journal(),
+        }),
+        None => {
+            let_go(good);
+            let_go(bad);
+            None
+        }
     }
-    let difference = apart(&good.trace, &bad.trace)?;
-    Some(Found {
-        difference,
-        good: good.into_journal(),
-        bad: bad.into_journal(),
-    })
 }
 
 /// Two runs of a conflict whose packets nothing orders: with the one first, and with the other first.
@@ -54,8 +73,13 @@ fn exchanged(
     ensures { IfOk result (λ found. IfSome found (AreFound (plan job.now))) }
 {
     let good = with_first(alloc, job, before, order, target.p, target.r, target.byte)?;
-    let bad = with_first(alloc, job, before, order, target.r, target.p, target.byte)?;
-    Ok(compare(job, good, bad))
+    match with_first(alloc, job, before, order, target.r, target.p, target.byte) {
+        Ok(bad) => Ok(compare(job, good, bad)),
+        Err(error) => {
+            let_go(good);
+            Err(error)
+        }
+    }
 }
 
 /// Two runs of a conflict whose packets are ordered, but not by fences: one by one, and with the byte written back late.
@@ -70,8 +94,13 @@ fn delayed(
     ensures { IfOk result (λ found. IfSome found (AreFound (plan job.now))) }
 {
     let good = in_order(alloc, job, order, target.byte)?;
-    let bad = late(alloc, job, before, order, target)?;
-    Ok(compare(job, good, bad))
+    match late(alloc, job, before, order, target) {
+        Ok(bad) => Ok(compare(job, good, bad)),
+        Err(error) => {
+            let_go(good);
+            Err(error)
+        }
+    }
 }
 
 /// Two runs that differ in the target's byte, if those that are built for it do. Where packets aren't ordered, but can't be exchanged

@@ -6,7 +6,7 @@ ghost use Rattle.hq_model.specs.Machine.{IsByte};
 ghost use Rattle.hq_witness.specs.Traces.{IsRecording};
 
 use crate::packets::{agent_of, agent_total, packet_total, queue_total, written};
-use crate::recording::Recording;
+use crate::recording::{Recording, let_go};
 use hq_job::Job;
 use hq_machine::Event;
 use hq_order::Before;
@@ -188,6 +188,34 @@ impl Recording {
         }
         Ok(())
     }
+
+    /// Takes the packets of an order list one by one.
+    fn take_in_order(&mut self, job: &Job, order: &[u16]) -> Result<(), AllocError>
+        requires { IsRecording (plan job.now) self.old }
+        ensures { OnOk result (IsRecording (plan job.now) self.new) }
+    {
+        self.advance(job)?;
+        self.take_each(job, order)
+    }
+
+    /// Takes two packets in this order, as early as may be and one behind the other, and all others one by one.
+    fn take_with_first(
+        &mut self,
+        job: &Job,
+        before: &Before,
+        order: &[u16],
+        first: u32,
+        second: u32,
+    ) -> Result<(), AllocError>
+        requires { IsRecording (plan job.now) self.old }
+        ensures { OnOk result (IsRecording (plan job.now) self.new) }
+    {
+        self.advance(job)?;
+        self.take_each_apart(job, before, order, first, second)?;
+        self.take_eagerly(job, first)?;
+        self.take_eagerly(job, second)?;
+        self.take_each(job, order)
+    }
 }
 
 /// Whether a packet is neither the other nor before it.
@@ -201,9 +229,13 @@ pub fn in_order(alloc: Global, job: &Job, order: &[u16], byte: u32) -> Result<Re
     ensures { IfOk result (λ r. IsRecording (plan job.now) r) }
 {
     let mut run = Recording::start(alloc, job, byte)?;
-    run.advance(job)?;
-    run.take_each(job, order)?;
-    Ok(run)
+    match run.take_in_order(job, order) {
+        Ok(()) => Ok(run),
+        Err(error) => {
+            let_go(run);
+            Err(error)
+        }
+    }
 }
 
 /// The run that takes two packets in this order, as early as may be and one behind the other, and all others one by one.
@@ -220,10 +252,11 @@ pub fn with_first(
     ensures { IfOk result (λ r. IsRecording (plan job.now) r) }
 {
     let mut run = Recording::start(alloc, job, byte)?;
-    run.advance(job)?;
-    run.take_each_apart(job, before, order, first, second)?;
-    run.take_eagerly(job, first)?;
-    run.take_eagerly(job, second)?;
-    run.take_each(job, order)?;
-    Ok(run)
+    match run.take_with_first(job, before, order, first, second) {
+        Ok(()) => Ok(run),
+        Err(error) => {
+            let_go(run);
+            Err(error)
+        }
+    }
 }

@@ -7,7 +7,7 @@ ghost use Rattle.hq_witness.specs.Traces.{IsRecording};
 
 use crate::origin::Origin;
 use crate::packets::{acquire_of, agent_of, agent_total, packet_total, queue_of, release_of};
-use crate::recording::Recording;
+use crate::recording::{Recording, let_go};
 use crate::target::Target;
 use hq_fence::Kind;
 use hq_job::Job;
@@ -193,6 +193,28 @@ impl Recording {
         }
         Ok(())
     }
+
+    /// Takes all packets, the target's as late as may be.
+    fn take_late(
+        &mut self,
+        job: &Job,
+        before: &Before,
+        order: &[u16],
+        target: &Target,
+    ) -> Result<(), AllocError>
+        requires { IsRecording (plan job.now) self.old }
+        ensures { OnOk result (IsRecording (plan job.now) self.new) }
+    {
+        self.advance(job)?;
+        self.take_each_apart(job, before, order, target.p, target.p)?;
+        self.keep_old(job, target)?;
+        if self.enter(job, target.p)? {
+            self.go_on_lazily(job, target, target.p)?;
+        }
+        self.reach_second(job, before, target)?;
+        self.settle(job, target.byte)?;
+        self.take_each(job, order)
+    }
 }
 
 /// The run in which the target's second packet keeps what it can see of the byte as long as may be, and what the first packet wrote there
@@ -208,14 +230,11 @@ pub fn late(
     ensures { IfOk result (λ r. IsRecording (plan job.now) r) }
 {
     let mut run = Recording::start(alloc, job, target.byte)?;
-    run.advance(job)?;
-    run.take_each_apart(job, before, order, target.p, target.p)?;
-    run.keep_old(job, target)?;
-    if run.enter(job, target.p)? {
-        run.go_on_lazily(job, target, target.p)?;
+    match run.take_late(job, before, order, target) {
+        Ok(()) => Ok(run),
+        Err(error) => {
+            let_go(run);
+            Err(error)
+        }
     }
-    run.reach_second(job, before, target)?;
-    run.settle(job, target.byte)?;
-    run.take_each(job, order)?;
-    Ok(run)
 }

@@ -4,8 +4,7 @@ use Rattle.hq_job.specs.Plan.{plan}
 use Rattle.hq_order.proofs.Filling.{packets_count}
 use Rattle.hq_explain.specs.declared.advice.Advice.{Advice}
 use Rattle.hq_explain.specs.Advised.{IsAdvice}
-use Rattle.hq_explain.specs.declared.fault.ExplainFault.TheVariants.{Memory}
-use Rattle.hq_explain.proofs.Lists.{each_push, handed_on}
+use Rattle.hq_explain.proofs.Lists.{each_push}
 use Rattle.hq_explain.proofs.advice.advise.Goals as goal
 
 pub advice_of-next-requires-clause-bits : goal.advice_of-next-requires-clause-bits
@@ -17,7 +16,7 @@ loop-p-preserved c =
     let old = c.loop-p.list.items in
     let i = c.loop-p.invariant in
     let x = c.advice_of-next.result.0 in
-    let pushed : c.push.new.list.items ≡ old ++ x ∷ [] = c.in_ok-push.ensures.pushed in (
+    let pushed : c.push.new.list.items ≡ old ++ x ∷ [] = c.in-Ok.ensures.pushed in (
       c.advice_of-next.ensures.trial,
       ap length pushed ∙ length_push old x ∙ ap (λ n. n + 1) i.1,
       subst (λ (list : List Advice). (k : ℕ) (advice : Advice) → slice_get list k ≡ Some advice → IsAdvice job c.args.a c.args.b k advice) (sym pushed)
@@ -29,6 +28,3 @@ returns-clause-advice c = record {
   len = omega (arith, c.loop-p.invariant.1, c.loop-p-test.false, c.loop-p.auto.p-end, packets_count c.args.job.now, ap length c.packets-p-end.ensures);
   each = c.loop-p.invariant.2;
 }
-
-pub returns-in_err-push-clause-memory : goal.returns-in_err-push-clause-memory
-returns-in_err-push-clause-memory c = handed_on (λ e. e ≡ Memory) c.from_residual.result c.in_err-push.field-0.0 c.from_residual.ensures.1 c.in_err-push.ensures.memory
