@@ -15,5 +15,3 @@ pub mod Placed
 pub mod OnePass
 pub mod Taking
 pub mod Parting
-pub mod Shared
-pub mod WideTaken

@@ -12,5 +12,3 @@ pub mod Rows
 pub mod Gains
 pub mod SoFar
 pub mod Parted
-pub mod Sharing
-pub mod WideSoFar

@@ -6,13 +6,11 @@ ghost use Rattle.hq_cert.specs.TextFaults.{start, add_head, add_order, add_line,
 ghost use Rattle.hq_cert.specs.DraftView.{state_of};
 ghost use Rattle.hq_cert.specs.Gives.{Gives};
 ghost use Rattle.hq_cert.specs.OnePass.{LineAhead, PairAhead, TakenFrom};
-ghost use Rattle.hq_cert.specs.Sharing.{IsEnd, LinesAhead, PairsAhead};
 ghost use Rattle.hq_cert.specs.View.{line_of, pair_of};
 ghost use Rattle.hq_cert.specs.declared.draft.Stage.{Stage};
 
 use crate::certificate::{Certificate, Line, Pair};
 use crate::fault::CertReason;
-use crate::halves::{LinesPart, PairsPart};
 use crate::one_pass;
 use crate::operands::numbers_said;
 use crate::pairs::pair_said;
@@ -79,13 +77,6 @@ impl Draft {
         }
     }
 
-    /// What may come next.
-    pub fn stage(&self) -> Stage
-        ensures { result ≡ (state_of self.now).stage }
-    {
-        self.stage
-    }
-
     /// How many lines there are.
     fn count(&self) -> usize
         ensures { result ≡ length (state_of self.now).lines }
@@ -94,7 +85,7 @@ impl Draft {
     }
 
     /// The same as the number of a line, where 32 bits can say it: behind 2^32 lines no more can come, but pair lines and the end can.
-    pub fn number(&self) -> Option<u32>
+    fn number(&self) -> Option<u32>
         ensures { IfSome result (λ n. n ≡ length (state_of self.now).lines) }
     {
         let count = self.count();
@@ -257,50 +248,6 @@ impl Draft {
             rest = behind;
             taken += 1;
         }
-    }
-
-    /// Takes in lines that a text begins with, where they are the next ones. Answers how many they are, and what is left.
-    pub fn push_lines<'a>(
-        &mut self,
-        text: &'a [u8],
-        part: LinesPart<'a>,
-    ) -> Result<(usize, &'a [u8]), CertReason>
-        requires stage { (state_of self.old).stage ≡ Stage.Lines }
-        requires part { LinesAhead part.first text.now (map line_of part.lines.items) part.rest.now }
-        ensures taken { IfOk result (λ t. TakenFrom text.now t.1.now t.0 (state_of self.old) (state_of self.new)) }
-        ensures is_end { IfOk result (λ t. IsEnd text.now t.1.now) }
-        ensures stage { (state_of self.new).stage ≡ Stage.Lines }
-        ensures memory { IfErr result (λ e. e ≡ CertReason.Memory) }
-    {
-        if part.first != self.lines.len() {
-            return Ok((0, text));
-        }
-        let count = part.lines.len();
-        let mut lines = part.lines;
-        self.lines.append(&mut lines)?;
-        Ok((count, part.rest))
-    }
-
-    /// Takes in pair lines behind so many lines that a text begins with. Answers how many they are, and what is left.
-    pub fn push_pairs<'a>(
-        &mut self,
-        count: u32,
-        text: &'a [u8],
-        part: PairsPart<'a>,
-    ) -> Result<(usize, &'a [u8]), CertReason>
-        requires stage { (state_of self.old).stage ≡ Stage.Pairs }
-        requires count { count ≡ length (state_of self.old).lines }
-        requires part { PairsAhead count text.now (map pair_of part.pairs.items) part.rest.now }
-        ensures taken { IfOk result (λ t. TakenFrom text.now t.1.now t.0 (state_of self.old) (state_of self.new)) }
-        ensures is_end { IfOk result (λ t. IsEnd text.now t.1.now) }
-        ensures stage { (state_of self.new).stage ≡ Stage.Pairs }
-        ensures count { count ≡ length (state_of self.new).lines }
-        ensures memory { IfErr result (λ e. e ≡ CertReason.Memory) }
-    {
-        let more = part.pairs.len();
-        let mut pairs = part.pairs;
-        self.pairs.append(&mut pairs)?;
-        Ok((more, part.rest))
     }
 
     /// Takes in the lines that a text begins with, as long as they are in a common form. Answers how many they are, and what is left.

@@ -138,17 +138,6 @@ fn rule(k: u32, text: &[u8]) -> Option<(Rule, &[u8])>
     }
 }
 
-/// The number that a text's first line says is its own, where that can be told at once, else 0.
-pub fn own_number(text: &[u8]) -> u32 {
-    match text.strip_prefix(b"line ") {
-        Some(rest) => match number(rest, b' ') {
-            Some((own, _)) => own,
-            None => 0,
-        },
-        None => 0,
-    }
-}
-
 /// Line k, and what stands behind it.
 #[inline(always)]
 #[tactic(auto, using(crate::proofs::OnePass::line_ahead))]

@@ -1,7 +1,6 @@
 //! A certificate as far as its lines were taken in.
 
-ghost use Rattle.std.specs.Prelude.{List, ℕ, [], ◌++◌, IfErr, OnOk};
-ghost use Rattle.hq_text.specs.Lines.{lines_of};
+ghost use Rattle.std.specs.Prelude.{List, ℕ, []};
 ghost use Rattle.hq_cert.specs.Gives.{ReadOf};
 ghost use Rattle.hq_cert.specs.SoFar.{HasFault, HasTaken};
 
@@ -9,10 +8,8 @@ use crate::certificate::Certificate;
 use crate::draft::Draft;
 use crate::fault::CertFault;
 use crate::reading::{NO_MEMORY, finished, take_lines};
-use crate::wide_taking::take_lines_wide;
 use hq_text::TakesLines;
 use std::alloc::Global;
-use std::thread::Threads;
 
 /// What the lines of a certificate left so far, and how many they are.
 #[derive(Drop)]
@@ -30,22 +27,6 @@ impl Progress {
             draft: Draft::new(alloc),
             count: 0,
         }
-    }
-
-    /// Takes in all lines of a text, behind those that were taken in, by many threads or by one. What is wrong with them, is so
-    /// whatever lines follow.
-    pub fn take_wide<R: Threads + Sync>(
-        &mut self,
-        rt: &R,
-        alloc: Global,
-        wide: bool,
-        text: &[u8],
-    ) -> Result<(), CertFault>
-        ensures took { OnOk result ((lines : List (List ℕ)) → HasTaken lines self.old → HasTaken (lines ++ lines_of text.now) self.new) }
-        ensures fault { IfErr result (λ f. (lines more : List (List ℕ)) → HasTaken lines self.old → HasFault (lines ++ (lines_of text.now ++ more)) f) }
-    {
-        self.count = take_lines_wide(&mut self.draft, rt, alloc, wide, self.count, text)?;
-        Ok(())
     }
 
     /// The certificate of the lines, or that they have no end.

@@ -22,7 +22,7 @@ pub const NO_MEMORY: CertFault = CertFault {
 };
 
 /// A fault at a line, or out of memory at line 0.
-pub fn fault_at(line: usize, reason: CertReason) -> CertFault
+fn fault_at(line: usize, reason: CertReason) -> CertFault
     ensures { ((reason ≡ CertReason.Memory) × (result ≡ no_memory)) ⊎ ((¬ (reason ≡ CertReason.Memory)) × (result ≡ at_line line reason)) }
 {
     match reason {
@@ -53,7 +53,7 @@ fn take_words<'a>(
 }
 
 /// So many lines more.
-pub fn counted(count: usize, more: usize) -> Result<usize, CertFault>
+fn counted(count: usize, more: usize) -> Result<usize, CertFault>
     ensures found { IfOk result (λ n. n ≡ count + more) }
     ensures memory { IfErr result (λ f. f ≡ no_memory) }
 {
