@@ -9,7 +9,7 @@ ghost use Rattle.hq_engines.specs.Reports.{JobTextReport, ReaderReport, Reported
 use crate::saying::{say, say_memory};
 use crate::status::Status;
 use crate::stuck::say_stuck;
-use crate::taking::take_job;
+use crate::taking::{let_go, take_job};
 use hq_audit::{AuditNo, audit};
 use hq_cert::{Certificate, PrintFault, print};
 use hq_fence::{Kind, Why};
@@ -20,7 +20,7 @@ use std::fmt;
 use std::io::{Read, Write};
 
 /// A conflict that isn't ordered: `conflict`, the packets, the kind and the reason.
-#[derive(Clone, Copy, Debug)]
+#[derive(Clone, Copy)]
 struct ConflictLine {
     p: u16,
     r: u16,
@@ -87,7 +87,11 @@ pub fn audit_engine<R: Read, W: Write>(alloc: Global, reader: &mut R, writer: &m
     ensures { Reported (ReaderReport R R.remaining reader.old reader.new (JobTextReport (λ job. JobReport (plan job)))) (W.contents writer.old) (W.contents writer.new) result }
 {
     match take_job(alloc, reader, writer) {
-        Ok(job) => audit_found(alloc, writer, &job),
+        Ok(job) => {
+            let status = audit_found(alloc, writer, &job);
+            let_go(job);
+            status
+        }
         Err(status) => status,
     }
 }

@@ -1,24 +1,25 @@
 //! `hsaq fix` and `hsaq trim`: a job's text with other heads on its packets.
 
-ghost use Rattle.std.specs.Prelude.{◌≡◌, IfErr, IfOk, IfSome};
+ghost use Rattle.std.specs.Prelude.{◌≡◌, IfErr, IfOk, IfSome, length};
 ghost use Rattle.hq_text.specs.Lines.{lines_of};
 ghost use Rattle.hq_job.specs.JobText.{JobText};
 ghost use Rattle.hq_job.specs.Plan.{plan};
 ghost use Rattle.hq_job.specs.Rewritten.{TextRewritten, heads_of, job_with_heads};
 ghost use Rattle.hq_audit.specs.Refused.{IsRefused};
+ghost use Rattle.hq_audit.specs.declared.fault.AuditNo.TheVariants.{Memory};
 ghost use Rattle.hq_engines.specs.Change.{ChangeReport, IsChanged, TellsChange, TellsText, judged_job};
 ghost use Rattle.hq_engines.specs.Reports.{JobTextReport, OfReader, ReaderReport, Reported};
 
 use crate::audit::say_no_certificate;
 use crate::saying::say_text;
 use crate::status::Status;
-use crate::taking::take_job_text;
+use crate::taking::{let_go, take_job_text};
 use hq_audit::AuditNo;
 use hq_change::{Watch, fix, trim};
 use hq_job::{Job, rewrite};
 use hq_model::machine::stuck_law;
 use hq_packet::Head;
-use std::alloc::Global;
+use std::alloc::{AllocError, Global};
 use std::io::{Read, Write};
 
 /// What is asked for: what a job lacks, or that it goes without what it doesn't need.
@@ -47,6 +48,49 @@ fn job_changed(alloc: Global, job: Job, aim: Aim, watch: &dyn Watch) -> Result<J
     }
 }
 
+/// The text of a job with the heads of another.
+fn rewritten(alloc: Global, text: &[u8], job: &Job, changed: &Job) -> Result<Vec<u8>, AllocError>
+    requires text { JobText (lines_of text.now) job.now }
+    requires count { length (heads_of changed.now) ≡ length job.now.packets }
+    requires heads { job_with_heads job.now (heads_of changed.now) ≡ changed.now }
+    ensures text { IfOk result (λ new. JobText (lines_of new.items) changed.now) }
+    ensures rewritten { IfOk result (λ new. TextRewritten (heads_of changed.now) job.now text.now new.items) }
+{
+    let heads = changed.heads(alloc)?;
+    rewrite(alloc, text, job, &heads)
+}
+
+/// A job whose heads were changed, with its text and the heads that its packets had.
+fn with_text(
+    alloc: Global,
+    text: &[u8],
+    job: &Job,
+    changed: Job,
+) -> Result<(Vec<u8>, Changed), AuditNo>
+    requires text { JobText (lines_of text.now) job.now }
+    requires count { length (heads_of changed) ≡ length job.now.packets }
+    requires heads { job_with_heads job.now (heads_of changed) ≡ changed }
+    ensures job { IfOk result (λ it. it.1.job ≡ changed) }
+    ensures heads { IfOk result (λ it. it.1.heads.items ≡ heads_of job.now) }
+    ensures text { IfOk result (λ it. JobText (lines_of it.0.items) it.1.job) }
+    ensures rewritten { IfOk result (λ it. TextRewritten (heads_of it.1.job) job.now text.now it.0.items) }
+    ensures memory { IfErr result (λ no. no ≡ Memory) }
+{
+    let Ok(new) = rewritten(alloc, text, job, &changed) else {
+        let_go(changed);
+        return Err(AuditNo::Memory);
+    };
+    let Ok(heads) = job.heads(alloc) else {
+        let_go(changed);
+        return Err(AuditNo::Memory);
+    };
+    let changed = Changed {
+        job: changed,
+        heads,
+    };
+    Ok((new, changed))
+}
+
 /// The text of a job as the aim has it, and that job.
 fn text_changed(
     alloc: Global,
@@ -62,16 +106,9 @@ fn text_changed(
     ensures rewritten { IfOk result (λ it. TextRewritten (heads_of it.1.job) job.now text.now it.0.items) }
     ensures refused { IfErr result (λ no. IsRefused (judged_job aim (plan job.now)) no) }
 {
-    let heads = job.heads(alloc)?;
     let copy = job.copy(alloc)?;
     let changed = job_changed(alloc, copy, aim, watch)?;
-    let new_heads = changed.heads(alloc)?;
-    let new = rewrite(alloc, text, job, &new_heads)?;
-    let changed = Changed {
-        job: changed,
-        heads,
-    };
-    Ok((new, changed))
+    with_text(alloc, text, job, changed)
 }
 
 /// Writes the text of a job as the aim has it, or why there is none.
@@ -109,7 +146,11 @@ pub fn change_engine<R: Read, W: Write>(
     ensures told { IfSome result.1 (λ it. OfReader R R.remaining reader.old reader.new (TellsText aim it)) }
 {
     match take_job_text(alloc, reader, writer) {
-        Ok((text, job)) => change_found(alloc, writer, &text, &job, aim, watch),
+        Ok((text, job)) => {
+            let answer = change_found(alloc, writer, &text, &job, aim, watch);
+            let_go(job);
+            answer
+        }
         Err(status) => (status, None),
     }
 }

@@ -11,7 +11,7 @@ ghost use Rattle.hq_engines.specs.Reports.{JobTextReport, ReaderReport, Reported
 use crate::replay::take_journal;
 use crate::saying::say_memory;
 use crate::status::Status;
-use crate::taking::take_job;
+use crate::taking::{let_go, take_job};
 use hq_chart::{ChartFault, chart};
 use hq_job::Job;
 use hq_machine::{Event, Journal};
@@ -123,7 +123,11 @@ pub fn chart_engine<R: Read, S: Read, W: Write>(
     ensures { Reported (ReaderReport R R.remaining reader.old reader.new (JobTextReport (λ job. ReaderReport S S.remaining timeline.old timeline.new (TimelineReport (ChartReport job copies))))) (W.contents writer.old) (W.contents writer.new) result }
 {
     match take_job(alloc, reader, writer) {
-        Ok(job) => chart_read(alloc, timeline, writer, &job, copies),
+        Ok(job) => {
+            let status = chart_read(alloc, timeline, writer, &job, copies);
+            let_go(job);
+            status
+        }
         Err(status) => status,
     }
 }

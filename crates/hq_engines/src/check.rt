@@ -10,7 +10,7 @@ ghost use Rattle.hq_engines.specs.Reports.{JobTextReport, OfReader, ReaderReport
 
 use crate::saying::{say, say_file, say_memory};
 use crate::status::Status;
-use crate::taking::take_job;
+use crate::taking::{let_go, take_job};
 use hq_cert::{CertFault, CertReason, Certificate, ReadFault, read};
 use hq_certcheck::{Accepted, CheckNo, check_wide};
 use hq_job::Job;
@@ -20,7 +20,7 @@ use std::io::{Read, Write};
 use std::thread::Threads;
 
 /// A certificate's refusal: `refused line`, the line, and K1 to K5.
-#[derive(Clone, Copy, Debug)]
+#[derive(Clone, Copy)]
 struct CertRefusal(CertFault);
 
 impl fmt::Display for CertRefusal {
@@ -39,7 +39,7 @@ impl fmt::Display for CertRefusal {
 }
 
 /// That a job is accepted: how many packets it has, and how many work steps its runs take at most.
-#[derive(Clone, Copy, Debug)]
+#[derive(Clone, Copy)]
 struct AcceptedLine {
     packets: usize,
     bound: u64,
@@ -54,7 +54,7 @@ impl fmt::Display for AcceptedLine {
 }
 
 /// That a line doesn't hold.
-#[derive(Clone, Copy, Debug)]
+#[derive(Clone, Copy)]
 struct BadLine(usize);
 
 impl fmt::Display for BadLine {
@@ -66,7 +66,7 @@ impl fmt::Display for BadLine {
 }
 
 /// That two packets conflict and have no pair lines.
-#[derive(Clone, Copy, Debug)]
+#[derive(Clone, Copy)]
 struct PairMissing(u16, u16);
 
 impl fmt::Display for PairMissing {
@@ -78,7 +78,7 @@ impl fmt::Display for PairMissing {
 }
 
 /// That a pair line doesn't hold.
-#[derive(Clone, Copy, Debug)]
+#[derive(Clone, Copy)]
 struct BadPair(u32, u32);
 
 impl fmt::Display for BadPair {
@@ -138,13 +138,23 @@ fn say_refused<W: Write>(writer: &mut W, no: &CheckNo) -> Status
     }
 }
 
+/// Drops what was accepted.
+fn let_accepted_go(_accepted: Accepted) {}
+
 /// Writes what a check answered.
-pub fn say_checked<W: Write>(writer: &mut W, checked: &Result<Accepted, (CheckNo, Job)>) -> Status
-    ensures { Checked checked.now (W.contents writer.old) (W.contents writer.new) result }
+pub fn say_checked<W: Write>(writer: &mut W, checked: Result<Accepted, (CheckNo, Job)>) -> Status
+    ensures { Checked checked (W.contents writer.old) (W.contents writer.new) result }
 {
     match checked {
-        Ok(accepted) => say_accepted(writer, accepted),
-        Err((no, _)) => say_refused(writer, no),
+        Ok(accepted) => {
+            let status = say_accepted(writer, &accepted);
+            let_accepted_go(accepted);
+            status
+        }
+        Err((no, job)) => {
+            let_go(job);
+            say_refused(writer, &no)
+        }
     }
 }
 
@@ -159,7 +169,7 @@ fn check_found<W: Write>(
     ensures { Reported (CheckedReport job certificate.now) (W.contents writer.old) (W.contents writer.new) result }
 {
     let checked = check_wide(rt, alloc, job, certificate);
-    say_checked(writer, &checked)
+    say_checked(writer, checked)
 }
 
 /// Reads a certificate, and writes whether it holds for a job.
@@ -174,7 +184,10 @@ fn check_read<S: Read, W: Write>(
 {
     match take_certificate(alloc, certificate, writer) {
         Ok(certificate) => check_found(rt, alloc, writer, job, &certificate),
-        Err(status) => status,
+        Err(status) => {
+            let_go(job);
+            status
+        }
     }
 }
 

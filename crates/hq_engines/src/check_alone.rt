@@ -6,7 +6,7 @@ ghost use Rattle.hq_engines.specs.Reports.{JobTextReport, ReaderReport, Reported
 
 use crate::check::{say_checked, take_certificate};
 use crate::status::Status;
-use crate::taking::take_job;
+use crate::taking::{let_go, take_job};
 use hq_cert::Certificate;
 use hq_certcheck::check;
 use hq_job::Job;
@@ -23,7 +23,7 @@ fn check_found<W: Write>(
     ensures { Reported (CheckedReport job certificate.now) (W.contents writer.old) (W.contents writer.new) result }
 {
     let checked = check(alloc, job, certificate);
-    say_checked(writer, &checked)
+    say_checked(writer, checked)
 }
 
 /// Reads a certificate, and writes whether it holds for a job.
@@ -37,7 +37,10 @@ fn check_read<S: Read, W: Write>(
 {
     match take_certificate(alloc, certificate, writer) {
         Ok(certificate) => check_found(alloc, writer, job, &certificate),
-        Err(status) => status,
+        Err(status) => {
+            let_go(job);
+            status
+        }
     }
 }
 

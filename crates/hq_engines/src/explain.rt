@@ -6,7 +6,7 @@ ghost use Rattle.hq_engines.specs.Reports.{JobTextReport, ReaderReport, Reported
 use crate::graph::status_of;
 use crate::saying::say_memory;
 use crate::status::Status;
-use crate::taking::take_job;
+use crate::taking::{let_go, take_job};
 use hq_explain::{ExplainFault, Which, explain};
 use hq_job::Job;
 use std::alloc::Global;
@@ -34,7 +34,11 @@ pub fn explain_engine<R: Read, W: Write>(
     ensures { Reported (ReaderReport R R.remaining reader.old reader.new (JobTextReport (ExplainReport which))) (W.contents writer.old) (W.contents writer.new) result }
 {
     match take_job(alloc, reader, writer) {
-        Ok(job) => explain_found(alloc, writer, &job, which),
+        Ok(job) => {
+            let status = explain_found(alloc, writer, &job, which);
+            let_go(job);
+            status
+        }
         Err(status) => status,
     }
 }

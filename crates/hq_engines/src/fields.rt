@@ -8,7 +8,7 @@ use hq_text::number_of;
 use std::alloc::AllocError;
 
 /// How many bytes a field has.
-#[derive(Clone, Copy, Debug)]
+#[derive(Clone, Copy)]
 pub enum Width {
     Two,
     Four,
@@ -16,7 +16,7 @@ pub enum Width {
 }
 
 /// A field of a packet: a number, or reserved bytes, which are zero.
-#[derive(Clone, Copy, Debug)]
+#[derive(Clone, Copy)]
 pub enum Field {
     Number(Width),
     Reserved(Width),

@@ -6,7 +6,7 @@ ghost use Rattle.hq_engines.specs.Reports.{JobTextReport, ReaderReport, Reported
 
 use crate::saying::say_memory;
 use crate::status::Status;
-use crate::taking::take_job;
+use crate::taking::{let_go, take_job};
 use hq_graph::{Found, GraphFault, graph};
 use hq_job::Job;
 use std::alloc::Global;
@@ -40,7 +40,11 @@ pub fn graph_engine<R: Read, W: Write>(alloc: Global, reader: &mut R, writer: &m
     ensures { Reported (ReaderReport R R.remaining reader.old reader.new (JobTextReport GraphReport)) (W.contents writer.old) (W.contents writer.new) result }
 {
     match take_job(alloc, reader, writer) {
-        Ok(job) => graph_found(alloc, writer, &job),
+        Ok(job) => {
+            let status = graph_found(alloc, writer, &job);
+            let_go(job);
+            status
+        }
         Err(status) => status,
     }
 }

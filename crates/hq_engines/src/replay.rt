@@ -9,7 +9,7 @@ ghost use Rattle.hq_engines.specs.Reports.{JobTextReport, OfReader, ReaderReport
 use crate::buffers::say_buffers;
 use crate::saying::{say, say_file, say_memory};
 use crate::status::Status;
-use crate::taking::take_job;
+use crate::taking::{let_go, take_job};
 use hq_job::Job;
 use hq_machine::Journal;
 use hq_timeline::{ReadFault, ReplayFault, TimeFault, TimeReason, read, replay};
@@ -18,7 +18,7 @@ use std::fmt;
 use std::io::{Read, Write};
 
 /// A timeline's refusal: `refused line`, the line, and E1 to E4.
-#[derive(Clone, Copy, Debug)]
+#[derive(Clone, Copy)]
 struct TimeRefusal(TimeFault);
 
 impl fmt::Display for TimeRefusal {
@@ -36,7 +36,7 @@ impl fmt::Display for TimeRefusal {
 }
 
 /// That an event isn't enabled.
-#[derive(Clone, Copy, Debug)]
+#[derive(Clone, Copy)]
 struct EventRefusal(usize);
 
 impl fmt::Display for EventRefusal {
@@ -120,7 +120,11 @@ pub fn replay_engine<R: Read, S: Read, W: Write>(
     ensures { Reported (ReaderReport R R.remaining reader.old reader.new (JobTextReport (λ job. ReaderReport S S.remaining timeline.old timeline.new (TimelineReport (RunReport job))))) (W.contents writer.old) (W.contents writer.new) result }
 {
     match take_job(alloc, reader, writer) {
-        Ok(job) => replay_read(alloc, timeline, writer, &job),
+        Ok(job) => {
+            let status = replay_read(alloc, timeline, writer, &job);
+            let_go(job);
+            status
+        }
         Err(status) => status,
     }
 }

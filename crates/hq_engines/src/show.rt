@@ -6,7 +6,7 @@ ghost use Rattle.hq_engines.specs.Reports.{JobTextReport, ReaderReport, Reported
 ghost use Rattle.hq_engines.specs.Show.{packets_text, packet_line, show_text, ShowReport};
 
 use crate::status::Status;
-use crate::taking::take_job;
+use crate::taking::{let_go, take_job};
 use hq_job::{Job, Placed, Queue};
 use hq_report::ShownPacket;
 use std::alloc::Global;
@@ -69,7 +69,11 @@ pub fn show_engine<R: Read, W: Write>(alloc: Global, reader: &mut R, writer: &mu
     ensures { Reported (ReaderReport R R.remaining reader.old reader.new (JobTextReport ShowReport)) (W.contents writer.old) (W.contents writer.new) result }
 {
     match take_job(alloc, reader, writer) {
-        Ok(job) => show_found(writer, &job),
+        Ok(job) => {
+            let status = show_found(writer, &job);
+            let_go(job);
+            status
+        }
         Err(status) => status,
     }
 }

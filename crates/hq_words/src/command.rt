@@ -202,6 +202,17 @@ fn of_job<'a>(
         .arg(job(alloc))
 }
 
+/// A command with one argument more, where it could be made.
+fn taking<'a>(
+    command: Result<Command<'a>, AllocError>,
+    argument: Arg<'a>,
+) -> Result<Command<'a>, AllocError>
+    ensures app { IfOk result (λ c. IsOkAnd command.entry (λ w. argument.entry.global ≡ false → app_of c ≡ with_rule (app_of w) (rule_of argument.entry))) }
+    ensures local { IfOk result (λ c. IsOkAnd command.entry (λ w. argument.entry.global ≡ false → (fields_of w).has_globals ≡ false → (fields_of c).has_globals ≡ false)) }
+{
+    command?.arg(argument)
+}
+
 /// `show JOB`
 fn show<'a>(alloc: Global) -> Result<Command<'a>, AllocError>
     ensures app { IfOk result (λ c. app_of c ≡ show_app) }
@@ -235,14 +246,16 @@ fn check<'a>(alloc: Global) -> Result<Command<'a>, AllocError>
     ensures app { IfOk result (λ c. app_of c ≡ check_app) }
     ensures local { IfOk result (λ c. (fields_of c).has_globals ≡ false) }
 {
-    of_job(
-        alloc,
-        "check",
-        "Checks a certificate against a job",
-        "hsaq check <JOB> <CERT>",
-        CHECK_STATUS,
-    )?
-    .arg(certificate(alloc))
+    taking(
+        of_job(
+            alloc,
+            "check",
+            "Checks a certificate against a job",
+            "hsaq check <JOB> <CERT>",
+            CHECK_STATUS,
+        ),
+        certificate(alloc),
+    )
 }
 
 /// `run JOB [--timeline OUT]`
@@ -250,14 +263,16 @@ fn run<'a>(alloc: Global) -> Result<Command<'a>, AllocError>
     ensures app { IfOk result (λ c. app_of c ≡ run_app) }
     ensures local { IfOk result (λ c. (fields_of c).has_globals ≡ false) }
 {
-    of_job(
-        alloc,
-        "run",
-        "Audits and checks a job, runs it with a thread for each queue, and prints the buffers as the run leaves them",
-        "hsaq run <JOB> [--timeline <OUT>]",
-        RUN_STATUS,
-    )?
-    .arg(out(alloc))
+    taking(
+        of_job(
+            alloc,
+            "run",
+            "Audits and checks a job, runs it with a thread for each queue, and prints the buffers as the run leaves them",
+            "hsaq run <JOB> [--timeline <OUT>]",
+            RUN_STATUS,
+        ),
+        out(alloc),
+    )
 }
 
 /// `replay JOB TIMELINE`
@@ -265,14 +280,16 @@ fn replay<'a>(alloc: Global) -> Result<Command<'a>, AllocError>
     ensures app { IfOk result (λ c. app_of c ≡ replay_app) }
     ensures local { IfOk result (λ c. (fields_of c).has_globals ≡ false) }
 {
-    of_job(
-        alloc,
-        "replay",
-        "Replays a timeline on a job, and prints the buffers as it leaves them",
-        "hsaq replay <JOB> <TIMELINE>",
-        REPLAY_STATUS,
-    )?
-    .arg(timeline(alloc))
+    taking(
+        of_job(
+            alloc,
+            "replay",
+            "Replays a timeline on a job, and prints the buffers as it leaves them",
+            "hsaq replay <JOB> <TIMELINE>",
+            REPLAY_STATUS,
+        ),
+        timeline(alloc),
+    )
 }
 
 /// `chart JOB TIMELINE [--copies]`
@@ -280,15 +297,14 @@ fn chart<'a>(alloc: Global) -> Result<Command<'a>, AllocError>
     ensures app { IfOk result (λ c. app_of c ≡ chart_app) }
     ensures local { IfOk result (λ c. (fields_of c).has_globals ≡ false) }
 {
-    of_job(
+    let of_job = of_job(
         alloc,
         "chart",
         "Draws a timeline as an SVG picture: what each packet did when",
         "hsaq chart <JOB> <TIMELINE> [--copies]",
         CHART_STATUS,
-    )?
-    .arg(timeline(alloc))?
-    .arg(copies(alloc))
+    );
+    taking(taking(of_job, timeline(alloc)), copies(alloc))
 }
 
 /// `graph JOB`
@@ -305,14 +321,6 @@ fn graph<'a>(alloc: Global) -> Result<Command<'a>, AllocError>
     )
 }
 
-/// A command with `--pair P R`.
-fn with_pair<'a>(alloc: Global, command: Command<'a>) -> Result<Command<'a>, AllocError>
-    ensures app { IfOk result (λ c. app_of c ≡ with_rule (with_rule (app_of command.entry) pair_rule) second_rule) }
-    ensures local { IfOk result (λ c. (fields_of command.entry).has_globals ≡ false → (fields_of c).has_globals ≡ false) }
-{
-    command.arg(pair(alloc))?.arg(second(alloc))
-}
-
 /// `explain JOB [--pair P R] [--all]`
 fn explain<'a>(alloc: Global) -> Result<Command<'a>, AllocError>
     ensures app { IfOk result (λ c. app_of c ≡ explain_app) }
@@ -324,9 +332,9 @@ fn explain<'a>(alloc: Global) -> Result<Command<'a>, AllocError>
         "Says why each conflict is ordered or isn't, and which single changes would order it",
         "hsaq explain <JOB> [--pair <P> <R>] [--all]",
         EXPLAIN_STATUS,
-    )?;
-    let of_pair = with_pair(alloc, of_job)?;
-    of_pair.arg(all(alloc))
+    );
+    let of_pair = taking(taking(of_job, pair(alloc)), second(alloc));
+    taking(of_pair, all(alloc))
 }
 
 /// `witness JOB [--good OUT] [--bad OUT]`
@@ -334,15 +342,14 @@ fn witness<'a>(alloc: Global) -> Result<Command<'a>, AllocError>
     ensures app { IfOk result (λ c. app_of c ≡ witness_app) }
     ensures local { IfOk result (λ c. (fields_of c).has_globals ≡ false) }
 {
-    of_job(
+    let of_job = of_job(
         alloc,
         "witness",
         "Shows two runs of a job that isn't ordered in which a byte comes from elsewhere",
         "hsaq witness <JOB> [--good <OUT>] [--bad <OUT>]",
         WITNESS_STATUS,
-    )?
-    .arg(good(alloc))?
-    .arg(bad(alloc))
+    );
+    taking(taking(of_job, good(alloc)), bad(alloc))
 }
 
 /// `fix JOB`

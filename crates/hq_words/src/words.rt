@@ -11,7 +11,7 @@ use clap::{ArgMatches, Error};
 use std::alloc::{AllocError, AllocFailed, Global};
 
 /// What is asked for: one variant for each command, with its words.
-#[derive(Debug, Drop)]
+#[derive(Drop)]
 pub enum Asked<'a> {
     /// A job's packets.
     Show {

@@ -7,12 +7,12 @@ use Rattle.hq_engines.proofs.change.change_engine.Goals as goal
 pub returns-in-Ok-clause-report : goal.returns-in-Ok-clause-report
 returns-in-Ok-clause-report g c =
     let was = g.W.Write.contents c.take_job_text.new.writer in
-    let is = g.W.Write.contents c.change_found.new.writer in
-    change_reported _ g.R.Read.remaining c.args.reader.now c.take_job_text.new.reader c.args.aim c.in-Ok.text.items c.in-Ok.job _ _ _ c.change_found.result.0 c.in-Ok.ensures.found (ap g.W.Write.contents c.in-Ok.ensures.unwritten)
-    (subst (λ t. Reported (ChangeReport c.args.aim t c.in-Ok.job) was is c.change_found.result.0) c.deref.ensures.value c.change_found.ensures.report)
+    let is = g.W.Write.contents c.change_found-answer.new.writer in
+    change_reported _ g.R.Read.remaining c.args.reader.now c.take_job_text.new.reader c.args.aim c.in-Ok.text.items c.in-Ok.job _ _ _ c.change_found-answer.result.0 c.in-Ok.ensures.found (ap g.W.Write.contents c.in-Ok.ensures.unwritten)
+    (subst (λ t. Reported (ChangeReport c.args.aim t c.in-Ok.job) was is c.change_found-answer.result.0) c.deref.ensures.value c.change_found-answer.ensures.report)
 
 pub returns-in-Err-clause-report : goal.returns-in-Err-clause-report
 returns-in-Err-clause-report g c = change_missing _ g.R.Read.remaining c.args.reader.now c.take_job_text.new.reader c.args.aim _ _ c.in-Err.status c.in-Err.ensures.refused
 
 pub returns-in-Ok-clause-told : goal.returns-in-Ok-clause-told
-returns-in-Ok-clause-told g c = change_told_if _ g.R.Read.remaining c.args.reader.now c.take_job_text.new.reader c.args.aim c.in-Ok.text.items c.in-Ok.job c.change_found.result.1 c.in-Ok.ensures.found c.change_found.ensures.told
+returns-in-Ok-clause-told g c = change_told_if _ g.R.Read.remaining c.args.reader.now c.take_job_text.new.reader c.args.aim c.in-Ok.text.items c.in-Ok.job c.change_found-answer.result.1 c.in-Ok.ensures.found c.change_found-answer.ensures.told

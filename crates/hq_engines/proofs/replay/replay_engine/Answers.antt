@@ -10,5 +10,5 @@ returns-in-Err g c =
 
 pub returns-in-Ok : goal.returns-in-Ok
 returns-in-Ok g c =
-    job_found _ g.R.Read.remaining c.args.reader.now c.take_job.new.reader c.in-Ok.job (λ job. ReaderReport _ g.S.Read.remaining c.args.timeline.now c.replay_read.new.timeline (TimelineReport (RunReport job))) _ _ _ c.replay_read.result
-    c.in-Ok.ensures.found (ap g.W.Write.contents c.in-Ok.ensures.unwritten) c.replay_read.ensures
+    job_found _ g.R.Read.remaining c.args.reader.now c.take_job.new.reader c.in-Ok.job (λ job. ReaderReport _ g.S.Read.remaining c.args.timeline.now c.replay_read-status.new.timeline (TimelineReport (RunReport job))) _ _ _ c.replay_read-status.result
+    c.in-Ok.ensures.found (ap g.W.Write.contents c.in-Ok.ensures.unwritten) c.replay_read-status.ensures

@@ -1,10 +1,11 @@
-use Rattle.std.proofs.Common.{ap₂, ◌∙◌, ◌||◌}
-use Rattle.std.proofs.lemmas.Result.{IfOk-weaker}
-use Rattle.clap.specs.Words.{with_rule}
+use Rattle.std.proofs.Common.{◌≡◌, false}
+use Rattle.clap.specs.Words.{app_of}
+use Rattle.clap.specs.declared.builder.command.Command.TheViews.{out-Command as fields_of}
+use Rattle.hq_words.proofs.Below.{stays, with_argument}
 use Rattle.hq_words.proofs.command.check.Goals as goal
 
 pub returns-clause-app : goal.returns-clause-app
-returns-clause-app c = IfOk-weaker c.arg.result _ _ (λ r adds. adds.shape c.certificate.ensures.local ∙ ap₂ with_rule c.in_ok-of_job.ensures.app c.certificate.ensures.rule) c.arg.ensures
+returns-clause-app c = with_argument app_of c.taking.result c.of_job.result _ _ _ _ c.taking.ensures.app c.certificate.ensures.local c.of_job.ensures.app c.certificate.ensures.rule
 
 pub returns-clause-local : goal.returns-clause-local
-returns-clause-local c = IfOk-weaker c.arg.result _ _ (λ r adds. adds.globals ∙ ap₂ (λ a b. a || b) c.in_ok-of_job.ensures.local c.certificate.ensures.local) c.arg.ensures
+returns-clause-local c = stays (λ w. (fields_of w).has_globals ≡ false) c.taking.result c.of_job.result _ c.taking.ensures.local c.certificate.ensures.local c.of_job.ensures.local

@@ -1,16 +1,11 @@
-use Rattle.std.proofs.Common.{ap, ap₂, ◌∙◌, ◌||◌}
-use Rattle.std.proofs.lemmas.Result.{IfOk-weaker}
-use Rattle.clap.specs.Words.{App, with_rule}
-use Rattle.hq_words.specs.Commands.{pair_rule, second_rule}
+use Rattle.std.proofs.Common.{◌≡◌, false}
+use Rattle.clap.specs.Words.{app_of}
+use Rattle.clap.specs.declared.builder.command.Command.TheViews.{out-Command as fields_of}
+use Rattle.hq_words.proofs.Below.{stays, with_argument}
 use Rattle.hq_words.proofs.command.explain.Goals as goal
 
 pub returns-clause-app : goal.returns-clause-app
-returns-clause-app c =
-    IfOk-weaker c.arg.result _ _ (λ r adds.
-    adds.shape c.all.ensures.local
-    ∙ ap₂ with_rule (c.in_ok-of_pair.ensures.app ∙ ap (λ (a : App). with_rule (with_rule a pair_rule) second_rule) c.in_ok-of_job.ensures.app) c.all.ensures.rule) c.arg.ensures
+returns-clause-app c = with_argument app_of c.taking-2.result c.taking-of_pair.result _ _ _ _ c.taking-2.ensures.app c.all.ensures.local (with_argument app_of c.taking-of_pair.result c.taking.result _ _ _ _ c.taking-of_pair.ensures.app c.second.ensures.local (with_argument app_of c.taking.result c.of_job-of_job.result _ _ _ _ c.taking.ensures.app c.pair.ensures.local c.of_job-of_job.ensures.app c.pair.ensures.rule) c.second.ensures.rule) c.all.ensures.rule
 
 pub returns-clause-local : goal.returns-clause-local
-returns-clause-local c =
-    IfOk-weaker c.arg.result _ _ (λ r adds.
-    adds.globals ∙ ap₂ (λ a b. a || b) (c.in_ok-of_pair.ensures.local c.in_ok-of_job.ensures.local) c.all.ensures.local) c.arg.ensures
+returns-clause-local c = stays (λ w. (fields_of w).has_globals ≡ false) c.taking-2.result c.taking-of_pair.result _ c.taking-2.ensures.local c.all.ensures.local (stays (λ w. (fields_of w).has_globals ≡ false) c.taking-of_pair.result c.taking.result _ c.taking-of_pair.ensures.local c.second.ensures.local (stays (λ w. (fields_of w).has_globals ≡ false) c.taking.result c.of_job-of_job.result _ c.taking.ensures.local c.pair.ensures.local c.of_job-of_job.ensures.local))

@@ -1,14 +1,11 @@
-use Rattle.std.proofs.Common.{ap₂, ◌∙◌, ◌||◌}
-use Rattle.std.proofs.lemmas.Result.{IfOk-weaker}
-use Rattle.clap.specs.Words.{with_rule}
+use Rattle.std.proofs.Common.{◌≡◌, false}
+use Rattle.clap.specs.Words.{app_of}
+use Rattle.clap.specs.declared.builder.command.Command.TheViews.{out-Command as fields_of}
+use Rattle.hq_words.proofs.Below.{stays, with_argument}
 use Rattle.hq_words.proofs.command.witness.Goals as goal
 
 pub returns-clause-app : goal.returns-clause-app
-returns-clause-app c =
-    IfOk-weaker c.arg-2.result _ _ (λ r adds.
-    adds.shape c.bad.ensures.local ∙ ap₂ with_rule (c.in_ok-arg.ensures.shape c.good.ensures.local ∙ ap₂ with_rule c.in_ok-of_job.ensures.app c.good.ensures.rule) c.bad.ensures.rule) c.arg-2.ensures
+returns-clause-app c = with_argument app_of c.taking-2.result c.taking.result _ _ _ _ c.taking-2.ensures.app c.bad.ensures.local (with_argument app_of c.taking.result c.of_job-of_job.result _ _ _ _ c.taking.ensures.app c.good.ensures.local c.of_job-of_job.ensures.app c.good.ensures.rule) c.bad.ensures.rule
 
 pub returns-clause-local : goal.returns-clause-local
-returns-clause-local c =
-    IfOk-weaker c.arg-2.result _ _ (λ r adds.
-    adds.globals ∙ ap₂ (λ a b. a || b) (c.in_ok-arg.ensures.globals ∙ ap₂ (λ a b. a || b) c.in_ok-of_job.ensures.local c.good.ensures.local) c.bad.ensures.local) c.arg-2.ensures
+returns-clause-local c = stays (λ w. (fields_of w).has_globals ≡ false) c.taking-2.result c.taking.result _ c.taking-2.ensures.local c.bad.ensures.local (stays (λ w. (fields_of w).has_globals ≡ false) c.taking.result c.of_job-of_job.result _ c.taking.ensures.local c.good.ensures.local c.of_job-of_job.ensures.local)
