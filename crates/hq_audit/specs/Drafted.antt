@@ -13,7 +13,8 @@ use Rattle.hq_model.specs.Order.{Before}
 use Rattle.hq_model.specs.Fence.{Conflict, need}
 use Rattle.hq_model.specs.Certificate as model
 use Rattle.hq_model.specs.Certificate.{kind_of}
-use Rattle.hq_model.specs.Certificate.Fences.{ForReadWrite, ForWriteWrite, ForWriteRead, ForWriteWriteChained, ForWriteReadChained}
+use Rattle.hq_model.specs.Certificate.Fences.{ForReadWrite, ForWriteWrite, ForWriteRead, ForWriteWriteChained}
+use Rattle.hq_model.specs.Certificate.Fences.{ForWriteReadChained}
 use Rattle.hq_audit.specs.Paired.{Longer}
 
 -- the release by x alone where the link is `=`, else from x to x2
@@ -37,7 +38,8 @@ Drafted job p r (ForWriteReadChained x x2 y2 y from link between link2 to) =
 
 -- so do those of each pair line
 abbrev pub AllDrafted : Job → List model.Pair → Type 0
-AllDrafted job pairs = All (λ pair. IsPacket job pair.p × IsPacket job pair.r × Drafted job pair.p pair.r pair.fences) pairs
+AllDrafted job pairs = All
+    (λ pair. IsPacket job pair.p × IsPacket job pair.r × Drafted job pair.p pair.r pair.fences) pairs
 
 -- and the fences are for this kind of conflict
 pub record DraftedAs (job : Job) (kind : Conflict) (p r : ℕ) (fences : Fences) : Type 0 where

@@ -15,7 +15,8 @@ lines_of l = map line_of l.lines.items
 
 -- Each line follows by its rule from lines of lower number.
 abbrev pub AllFollow : Job → List model.Line → Type 0
-AllFollow job lines = (k : ℕ) (line : model.Line) → slice_get lines k ≡ Some line → Follows job lines k line.p line.r line.rule
+AllFollow job lines = (k : ℕ) (line : model.Line) → slice_get lines k ≡ Some line
+    → Follows job lines k line.p line.r line.rule
 
 -- Each line follows from lines of lower number; and there are as few packets as a job may have.
 pub record Kept (job : Job) (l : Lines) : Type 0 where
@@ -53,6 +54,7 @@ pub record Branched (job : Job) (old new : Lines) (p s : ℕ) (citation : Citati
   pub cites : CitesBranch job (lines_of new) p s citation
 
 -- so do the citations, one for each of the signals
-pub record AllBranched (job : Job) (old new : Lines) (p : ℕ) (signals : List ℕ) (citations : List Citation) : Type 0 where
+pub record AllBranched (job : Job) (old new : Lines) (p : ℕ) (signals : List ℕ)
+    (citations : List Citation) : Type 0 where
   pub goes : Goes job old new
   pub cite : AllZip (CitesBranch job (lines_of new) p) signals citations

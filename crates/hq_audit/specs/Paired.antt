@@ -50,7 +50,8 @@ pairs_of v = map pair_of v.items
 
 -- Each pair line holds.
 abbrev pub AllHold : Job → List model.Line → List model.Pair → Type 0
-AllHold job lines pairs = All (λ pair. IsPacket job pair.p × IsPacket job pair.r × FencesHold job lines pair.p pair.r pair.fences) pairs
+AllHold job lines pairs = All
+    (λ pair. IsPacket job pair.p × IsPacket job pair.r × FencesHold job lines pair.p pair.r pair.fences) pairs
 
 -- No pair line was lost.
 pub record Longer (old new : List model.Pair) : Type 0 where

@@ -1,4 +1,5 @@
--- Which parts of memory packets write and touch: byte x lies in part x / size mod 64, and bit k of a mask stands for part k.
+-- Which parts of memory packets write and touch: byte x lies in part x / size mod 64, and bit k of a mask stands
+-- for part k.
 use Rattle.std.specs.Prelude.{◌≡◌, ℕ, ◌+◌, ◌*◌, ◌/◌, ◌%◌, ◌<◌, ◌≤◌, IsTrue, false, List, Some, All, length, slice_get}
 use Rattle.std.specs.Int.{bit_at}
 use Rattle.hq_footprint.specs.declared.footprint.Range.{Range}
@@ -37,12 +38,14 @@ NeverConflict job a b = (kind : Conflict) → Conflicts job kind a b → ⊥
 -- There is one for each packet, and packets that are apart don't conflict.
 pub record TellConflicts (job : Job) (touches : List Touch) : Type 0 where
   pub len : length touches ≡ length job.packets
-  pub apart : (a b : ℕ) (t u : Touch) → slice_get touches a ≡ Some t → slice_get touches b ≡ Some u → IsApart t u → NeverConflict job a b
+  pub apart : (a b : ℕ) (t u : Touch) → slice_get touches a ≡ Some t → slice_get touches b ≡ Some u → IsApart t u
+      → NeverConflict job a b
 
 -- the table has, in the row of each part, every packet whose mask has the part
 pub record IsTable (mask : Touch → ℕ) (touches : List Touch) (table : List ℕ) : Type 0 where
   pub len : length table ≡ 1024
-  pub each : (k b : ℕ) (t : Touch) → k < 64 → slice_get touches b ≡ Some t → bit_at (mask t) k ≡ 1 → IsTrue (has table (k * 1024 + b))
+  pub each : (k b : ℕ) (t : Touch) → k < 64 → slice_get touches b ≡ Some t → bit_at (mask t) k ≡ 1
+      → IsTrue (has table (k * 1024 + b))
 
 -- the tables of these packets
 pub record AreTables (touches : List Touch) (tables : Tables) : Type 0 where

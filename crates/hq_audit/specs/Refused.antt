@@ -34,8 +34,8 @@ pub record IsDirected (job : Job) (a b : ℕ) (d : Directed) : Type 0 where
   pub shows : Shows job d.first d.second d.shown
   pub shown : Shown job d.first d.second
 
--- The pair a, b is ordered in neither direction. It is told of with b first where b is before a, and else with a first, by the
--- first kind of conflict that isn't ordered in that direction, and why.
+-- The pair a, b is ordered in neither direction. It is told of with b first where b is before a, and else with a
+-- first, by the first kind of conflict that isn't ordered in that direction, and why.
 pub record IsUnshown (job : Job) (a b : ℕ) (u : Unshown) : Type 0 where
   pub neither : ¬ ShownOneWay job a b
   pub which : (Before job b a × (u.p ≡ b) × (u.r ≡ a)) ⊎ ((¬ Before job b a) × (u.p ≡ a) × (u.r ≡ b))
@@ -48,7 +48,8 @@ pub record IsUntold (job : Job) (p r : ℕ) (u : Unshown) : Type 0 where
   pub second : u.r ≡ r
   pub fault : IsNotShown job p r u.fault
 
--- The pair of a that is told of is ordered in neither direction, and those of a with lesser packets above it are ordered.
+-- The pair of a that is told of is ordered in neither direction, and those of a with lesser packets above it are
+-- ordered.
 pub record IsFirstOfRow (job : Job) (a : ℕ) (u : Unshown) : Type 0 where
   pub b : ℕ
   pub above : a < b
@@ -73,11 +74,12 @@ no_of_order order.Memory = audit.Memory
 abbrev pub no_of_pair : Unshown → AuditNo
 no_of_pair u = audit.Conflict u.p u.r u.fault.kind u.fault.why
 
--- A list of stuck packets is the right one. Where a conflict is told of there is an order list, and the conflict is the first that
--- isn't ordered.
+-- A list of stuck packets is the right one. Where a conflict is told of there is an order list, and the conflict is
+-- the first that isn't ordered.
 abbrev pub IsRefused : Job → AuditNo → Type 0
 IsRefused job (audit.Stuck packets) = AreStuck job packets.items
-IsRefused job (audit.Conflict p r kind why) = ((list : List ℕ) × OrderList job list) × IsFirstUnshown job (record { p = p; r = r; fault = record { kind = kind; why = why } })
+IsRefused job (audit.Conflict p r kind why) = ((list : List ℕ) × OrderList job list)
+    × IsFirstUnshown job (record { p = p; r = r; fault = record { kind = kind; why = why } })
 IsRefused job audit.Memory = Unit {0}
 
 -- ---- what each part answers

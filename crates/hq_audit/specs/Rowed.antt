@@ -1,4 +1,5 @@
--- What is known of the pair lines of some packets with those above them: part k has those of the packets from 64 * k on, 64 of them.
+-- What is known of the pair lines of some packets with those above them: part k has those of the packets from 64 *
+-- k on, 64 of them.
 use Rattle.std.specs.Prelude.{◌≡◌, ℕ, ◌+◌, ◌*◌, ◌<◌, ◌≤◌, ◌⊎◌, List, IfSome, Option, length, slice_index_or}
 use Rattle.hq_cert.specs.declared.certificate.Pair.{Pair}
 use Rattle.hq_cert.specs.declared.certificate.Fences.{Fences}
@@ -12,9 +13,11 @@ use Rattle.hq_audit.specs.Drafted.{AllDrafted}
 use Rattle.hq_audit.specs.Paired.{pairs_of, HasAll, AllHold}
 use Rattle.hq_audit.specs.declared.spreading.Drafts.{Drafts}
 
--- there is a pair line for each kind of conflict, in one direction, of all pairs whose lesser packet is one from a up to b
+-- there is a pair line for each kind of conflict, in one direction, of all pairs whose lesser packet is one from a
+-- up to b
 abbrev pub RowsBetween : Job → List model.Pair → ℕ → ℕ → Type 0
-RowsBetween job pairs a b = (q s : ℕ) → a ≤ q → q < b → q < s → IsPacket job s → HasAll job pairs q s ⊎ HasAll job pairs s q
+RowsBetween job pairs a b = (q s : ℕ) → a ≤ q → q < b → q < s → IsPacket job s
+    → HasAll job pairs q s ⊎ HasAll job pairs s q
 
 -- the pair lines of the packets from a up to b, as they are judged
 pub record DraftsRows (job : Job) (a b : ℕ) (pairs : Vec Pair) : Type 0 where
@@ -39,11 +42,13 @@ pub record CitesRows (job : Job) (lines : List model.Line) (a b : ℕ) (pairs : 
 
 -- so are those of each part, where it is there
 abbrev pub AllMayCite : Job → List model.Line → List (Option (Vec Pair)) → Type 0
-AllMayCite job lines parts = (k : ℕ) (d : Option (Vec Pair)) → k < length parts → IfSome (slice_index_or parts k d) (CitesRows job lines (k * 64) (k * 64 + 64))
+AllMayCite job lines parts = (k : ℕ) (d : Option (Vec Pair)) → k < length parts
+    → IfSome (slice_index_or parts k d) (CitesRows job lines (k * 64) (k * 64 + 64))
 
 -- whichever packets' pair lines a part has as they are judged, it has with their numbers, where it is there
 abbrev pub CitesPart : Job → List model.Line → Option Drafts → Option (Vec Pair) → Type 0
-CitesPart job lines part cited = (a b : ℕ) → IfSome part (λ d. DraftsRows job a b d.pairs) → IfSome cited (CitesRows job lines a b)
+CitesPart job lines part cited = (a b : ℕ) → IfSome part (λ d. DraftsRows job a b d.pairs)
+    → IfSome cited (CitesRows job lines a b)
 
 -- the fences, with what they cite, order a conflict of this kind of p with r
 pub record Holds (job : Job) (lines : List model.Line) (kind : Conflict) (p r : ℕ) (fences : Fences) : Type 0 where

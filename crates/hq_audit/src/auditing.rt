@@ -57,8 +57,8 @@ pub fn certified(
 ///
 /// # Errors
 ///
-/// `Stuck` with the packets that can never complete, rising, where there are such; else `Conflict` with the first two packets, by
-/// number, that conflict and that no fences order in either direction; `Memory`.
+/// `Stuck` with the packets that can never complete, rising, where there are such; else `Conflict` with the first
+/// two packets, by number, that conflict and that no fences order in either direction; `Memory`.
 pub fn audit(alloc: Global, job: &Job) -> Result<Certificate, AuditNo>
     ensures holds { IfOk result (λ c. CertHolds (plan job.now) c) }
     ensures refused { IfErr result (λ no. IsRefused (plan job.now) no) }

@@ -24,7 +24,8 @@ use std::thread::Threads;
 
 /// The citation that p is x, or before it, if its line is there.
 fn cite(lines: &Lines, p: usize, x: usize) -> Option<Citation>
-    ensures { IfSome result (λ citation. Cites (lines_of lines.now) (length (lines_of lines.now)) (cited citation) p x) }
+    ensures { IfSome result
+        (λ citation. Cites (lines_of lines.now) (length (lines_of lines.now)) (cited citation) p x) }
 {
     if p == x {
         return Some(Citation::same());
@@ -151,7 +152,8 @@ fn read_chain(
 ) -> Option<Fences>
     requires kept { Kept before.now lines.now }
     requires system { model.need before.now p r ≡ scope.System }
-    requires fences { ReleasesToAcquire before.now p r (release_by chain.x chain.x2 (cited chain.link), acquire_by chain.y2 chain.y (cited chain.link2)) }
+    requires fences { ReleasesToAcquire before.now p r
+        (release_by chain.x chain.x2 (cited chain.link), acquire_by chain.y2 chain.y (cited chain.link2)) }
     ensures { IfSome result (Holds before.now (lines_of lines.now) model.Conflict.WriteRead p r) }
 {
     let release = cite_release(lines, before, p, r, chain.x, chain.x2, chain.link)?;
@@ -244,7 +246,8 @@ fn cite_known(pairs: &mut [Pair], lines: &Lines, alloc: Global, before: &Before)
 fn cite_drafts(lines: &Lines, alloc: Global, before: &Before, drafts: Drafts) -> Option<Vec<Pair>>
     requires kept { Kept before.now lines.now }
     requires drafted { AllDrafted before.now (pairs_of drafts.pairs) }
-    ensures { (a b : ℕ) → DraftsRows before.now a b drafts.pairs → IfSome result (CitesRows before.now (lines_of lines.now) a b) }
+    ensures { (a b : ℕ) → DraftsRows before.now a b drafts.pairs
+        → IfSome result (CitesRows before.now (lines_of lines.now) a b) }
 {
     let mut pairs = drafts.pairs;
     if cite_known(&mut pairs, lines, alloc, before) {

@@ -26,7 +26,8 @@ use std::alloc::{AllocError, Global};
 /// Stands where the number of a line is to come.
 const LATER: u32 = 0;
 
-/// The first and the last packet of a release, and `=` where they are one, else what stands for the line from one to the other.
+/// The first and the last packet of a release, and `=` where they are one, else what stands for the line from one
+/// to the other.
 fn release_parts(release: Release) -> (u32, u32, Citation)
     ensures { release_by result.0 result.1 (cited result.2) ≡ release }
 {
@@ -255,7 +256,8 @@ fn add_pair(
     requires a_is { IsPacket before.now a }
     requires b_is { IsPacket before.now b }
     ensures goes { OnOk result (DraftsGo before.now (pairs_of pairs.old) (pairs_of pairs.new)) }
-    ensures has { OnOk result (HasAll before.now (pairs_of pairs.new) a b ⊎ HasAll before.now (pairs_of pairs.new) b a) }
+    ensures has { OnOk result
+        (HasAll before.now (pairs_of pairs.new) a b ⊎ HasAll before.now (pairs_of pairs.new) b a) }
     ensures shown { OnOk result (ShownOneWay before.now a b) }
     ensures refused { IfErr result (PairRefused before.now a b) }
 {
@@ -293,8 +295,8 @@ pub fn add_row(
     Ok(())
 }
 
-/// The pair lines of all packets, in which no line has its number yet; notes which lines they need. The error is the first two packets
-/// that aren't ordered, or that there is no memory.
+/// The pair lines of all packets, in which no line has its number yet; notes which lines they need. The error is
+/// the first two packets that aren't ordered, or that there is no memory.
 pub fn draft_all(
     needs: &mut Needs,
     alloc: Global,

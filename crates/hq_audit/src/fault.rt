@@ -10,8 +10,8 @@ use hq_order::OrderFault;
 use std::alloc::{AllocError, AllocFailed};
 use thiserror::Error;
 
-/// Why a job has no certificate: packets can never complete, by number, rising; a conflict of packet `p` with packet `r`, `p`
-/// first, isn't ordered, and why; or there is no memory.
+/// Why a job has no certificate: packets can never complete, by number, rising; a conflict of packet `p` with
+/// packet `r`, `p` first, isn't ordered, and why; or there is no memory.
 #[derive(Debug, Drop, Error)]
 pub enum AuditNo {
     #[error("packets that can never complete")]

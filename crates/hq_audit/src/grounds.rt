@@ -9,9 +9,9 @@ use hq_order::Before;
 use hq_order::rules::{bit_between, is_held, slot_of};
 use hq_packet::Packet;
 
-/// Why packet p comes before packet r: by the barrier bit of a packet; since p is a barrier packet ahead of r; since p
-/// completes on the dependency in a slot of the barrier-AND r; since p is complete whichever dependency of the barrier-OR r is
-/// over; or since p comes before a packet that comes before r.
+/// Why packet p comes before packet r: by the barrier bit of a packet; since p is a barrier packet ahead of r;
+/// since p completes on the dependency in a slot of the barrier-AND r; since p is complete whichever dependency of
+/// the barrier-OR r is over; or since p comes before a packet that comes before r.
 #[derive(Clone, Copy, Debug)]
 pub enum Ground {
     Bit(usize),
@@ -37,7 +37,8 @@ fn is_below(before: &Before, round: usize, p: usize, r: usize) -> bool
 /// The packet that completes on the signal and that p comes up to by lower rounds: p itself, or else the least.
 pub fn branch_of(before: &Before, round: usize, p: usize, signal: u16) -> Option<usize>
     requires { IsPacket before.now p }
-    ensures { MatchOption result ((d : ℕ) → ByBranch before.now round p signal d → ⊥) (λ d. ByBranch before.now round p signal d) }
+    ensures { MatchOption result ((d : ℕ) → ByBranch before.now round p signal d → ⊥)
+        (λ d. ByBranch before.now round p signal d) }
 {
     if before.job().completes_on(p, signal) {
         return Some(p);
@@ -62,7 +63,8 @@ fn is_up_to(before: &Before, round: usize, p: usize, signal: u16) -> bool
 /// Whether p comes up to each of these signals by lower rounds.
 fn is_up_to_each(before: &Before, round: usize, p: usize, slots: &[Option<u16>]) -> bool
     requires { IsPacket before.now p }
-    ensures { IsTrue result ↔ ((slot s : ℕ) → slice_get slots.now slot ≡ Some (Some s) → Reaches before.now (Below before.now round) p s) }
+    ensures { IsTrue result
+        ↔ ((slot s : ℕ) → slice_get slots.now slot ≡ Some (Some s) → Reaches before.now (Below before.now round) p s) }
 {
     for slot in slots {
         if let Some(signal) = slot {

@@ -1,6 +1,7 @@
 //! The lines of a certificate, gathered.
 
-ghost use Rattle.std.specs.Prelude.{◌≡◌, ℕ, ◌+◌, ◌*◌, ◌^◌, ◌<◌, ◌++◌, ◌∷◌, [], IfOk, MatchOption, Some, length, slice_get};
+ghost use Rattle.std.specs.Prelude.{◌≡◌, ℕ, ◌+◌, ◌*◌, ◌^◌, ◌<◌, ◌++◌, ◌∷◌, [], IfOk, MatchOption, Some, length};
+ghost use Rattle.std.specs.Prelude.{slice_get};
 ghost use Rattle.hq_cert.specs.View.{rule_of};
 ghost use Rattle.hq_model.specs.Job.{packet};
 ghost use Rattle.hq_model.specs.Job.{IsPacket};
@@ -69,7 +70,8 @@ impl Lines {
     /// The number, if its line is that p is before r.
     fn confirmed(&self, number: u32, p: usize, r: usize) -> Option<u32>
         requires { number + 1 < 2 ^ 32 }
-        ensures { MatchOption result (Unit {0}) (λ k. Says (lines_of self.now) (length (lines_of self.now)) k p r × (k + 1 < 2 ^ 32)) }
+        ensures { MatchOption result (Unit {0})
+            (λ k. Says (lines_of self.now) (length (lines_of self.now)) k p r × (k + 1 < 2 ^ 32)) }
     {
         let line = self.lines.get(number as usize)?;
         if line.p as usize == p && line.r as usize == r {
@@ -81,7 +83,8 @@ impl Lines {
 
     /// The number of the line that p is before r, if there is one.
     pub fn known(&self, p: usize, r: usize) -> Option<u32>
-        ensures { MatchOption result (Unit {0}) (λ k. Says (lines_of self.now) (length (lines_of self.now)) k p r × (k + 1 < 2 ^ 32)) }
+        ensures { MatchOption result (Unit {0})
+            (λ k. Says (lines_of self.now) (length (lines_of self.now)) k p r × (k + 1 < 2 ^ 32)) }
     {
         let slot = self.slots.slot(p, r)?;
         match *self.numbers.get(slot)? {
@@ -106,7 +109,8 @@ impl Lines {
     fn add(&mut self, p: usize, r: usize, rule: Rule) -> Result<u32, AllocError>
         requires p_is { p < 1024 }
         requires r_is { r < 1024 }
-        ensures lines { IfOk result (λ _. lines_of self.new ≡ lines_of self.old ++ record { p = p; r = r; rule = rule_of rule } ∷ []) }
+        ensures lines { IfOk result
+            (λ _. lines_of self.new ≡ lines_of self.old ++ record { p = p; r = r; rule = rule_of rule } ∷ []) }
         ensures number { IfOk result (λ k. k ≡ length (lines_of self.old)) }
         ensures small { IfOk result (λ k. k + 1 < 2 ^ 32) }
     {
@@ -143,7 +147,8 @@ impl Lines {
         self.numbered(alloc, before, round_of(before, p, r), p, r)
     }
 
-    /// Adds the line that p is before r, which comes first in this round, behind those that it cites; answers its number.
+    /// Adds the line that p is before r, which comes first in this round, behind those that it cites; answers its
+    /// number.
     #[cycle(number)]
     pub fn numbered(
         &mut self,
@@ -257,8 +262,10 @@ impl Lines {
     ) -> Result<Vec<Citation>, AllocError>
         requires kept { Kept before.now self.old }
         requires p_is { IsPacket before.now p }
-        requires each { (slot s : ℕ) → slice_get slots.now slot ≡ Some (Some s) → Reaches before.now (Below before.now round) p s }
-        ensures { IfOk result (λ citations. AllBranched before.now self.old self.new p (signals slots.now) citations.items) }
+        requires each { (slot s : ℕ) → slice_get slots.now slot ≡ Some (Some s)
+            → Reaches before.now (Below before.now round) p s }
+        ensures { IfOk result
+            (λ citations. AllBranched before.now self.old self.new p (signals slots.now) citations.items) }
     {
         let mut citations = Vec::new(alloc);
         for slot in slots {

@@ -2,7 +2,8 @@
 
 ghost use Rattle.std.specs.Prelude.{◌≡◌};
 ghost use Rattle.hq_model.specs.Fence as model;
-ghost use Rattle.hq_fence.specs.Judgement.{IsRelease, IsAcquire, ReleasesBefore, ReleasesToAcquire, Shows, end_of, first_of};
+ghost use Rattle.hq_fence.specs.Judgement.{IsRelease, IsAcquire, ReleasesBefore, ReleasesToAcquire, Shows, end_of};
+ghost use Rattle.hq_fence.specs.Judgement.{first_of};
 
 use crate::needs::Needs;
 use hq_fence::{Acquire, Release, Shown};

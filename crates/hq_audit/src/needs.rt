@@ -117,7 +117,8 @@ impl Needs {
     #[cycle(mark)]
     fn mark_each(&mut self, before: &Before, round: usize, p: usize, slots: &[Option<u16>])
         requires p_is { IsPacket before.now p }
-        requires each { (slot s : ℕ) → slice_get slots.now slot ≡ Some (Some s) → Reaches before.now (Below before.now round) p s }
+        requires each { (slot s : ℕ) → slice_get slots.now slot ≡ Some (Some s)
+            → Reaches before.now (Below before.now round) p s }
     {
         for slot in slots {
             if let Some(signal) = slot {

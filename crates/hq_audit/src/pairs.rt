@@ -195,7 +195,8 @@ fn read_chain(
 ) -> Result<Fences, AllocError>
     requires kept { Kept before.now lines.old }
     requires system { model.need before.now p r ≡ scope.System }
-    requires fences { ReleasesToAcquire before.now p r (release_by chain.x chain.x2 (cited chain.link), acquire_by chain.y2 chain.y (cited chain.link2)) }
+    requires fences { ReleasesToAcquire before.now p r
+        (release_by chain.x chain.x2 (cited chain.link), acquire_by chain.y2 chain.y (cited chain.link2)) }
     ensures { IfOk result (λ cited. Fenced before.now lines.old lines.new model.Conflict.WriteRead p r cited) }
 {
     let release = cite_release(lines, alloc, before, p, r, chain.x, chain.x2, chain.link)?;

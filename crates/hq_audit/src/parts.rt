@@ -5,7 +5,8 @@ ghost use Rattle.std.specs.Int.{bit_at};
 ghost use Rattle.hq_job.specs.Plan.{plan};
 ghost use Rattle.hq_model.specs.Job.{IsPacket};
 ghost use Rattle.hq_order.specs.Bits.{has};
-ghost use Rattle.hq_audit.specs.Parts.{HasRange, HasFoot, TellConflicts, IsTable, AreTables, AreParts, AreOthers, NeverConflict, TakesRows};
+ghost use Rattle.hq_audit.specs.Parts.{HasRange, HasFoot, TellConflicts, IsTable, AreTables, AreParts, AreOthers};
+ghost use Rattle.hq_audit.specs.Parts.{NeverConflict, TakesRows};
 
 use hq_footprint::{Footprint, Range};
 use hq_job::Job;
@@ -177,7 +178,8 @@ impl Others {
         requires { from ≤ length before.now.packets }
         ensures above { from ≤ result }
         ensures below { result ≤ length before.now.packets }
-        ensures apart { (a s : ℕ) → AreOthers before.now a self.now → from ≤ s → s < result → NeverConflict before.now a s }
+        ensures apart { (a s : ℕ) → AreOthers before.now a self.now → from ≤ s → s < result
+            → NeverConflict before.now a s }
     {
         before.job().valid();
         match first_from(&self.bits, from) {
@@ -205,8 +207,8 @@ impl Parts {
         Ok(Parts { packets, tables })
     }
 
-    /// The packets that a may conflict with: those that touch a part in which it writes, and those that write in a part that it
-    /// touches.
+    /// The packets that a may conflict with: those that touch a part in which it writes, and those that write in a
+    /// part that it touches.
     pub fn others(&self, before: &Before, a: usize) -> Others
         requires parts { AreParts before.now self.now }
         requires a_is { IsPacket before.now a }

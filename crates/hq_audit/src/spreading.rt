@@ -24,7 +24,8 @@ pub struct Drafts {
     needs: Needs,
 }
 
-/// The pair lines of the packets from one on, up to another, with those above them. The error says nothing of packets ahead of these.
+/// The pair lines of the packets from one on, up to another, with those above them. The error says nothing of
+/// packets ahead of these.
 fn draft_rows(
     alloc: Global,
     before: &Before,
@@ -92,8 +93,8 @@ fn take_all(needs: &mut Needs, drafted: &[Option<Drafts>]) {
     }
 }
 
-/// The pair lines of all packets, part by part, in which no line has its number yet, unless a pair isn't ordered or there is no memory;
-/// notes which lines they need.
+/// The pair lines of all packets, part by part, in which no line has its number yet, unless a pair isn't ordered or
+/// there is no memory; notes which lines they need.
 pub fn draft_wide<R: Threads + Sync>(
     rt: &R,
     needs: &mut Needs,

@@ -5,7 +5,8 @@ ghost use Rattle.hq_job.specs.Plan.{plan};
 ghost use Rattle.hq_model.specs.Fence.{Ordered};
 ghost use Rattle.hq_model.specs.Job.{IsPacket};
 ghost use Rattle.hq_audit.specs.Parts.{AreParts};
-ghost use Rattle.hq_audit.specs.Refused.{AllShown, IsFirstOfRow, IsFirstUnshown, IsRefused, IsUnshown, RowShown, ShownOneWay};
+ghost use Rattle.hq_audit.specs.Refused.{AllShown, IsFirstOfRow, IsFirstUnshown, IsRefused, IsUnshown, RowShown};
+ghost use Rattle.hq_audit.specs.Refused.{ShownOneWay};
 
 use crate::directed::{Unshown, direct};
 use crate::fault::AuditNo;
@@ -42,7 +43,8 @@ fn row_shown(before: &Before, parts: &Parts, a: usize) -> Result<(), Unshown>
     Ok(())
 }
 
-/// Whether all conflicts are ordered, each two packets in one direction; else the first two that aren't. Takes no memory.
+/// Whether all conflicts are ordered, each two packets in one direction; else the first two that aren't. Takes no
+/// memory.
 pub fn all_shown(before: &Before, parts: &Parts) -> Result<(), Unshown>
     requires parts { AreParts before.now parts.now }
     ensures shown { OnOk result (AllShown before.now) }

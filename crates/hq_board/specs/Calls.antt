@@ -1,5 +1,6 @@
 -- The board as its callers see it, and what each call does to its seat's list.
-use Rattle.std.specs.Prelude.{◌≡◌, ℕ, ◌-◌, ◌<◌, List, ◌∷◌, length, All, slice_index, slice_get, Option, Some, None, map, []}
+use Rattle.std.specs.Prelude.{◌≡◌, ℕ, ◌-◌, ◌<◌, List, ◌∷◌, length, All, slice_index, slice_get, Option, Some, None}
+use Rattle.std.specs.Prelude.{map, []}
 use Rattle.atomic_table.specs.Seated.{TableId}
 use Rattle.hq_job.specs.Plan.{plan}
 use Rattle.hq_job.specs.Value.{JobValue}
@@ -69,12 +70,14 @@ Observes job old new p slot = Adds old new (DidObserve p slot) × MayOf job old 
 
 -- The signal of the slot isn't settled by the seat's own list.
 abbrev pub Unsettled : Job → Known → ℕ → ℕ → Type 0
-Unsettled job seat p slot = (s : ℕ) → slice_get (packet job p).deps slot ≡ Some (Some s) → ¬ IsSettled job seat.token.me.0 s
+Unsettled job seat p slot = (s : ℕ) → slice_get (packet job p).deps slot ≡ Some (Some s)
+    → ¬ IsSettled job seat.token.me.0 s
 
 -- A signal above 0 is looked at, and it is never one that the seat's own list settles. Other refusals change nothing.
 abbrev pub ObserveRefused : Job → Known → Known → ℕ → ℕ → BoardFault → Type 0
 ObserveRefused job old new p slot NotNext = Stays old new × (MayOf job old (DidObserve p slot) p → ⊥)
-ObserveRefused job old new p slot (NotZero n) = Adds old new (Looked p slot n) × (0 < n) × MayOf job old (DidObserve p slot) p × Unsettled job old p slot
+ObserveRefused job old new p slot (NotZero n) = Adds old new (Looked p slot n) × (0 < n)
+    × MayOf job old (DidObserve p slot) p × Unsettled job old p slot
 ObserveRefused job old new p slot _ = ⊥
 
 -- ---- entries and completions
@@ -95,8 +98,8 @@ CompleteRefused job old new p _ = ⊥
 
 -- ---- the end
 
--- The values are the signals' at the end of a history that its queues and signals allow: it is told by a run of the machine, and has the
--- seat's list as its queue's part.
+-- The values are the signals' at the end of a history that its queues and signals allow: it is told by a run of the
+-- machine, and has the seat's list as its queue's part.
 pub record Closes (job : Job) (values : List ℕ) (m : List Entry) : Type 0 where
   pub legal : Legal job m
   pub right : Right job m
@@ -107,7 +110,8 @@ pub record Closes (job : Job) (values : List ℕ) (m : List Entry) : Type 0 wher
 -- What closing leaves: of a history that has, where there is a queue, the last seat's list.
 abbrev pub Closed : Job → List Known → List ℕ → Type 0
 Closed job seats values =
-    (m : List Entry) × Closes job values m × ((seat : Known) → slice_get seats (length seats - 1) ≡ Some seat → part job seat.queue m ≡ log_of seat)
+    (m : List Entry) × Closes job values m
+    × ((seat : Known) → slice_get seats (length seats - 1) ≡ Some seat → part job seat.queue m ≡ log_of seat)
 
 -- the same by the last seat's view, and where there is no seat
 abbrev pub ClosesWith : Job → View → List ℕ → Type 0

@@ -1,5 +1,6 @@
 -- What the owner of a seat knows of its queue's packets is what its list says.
-use Rattle.std.specs.Prelude.{◌≡◌, ◌≢◌, ℕ, suc, ◌+◌, ◌<◌, ◌≤◌, List, length, slice_index_or, slice_get, false, [], IsTrue, Option, Some, Bool, count_by}
+use Rattle.std.specs.Prelude.{◌≡◌, ◌≢◌, ℕ, suc, ◌+◌, ◌<◌, ◌≤◌, List, length, slice_index_or, slice_get, false, []}
+use Rattle.std.specs.Prelude.{IsTrue, Option, Some, Bool, count_by}
 use Rattle.hq_model.specs.Job.{Job, Kind, packet, IsPacket, IsBarrier}
 use Rattle.hq_model.specs.Job.Kind.{Work, BarrierAnd, BarrierOr}
 use Rattle.hq_model.specs.Machine as machine
@@ -28,14 +29,18 @@ pub record Tied (job : Job) (known : Known) : Type 0 where
   pub near : known.queue < length job.queues
   pub span : AreOfQueue job known.queue known.first (known.first + length known.phases.items)
   pub slot_count : length known.observed.items ≡ length known.phases.items
-  pub phases : (i : ℕ) → i < length known.phases.items → phase_at known i ≡ (after job (log_of known)).phase (known.first + i)
-  pub slots : (i slot : ℕ) → i < length known.phases.items → slice_index_or (slice_index_or known.observed.items i []) slot false ≡ (after job (log_of known)).observed (known.first + i) slot
+  pub phases : (i : ℕ) → i < length known.phases.items
+      → phase_at known i ≡ (after job (log_of known)).phase (known.first + i)
+  pub slots : (i slot : ℕ) → i < length known.phases.items
+      → slice_index_or (slice_index_or known.observed.items i []) slot false ≡ (after job (log_of known)).observed
+      (known.first + i) slot
   -- the packets are launched in order
   pub within : known.launched ≤ length known.phases.items
   pub begun : (i : ℕ) → i < known.launched → IsTrue (machine.is_launched (phase_at known i))
   pub queued : (i : ℕ) → known.launched ≤ i → i < length known.phases.items → phase_at known i ≡ machine.Phase.InQueue
   -- of the barrier packets that were launched only the last packet may be incomplete
-  pub barriers : (i : ℕ) → suc i < known.launched → IsBarrier job (known.first + i) → phase_at known i ≡ machine.Phase.Complete
+  pub barriers : (i : ℕ) → suc i < known.launched → IsBarrier job (known.first + i)
+      → phase_at known i ≡ machine.Phase.Complete
   pub counted : known.completed ≡ count_by is_done known.phases.items
 
 -- the packet is one of the queue's

@@ -1,5 +1,6 @@
 -- The rule of the board: what holds of its words and of all seats' lists between any two steps.
-use Rattle.std.specs.Prelude.{◌≡◌, ◌≢◌, ℕ, ◌+◌, ◌*◌, ◌<◌, ◌≤◌, ◌^◌, ◌⊎◌, true, false, List, [], ◌∷◌, length, slice_index, ◌==◌, if◌then◌else◌}
+use Rattle.std.specs.Prelude.{◌≡◌, ◌≢◌, ℕ, ◌+◌, ◌*◌, ◌<◌, ◌≤◌, ◌^◌, ◌⊎◌, true, false, List, [], ◌∷◌, length}
+use Rattle.std.specs.Prelude.{slice_index, ◌==◌, if◌then◌else◌}
 use mathlib.Core.Option.{some}
 use lib.ListN.{get_elem?}
 use Rattle.hq_model.specs.Job.{Job, packet, IsPacket, Dependency, Decrements}
@@ -28,21 +29,24 @@ pub record Fits (job : Job) : Type 0 where
 pub record Words (job : Job) (words : List ℕ) (m : List Entry) : Type 0 where
   pub count : length words ≡ length job.starts + length job.queues
   pub signals : (s : ℕ) → s < length job.starts → slice_index words s ≡ (after job m).signal s
-  pub queues : (q : ℕ) → q < length job.queues → slice_index words (length job.starts + q) ≡ own_steps job (part job q m)
+  pub queues : (q : ℕ) → q < length job.queues
+      → slice_index words (length job.starts + q) ≡ own_steps job (part job q m)
 
 -- The one that hands out seats has a queue above all of theirs, and from it on no queue has done anything.
 pub record Deals (job : Job) (views : List View) (m : List Entry) (k : ℕ) (v : View) : Type 0 where
   pub below : (j : ℕ) (w : View) → get_elem? views j ≡ some w → j ≢ k → w.queue < v.queue
   pub empty : (q : ℕ) → v.queue ≤ q → part job q m ≡ []
 
--- One history, which its queues and signals allow, has the lists of all seats as its queues' parts, and the words are right after it.
+-- One history, which its queues and signals allow, has the lists of all seats as its queues' parts, and the words
+-- are right after it.
 pub record Kept (job : Job) (words : List ℕ) (views : List View) : Type 0 where
   pub m : List Entry
   pub legal : Legal job m
   pub right : Right job m
   pub words_right : Words job words m
   pub parts : (k : ℕ) (v : View) → get_elem? views k ≡ some v → part job v.queue m ≡ v.log
-  pub apart : (j k : ℕ) (v w : View) → get_elem? views j ≡ some v → get_elem? views k ≡ some w → v.queue ≡ w.queue → j ≡ k
+  pub apart : (j k : ℕ) (v w : View) → get_elem? views j ≡ some v → get_elem? views k ≡ some w → v.queue ≡ w.queue
+      → j ≡ k
   pub dealers : (k : ℕ) (v : View) → get_elem? views k ≡ some v → v.deals ≡ true → Deals job views m k v
 
 -- the view with one entry more
@@ -55,7 +59,8 @@ dealer q = record { queue = q; deals = true; log = [] }
 abbrev pub newcomer : ℕ → View
 newcomer q = record { queue = q; deals = false; log = [] }
 
--- What a step on a queue's word asks of its entry: the seat's own list allows it, and it counts once in the queue's word and in no signal's.
+-- What a step on a queue's word asks of its entry: the seat's own list allows it, and it counts once in the queue's
+-- word and in no signal's.
 pub record OwnStep (job : Job) (v : View) (x : Entry) : Type 0 where
   pub plain : v.deals ≡ false
   pub queue : queue_of job x ≡ v.queue
@@ -69,10 +74,11 @@ pub record OwnStep (job : Job) (v : View) (x : Entry) : Type 0 where
 abbrev pub seen : ℕ → ℕ → ℕ → Entry
 seen p slot n = if n == 0 then DidObserve p slot else Looked p slot n
 
--- As far as the queue's own list tells, the signal is 0: it starts at 0, or the list has observed it in some slot, or all packets that complete
--- on it are the queue's and complete in the list.
+-- As far as the queue's own list tells, the signal is 0: it starts at 0, or the list has observed it in some slot,
+-- or all packets that complete on it are the queue's and complete in the list.
 abbrev pub IsSettled : Job → View → ℕ → Type 0
 IsSettled job v s =
     (slice_index job.starts s ≡ 0)
-    ⊎ (((r : ℕ) × (slot : ℕ) × Dependency job r slot s × ((packet job r).queue ≡ v.queue) × ((after job v.log).observed r slot ≡ true))
+    ⊎ (((r : ℕ) × (slot : ℕ) × Dependency job r slot s × ((packet job r).queue ≡ v.queue)
+    × ((after job v.log).observed r slot ≡ true))
     ⊎ ((d : ℕ) → Decrements job d s → ((packet job d).queue ≡ v.queue) × ((after job v.log).phase d ≡ Complete)))

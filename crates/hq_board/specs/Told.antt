@@ -30,8 +30,8 @@ abbrev pub steps_of : Job → List Entry → List Event
 steps_of job [] = []
 steps_of job (x ∷ m) = steps_of job m ++ step_of job x
 
--- The run's launches, observations, entries and completions are those of the history, in its order; all else in it are reads,
--- stores and pushes.
+-- The run's launches, observations, entries and completions are those of the history, in its order; all else in it
+-- are reads, stores and pushes.
 pub record Tells (job : Job) (m : List Entry) (events : List Event) (state : State) : Type 0 where
   pub run : Run job events state
   pub steps : filter is_told events ≡ steps_of job m
@@ -45,7 +45,8 @@ pub record Found (job : Job) (events : List Event) (older : List Entry) (s value
   pub tells : Tells job older first state
   pub signal : state.signal s ≡ value
 
--- A run tells the history, its last state has the phases, observed slots and signals that the history leaves, and each look is found.
+-- A run tells the history, its last state has the phases, observed slots and signals that the history leaves, and
+-- each look is found.
 pub record IsTold (job : Job) (m : List Entry) : Type 0 where
   pub events : List Event
   pub state : State
@@ -54,7 +55,7 @@ pub record IsTold (job : Job) (m : List Entry) : Type 0 where
   pub looks : (newer older : List Entry) (p slot value s : ℕ)
       → m ≡ newer ++ Looked p slot value ∷ older → Dependency job p slot s → Found job events older s value
 
--- Each history that its queues and signals allow is told by a run of the machine. (No entry is a submission, so that where queues
--- are rings only the empty history is legal.)
+-- Each history that its queues and signals allow is told by a run of the machine. (No entry is a submission, so
+-- that where queues are rings only the empty history is legal.)
 abbrev pub HistoriesRun : Type 0
 HistoriesRun = (job : Job) (m : List Entry) → Valid job → Legal job m → Right job m → IsTold job m

@@ -1,7 +1,9 @@
 //! The board and its calls.
 
-ghost use Rattle.std.specs.Prelude.{◌≡◌, ◌↔◌, ◌<◌, ℕ, length, false, IsTrue, MatchResult, IfOk, IfErr, OnOk, OnErr, All};
-ghost use Rattle.hq_board.specs.Calls.{AreInOrder, Closed, Completes, CompleteRefused, Enters, EnterRefused, HasNoList, IsSeatOf, Launches, LaunchRefused, Observes, ObserveRefused, job_of};
+ghost use Rattle.std.specs.Prelude.{◌≡◌, ◌↔◌, ◌<◌, ℕ, length, false, IsTrue, MatchResult, IfOk, IfErr, OnOk, OnErr};
+ghost use Rattle.std.specs.Prelude.{All};
+ghost use Rattle.hq_board.specs.Calls.{AreInOrder, Closed, Completes, CompleteRefused, Enters, EnterRefused};
+ghost use Rattle.hq_board.specs.Calls.{HasNoList, IsSeatOf, Launches, LaunchRefused, Observes, ObserveRefused, job_of};
 ghost use Rattle.hq_board.specs.declared.fault.BoardFault.TheVariants as fault;
 
 use crate::fault::BoardFault;
@@ -76,8 +78,8 @@ impl<'a> Board<'a> {
         self.words.signals()
     }
 
-    /// Launches the next packet of the seat's queue, and answers its number: one addition to the queue's own word. It takes as long
-    /// however many packets there are.
+    /// Launches the next packet of the seat's queue, and answers its number: one addition to the queue's own word.
+    /// It takes as long however many packets there are.
     ///
     /// # Errors
     ///
@@ -85,7 +87,8 @@ impl<'a> Board<'a> {
     pub fn launch(&self, seat: &mut Seat) -> Result<usize, BoardFault>
         requires seat { IsSeatOf self.now seat.old }
         ensures seat { IsSeatOf self.now seat.new }
-        ensures list { MatchResult result (Launches (job_of self.now) seat.old seat.new) (LaunchRefused (job_of self.now) seat.old seat.new) }
+        ensures list { MatchResult result (Launches (job_of self.now) seat.old seat.new)
+            (LaunchRefused (job_of self.now) seat.old seat.new) }
     {
         self.words.launch(&mut seat.known)
     }
@@ -94,12 +97,13 @@ impl<'a> Board<'a> {
     ///
     /// # Errors
     ///
-    /// `NotNext` exactly where the seat's own list doesn't let the packet observe the slot; `NotZero` with the value that was found,
-    /// which is above 0, and never of a signal that the seat's own list settles.
+    /// `NotNext` exactly where the seat's own list doesn't let the packet observe the slot; `NotZero` with the
+    /// value that was found, which is above 0, and never of a signal that the seat's own list settles.
     pub fn observe(&self, seat: &mut Seat, packet: usize, slot: usize) -> Result<(), BoardFault>
         requires seat { IsSeatOf self.now seat.old }
         ensures seat { IsSeatOf self.now seat.new }
-        ensures list { MatchResult result (λ _. Observes (job_of self.now) seat.old seat.new packet slot) (ObserveRefused (job_of self.now) seat.old seat.new packet slot) }
+        ensures list { MatchResult result (λ _. Observes (job_of self.now) seat.old seat.new packet slot)
+            (ObserveRefused (job_of self.now) seat.old seat.new packet slot) }
     {
         self.words.observe(&mut seat.known, packet, slot)
     }
@@ -112,7 +116,8 @@ impl<'a> Board<'a> {
     pub fn enter(&self, seat: &mut Seat, packet: usize) -> Result<(), BoardFault>
         requires seat { IsSeatOf self.now seat.old }
         ensures seat { IsSeatOf self.now seat.new }
-        ensures list { MatchResult result (λ _. Enters (job_of self.now) seat.old seat.new packet) (EnterRefused (job_of self.now) seat.old seat.new packet) }
+        ensures list { MatchResult result (λ _. Enters (job_of self.now) seat.old seat.new packet)
+            (EnterRefused (job_of self.now) seat.old seat.new packet) }
     {
         self.words.enter(&mut seat.known, packet)
     }
@@ -125,13 +130,14 @@ impl<'a> Board<'a> {
     pub fn complete(&self, seat: &mut Seat, packet: usize) -> Result<(), BoardFault>
         requires seat { IsSeatOf self.now seat.old }
         ensures seat { IsSeatOf self.now seat.new }
-        ensures list { MatchResult result (λ _. Completes (job_of self.now) seat.old seat.new packet) (CompleteRefused (job_of self.now) seat.old seat.new packet) }
+        ensures list { MatchResult result (λ _. Completes (job_of self.now) seat.old seat.new packet)
+            (CompleteRefused (job_of self.now) seat.old seat.new packet) }
     {
         self.words.complete(&mut seat.known, packet)
     }
 
-    /// Takes all seats back and writes each signal's value. The values are those at the end of a history which its queues and signals allow,
-    /// which a run of the machine tells, and which has the last queue's list as its part.
+    /// Takes all seats back and writes each signal's value. The values are those at the end of a history which its
+    /// queues and signals allow, which a run of the machine tells, and which has the last queue's list as its part.
     ///
     /// # Errors
     ///
@@ -143,7 +149,8 @@ impl<'a> Board<'a> {
     ) -> Result<(), (Board<'a>, Vec<Seat>)>
         requires seats { All (IsSeatOf self) seats.items }
         requires room { length values.old ≡ length (job_of self).starts }
-        ensures order { MatchResult result (λ _. AreInOrder (length self.entry.job.queues) seats.items) (λ _. ¬ AreInOrder (length self.entry.job.queues) seats.items) }
+        ensures order { MatchResult result (λ _. AreInOrder (length self.entry.job.queues) seats.items)
+            (λ _. ¬ AreInOrder (length self.entry.job.queues) seats.items) }
         ensures closed { OnOk result (Closed (job_of self.entry) seats.items values.new) }
         ensures back { IfErr result (λ back. (back.0 ≡ self.entry) × (back.1.items ≡ seats.items)) }
         ensures left { OnErr result (values.new ≡ values.old) }

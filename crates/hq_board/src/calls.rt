@@ -1,9 +1,11 @@
-//! What the owner of a seat may do with the board's words. Each call takes one step on one word, or none where it is refused.
+//! What the owner of a seat may do with the board's words. Each call takes one step on one word, or none where it
+//! is refused.
 
 ghost use Rattle.std.specs.Prelude.{◌≡◌, ◌<◌, ◌+◌, ℕ, length, MatchResult, slice_set, slice_index_or, [], true};
 ghost use Rattle.hq_job.specs.Plan.{plan};
 ghost use Rattle.hq_model.specs.Machine.{MayLaunch};
-ghost use Rattle.hq_board.specs.Calls.{Completes, CompleteRefused, Enters, EnterRefused, Launches, LaunchRefused, Observes, ObserveRefused};
+ghost use Rattle.hq_board.specs.Calls.{Completes, CompleteRefused, Enters, EnterRefused, Launches, LaunchRefused};
+ghost use Rattle.hq_board.specs.Calls.{Observes, ObserveRefused};
 ghost use Rattle.hq_board.specs.History.{after};
 ghost use Rattle.hq_board.specs.Known.{Tied, log_of};
 
@@ -19,7 +21,8 @@ impl<'a> Words<'a> {
         requires table { known.old.token.table_id ≡ self.now.table.shared.table_id }
         requires tied { Tied (plan self.now.job.now) known.old }
         ensures tied { Tied (plan self.now.job.now) known.new }
-        ensures list { MatchResult result (Launches (plan self.now.job.now) known.old known.new) (LaunchRefused (plan self.now.job.now) known.old known.new) }
+        ensures list { MatchResult result (Launches (plan self.now.job.now) known.old known.new)
+            (LaunchRefused (plan self.now.job.now) known.old known.new) }
     {
         let Some(packet) = next_launch(self.job, known) else {
             return Err(BoardFault::NotNext);
@@ -35,7 +38,8 @@ impl<'a> Words<'a> {
         requires table { known.old.token.table_id ≡ self.now.table.shared.table_id }
         requires tied { Tied (plan self.now.job.now) known.old }
         ensures tied { Tied (plan self.now.job.now) known.new }
-        ensures list { MatchResult result (λ _. Observes (plan self.now.job.now) known.old known.new packet slot) (ObserveRefused (plan self.now.job.now) known.old known.new packet slot) }
+        ensures list { MatchResult result (λ _. Observes (plan self.now.job.now) known.old known.new packet slot)
+            (ObserveRefused (plan self.now.job.now) known.old known.new packet slot) }
     {
         let Some((signal, place)) = may_look(self.job, known, packet, slot) else {
             return Err(BoardFault::NotNext);
@@ -53,7 +57,8 @@ impl<'a> Words<'a> {
         requires table { known.old.token.table_id ≡ self.now.table.shared.table_id }
         requires tied { Tied (plan self.now.job.now) known.old }
         ensures tied { Tied (plan self.now.job.now) known.new }
-        ensures list { MatchResult result (λ _. Enters (plan self.now.job.now) known.old known.new packet) (EnterRefused (plan self.now.job.now) known.old known.new packet) }
+        ensures list { MatchResult result (λ _. Enters (plan self.now.job.now) known.old known.new packet)
+            (EnterRefused (plan self.now.job.now) known.old known.new packet) }
     {
         let Some(place) = may_enter(self.job, known, packet) else {
             return Err(BoardFault::NotNext);
@@ -68,7 +73,8 @@ impl<'a> Words<'a> {
         requires table { known.old.token.table_id ≡ self.now.table.shared.table_id }
         requires tied { Tied (plan self.now.job.now) known.old }
         ensures tied { Tied (plan self.now.job.now) known.new }
-        ensures list { MatchResult result (λ _. Completes (plan self.now.job.now) known.old known.new packet) (CompleteRefused (plan self.now.job.now) known.old known.new packet) }
+        ensures list { MatchResult result (λ _. Completes (plan self.now.job.now) known.old known.new packet)
+            (CompleteRefused (plan self.now.job.now) known.old known.new packet) }
     {
         let Some(place) = may_complete(self.job, known, packet) else {
             return Err(BoardFault::NotEntered);

@@ -1,11 +1,13 @@
 //! What the owner of a seat knows of its queue's packets, beside the token whose list says so.
 
-ghost use Rattle.std.specs.Prelude.{◌≡◌, ◌≤◌, ◌+◌, ℕ, ◌<◌, length, true, MatchOption, MatchBool, IfOk, replicate, IsTrue, false, ◌↔◌, slice_index_or};
+ghost use Rattle.std.specs.Prelude.{◌≡◌, ◌≤◌, ◌+◌, ℕ, ◌<◌, length, true, MatchOption, MatchBool, IfOk, replicate};
+ghost use Rattle.std.specs.Prelude.{IsTrue, false, ◌↔◌, slice_index_or};
 ghost use Rattle.hq_job.specs.Plan.{plan, kind_of};
 ghost use Rattle.hq_model.specs.Job.{packet as packet_of, Dependency};
 ghost use Rattle.hq_model.specs.Machine.{MayLaunch};
 ghost use Rattle.hq_board.specs.History.{after, May, MayLook};
-ghost use Rattle.hq_board.specs.Known.{AllObserved, BitLets, IsHeld, IsOpen, IsOwn, IsReady, OneObserved, Over, Tied, log_of, phase_at};
+ghost use Rattle.hq_board.specs.Known.{AllObserved, BitLets, IsHeld, IsOpen, IsOwn, IsReady, OneObserved, Over};
+ghost use Rattle.hq_board.specs.Known.{Tied, log_of, phase_at};
 ghost use Rattle.hq_machine.specs.State.{named};
 ghost use Rattle.hq_machine.specs.declared.phase.Phase.TheVariants as phase;
 ghost use Rattle.hq_board.specs.Rule.{newcomer};
@@ -89,7 +91,8 @@ impl Known {
 
     /// The place of a packet in the queue, if it is one of its packets.
     pub fn place_of(&self, packet: usize) -> Option<usize>
-        ensures { MatchOption result (IsOwn self.now packet → ⊥) (λ place. (packet ≡ self.now.first + place) × (place < length self.now.phases.items)) }
+        ensures { MatchOption result (IsOwn self.now packet → ⊥)
+            (λ place. (packet ≡ self.now.first + place) × (place < length self.now.phases.items)) }
     {
         let place = packet.checked_sub(self.first)?;
         if place < self.phases.len() {
@@ -136,7 +139,8 @@ pub fn next_launch(job: &Job, known: &Known) -> Option<usize>
     requires tied { Tied (plan job.now) known.now }
     ensures { MatchOption result
         ((p : ℕ) → MayLaunch (plan job.now) (after (plan job.now) (log_of known.now)) known.now.queue p → ⊥)
-        (λ p. MayLaunch (plan job.now) (after (plan job.now) (log_of known.now)) known.now.queue p × (p ≡ known.now.first + known.now.launched) × (known.now.launched < length known.now.phases.items)) }
+        (λ p. MayLaunch (plan job.now) (after (plan job.now) (log_of known.now)) known.now.queue p
+        × (p ≡ known.now.first + known.now.launched) × (known.now.launched < length known.now.phases.items)) }
 {
     if !is_ready(job, known) {
         return None;
@@ -151,7 +155,8 @@ fn is_open(job: &Job, known: &Known, place: usize, slot: usize) -> bool
     requires tied { Tied (plan job.now) known.now }
     requires place { place < length known.now.phases.items }
     requires slot { slot < 5 }
-    ensures { IsTrue result ↔ IsOpen (plan job.now) (after (plan job.now) (log_of known.now)) (known.now.first + place) slot }
+    ensures { IsTrue result
+        ↔ IsOpen (plan job.now) (after (plan job.now) (log_of known.now)) (known.now.first + place) slot }
 {
     job.valid();
     is_barrier(job, known.first + place)
@@ -163,8 +168,11 @@ fn is_open(job: &Job, known: &Known, place: usize, slot: usize) -> bool
 pub fn may_look(job: &Job, known: &Known, packet: usize, slot: usize) -> Option<(usize, usize)>
     requires tied { Tied (plan job.now) known.now }
     ensures { MatchOption result
-        ((packet_of (plan job.now) packet).queue ≡ known.now.queue → MayLook (plan job.now) (after (plan job.now) (log_of known.now)) packet slot → ⊥)
-        (λ found. (packet ≡ known.now.first + found.1) × (found.1 < length known.now.phases.items) × (slot < 5) × Dependency (plan job.now) packet slot found.0 × MayLook (plan job.now) (after (plan job.now) (log_of known.now)) packet slot) }
+        ((packet_of (plan job.now) packet).queue ≡ known.now.queue
+        → MayLook (plan job.now) (after (plan job.now) (log_of known.now)) packet slot → ⊥)
+        (λ found. (packet ≡ known.now.first + found.1) × (found.1 < length known.now.phases.items) × (slot < 5)
+        × Dependency (plan job.now) packet slot found.0
+        × MayLook (plan job.now) (after (plan job.now) (log_of known.now)) packet slot) }
 {
     let Some(place) = known.place_of(packet) else {
         return None;
@@ -218,8 +226,10 @@ fn is_over(placed: &Placed, observed: &[bool; 5]) -> bool
 pub fn may_enter(job: &Job, known: &Known, packet: usize) -> Option<usize>
     requires tied { Tied (plan job.now) known.now }
     ensures { MatchOption result
-        ((packet_of (plan job.now) packet).queue ≡ known.now.queue → May (plan job.now) (after (plan job.now) (log_of known.now)) (DidEnter packet) → ⊥)
-        (λ place. (packet ≡ known.now.first + place) × (place < length known.now.phases.items) × May (plan job.now) (after (plan job.now) (log_of known.now)) (DidEnter packet)) }
+        ((packet_of (plan job.now) packet).queue ≡ known.now.queue
+        → May (plan job.now) (after (plan job.now) (log_of known.now)) (DidEnter packet) → ⊥)
+        (λ place. (packet ≡ known.now.first + place) × (place < length known.now.phases.items)
+        × May (plan job.now) (after (plan job.now) (log_of known.now)) (DidEnter packet)) }
 {
     let Some(place) = known.place_of(packet) else {
         return None;
@@ -237,8 +247,10 @@ pub fn may_enter(job: &Job, known: &Known, packet: usize) -> Option<usize>
 pub fn may_complete(job: &Job, known: &Known, packet: usize) -> Option<usize>
     requires tied { Tied (plan job.now) known.now }
     ensures { MatchOption result
-        ((packet_of (plan job.now) packet).queue ≡ known.now.queue → May (plan job.now) (after (plan job.now) (log_of known.now)) (DidComplete packet) → ⊥)
-        (λ place. (packet ≡ known.now.first + place) × (place < length known.now.phases.items) × May (plan job.now) (after (plan job.now) (log_of known.now)) (DidComplete packet)) }
+        ((packet_of (plan job.now) packet).queue ≡ known.now.queue
+        → May (plan job.now) (after (plan job.now) (log_of known.now)) (DidComplete packet) → ⊥)
+        (λ place. (packet ≡ known.now.first + place) × (place < length known.now.phases.items)
+        × May (plan job.now) (after (plan job.now) (log_of known.now)) (DidComplete packet)) }
 {
     let Some(place) = known.place_of(packet) else {
         return None;

@@ -17,7 +17,8 @@ impl TableRule<u64, View, Job> for ByJob {
     ghost first = { λ job. dealer 0 };
 }
 
-/// Names the entry that a step adds, by the number that it finds, and what is known of that number. Each call picks both.
+/// Names the entry that a step adds, by the number that it finds, and what is known of that number. Each call picks
+/// both.
 pub trait Asked {
     ghost use Rattle.std.specs.Prelude.{ℕ};
     ghost use Rattle.hq_board.specs.declared.entry.Entry.{Entry};

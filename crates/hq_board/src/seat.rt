@@ -11,8 +11,8 @@ use hq_job::Job;
 use std::alloc::{AllocError, Global};
 use std::marker::Model;
 
-/// The seat of a queue: what its processor has done, and may do next. Contracts see the list of its events and looks, and what is kept of
-/// it for quick answers.
+/// The seat of a queue: what its processor has done, and may do next. Contracts see the list of its events and
+/// looks, and what is kept of it for quick answers.
 #[derive(Drop)]
 pub struct Seat {
     pub(crate) known: Known,

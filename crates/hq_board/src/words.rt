@@ -38,7 +38,8 @@ fn copy_out(closed: &Closed<u64, Global>, values: &mut [u64])
     requires full { IsFull closed.now.words }
     requires room { length values.old ≤ slots_len closed.now.words }
     ensures count { length values.new ≡ length values.old }
-    ensures values { (k : ℕ) → k < length values.new → slice_index values.new k ≡ slice_index (slots_items closed.now.words) k }
+    ensures values { (k : ℕ) → k < length values.new
+        → slice_index values.new k ≡ slice_index (slots_items closed.now.words) k }
 {
     for place in 0..values.len() {
         values[place] = closed.word(place);
@@ -83,16 +84,20 @@ impl<'a> Words<'a> {
         requires table { token.old.table_id ≡ self.now.table.shared.table_id }
         requires entry { (n : ℕ) → J.entry n ≡ DidComplete packet }
         requires told { (n : ℕ) → J.told n }
-        requires queue { (token.old.me.0.deals ≡ false) × ((packet_of (plan self.now.job.now) packet).queue ≡ token.old.me.0.queue) }
-        requires signal { ((packet_of (plan self.now.job.now) packet).done ≡ Some signal) × (signal < length (plan self.now.job.now).starts) }
-        requires may { May (plan self.now.job.now) (after (plan self.now.job.now) token.old.me.0.log) (DidComplete packet) }
+        requires queue { (token.old.me.0.deals ≡ false)
+            × ((packet_of (plan self.now.job.now) packet).queue ≡ token.old.me.0.queue) }
+        requires signal { ((packet_of (plan self.now.job.now) packet).done ≡ Some signal)
+            × (signal < length (plan self.now.job.now).starts) }
+        requires may { May (plan self.now.job.now) (after (plan self.now.job.now) token.old.me.0.log)
+            (DidComplete packet) }
         ensures table { (token.new.table_id ≡ token.old.table_id) × (token.new.id ≡ token.old.id) }
         ensures list { token.new.me ≡ (added token.old.me.0 (DidComplete packet), token.old.me.1) }
     {
         self.table.shared.fetch_sub::<Adds<J>>(token, signal, 1);
     }
 
-    /// A look at a signal: its word is loaded. What is found is 0 where the seat's own list says that the signal is settled.
+    /// A look at a signal: its word is loaded. What is found is 0 where the seat's own list says that the signal is
+    /// settled.
     pub fn step_look<J: Asked>(
         &self,
         token: &mut Token,
@@ -103,7 +108,8 @@ impl<'a> Words<'a> {
         requires table { token.old.table_id ≡ self.now.table.shared.table_id }
         requires entry { (n : ℕ) → J.entry n ≡ seen packet slot n }
         requires told { (n : ℕ) → (IsSettled (plan self.now.job.now) token.old.me.0 signal → n ≡ 0) → J.told n }
-        requires queue { (token.old.me.0.deals ≡ false) × ((packet_of (plan self.now.job.now) packet).queue ≡ token.old.me.0.queue) }
+        requires queue { (token.old.me.0.deals ≡ false)
+            × ((packet_of (plan self.now.job.now) packet).queue ≡ token.old.me.0.queue) }
         requires signal { Dependency (plan self.now.job.now) packet slot signal }
         requires may { MayLook (plan self.now.job.now) (after (plan self.now.job.now) token.old.me.0.log) packet slot }
         ensures table { (token.new.table_id ≡ token.old.table_id) × (token.new.id ≡ token.old.id) }
@@ -116,8 +122,10 @@ impl<'a> Words<'a> {
     /// A completion.
     pub fn step_complete(&self, token: &mut Token, queue: usize, packet: usize)
         requires table { token.old.table_id ≡ self.now.table.shared.table_id }
-        requires queue { (token.old.me.0.deals ≡ false) × ((packet_of (plan self.now.job.now) packet).queue ≡ queue) × (token.old.me.0.queue ≡ queue) }
-        requires may { May (plan self.now.job.now) (after (plan self.now.job.now) token.old.me.0.log) (DidComplete packet) }
+        requires queue { (token.old.me.0.deals ≡ false) × ((packet_of (plan self.now.job.now) packet).queue ≡ queue)
+            × (token.old.me.0.queue ≡ queue) }
+        requires may { May (plan self.now.job.now) (after (plan self.now.job.now) token.old.me.0.log)
+            (DidComplete packet) }
         ensures table { (token.new.table_id ≡ token.old.table_id) × (token.new.id ≡ token.old.id) }
         ensures list { token.new.me ≡ (added token.old.me.0 (DidComplete packet), token.old.me.1) }
     {
@@ -130,7 +138,8 @@ impl<'a> Words<'a> {
     /// The next queue's seat is handed out.
     pub fn deal(&self, token: &mut Token) -> Token
         requires table { token.old.table_id ≡ self.now.table.shared.table_id }
-        requires dealer { (token.old.me.0 ≡ dealer token.old.me.0.queue) × (token.old.me.0.queue < length (plan self.now.job.now).queues) }
+        requires dealer { (token.old.me.0 ≡ dealer token.old.me.0.queue)
+            × (token.old.me.0.queue < length (plan self.now.job.now).queues) }
         ensures table { (token.new.table_id ≡ token.old.table_id) × (result.table_id ≡ token.old.table_id) }
         ensures dealer { token.new.me.0 ≡ dealer (token.old.me.0.queue + 1) }
         ensures seat { result.me ≡ (newcomer token.old.me.0.queue, []) }
@@ -140,7 +149,8 @@ impl<'a> Words<'a> {
 
     /// The words as the job starts, and what hands out seats.
     pub fn open(alloc: Global, job: &'a Job) -> Result<(Words<'a>, Token), AllocError>
-        ensures { IfOk result (λ r. (r.0.job.now ≡ job.now) × (r.1.table_id ≡ r.0.table.shared.table_id) × (r.1.me.0 ≡ dealer 0)) }
+        ensures { IfOk result
+            (λ r. (r.0.job.now ≡ job.now) × (r.1.table_id ≡ r.0.table.shared.table_id) × (r.1.me.0 ≡ dealer 0)) }
     {
         job.valid();
         let words = first_words(alloc, job)?;
@@ -148,7 +158,8 @@ impl<'a> Words<'a> {
         Ok((Words { job, table }, token))
     }
 
-    /// Takes the words apart, with one seat, and writes the signals' values: those at the end of a history that has the seat's list as its part.
+    /// Takes the words apart, with one seat, and writes the signals' values: those at the end of a history that has
+    /// the seat's list as its part.
     pub fn close_with(self, token: Token, values: &mut [u64])
         requires valid { Valid (plan self.job.now) }
         requires table { token.table_id ≡ self.table.shared.table_id }

@@ -10,8 +10,8 @@ pub data OfBytes (Report : List ℕ → List ℕ → Status → Type 0) (bytes :
   of_text : {out : List ℕ} {status : Status} → Report bytes out status → OfBytes Report bytes out status
   no_memory : OfBytes Report bytes (with_feed (codes "out of memory")) Memory
 
--- The caller's room holds the report's first bytes, as many as there is room for, and is as it was behind them; the length is that of
--- the whole report.
+-- The caller's room holds the report's first bytes, as many as there is room for, and is as it was behind them; the
+-- length is that of the whole report.
 pub record IsHandedOut (report old new : List ℕ) (whole : ℕ) : Type 0 where
   pub room_is : new ≡ take (length old) report ++ drop (length report) old
   pub whole_is : whole ≡ length report
@@ -19,4 +19,5 @@ pub record IsHandedOut (report old new : List ℕ) (whole : ℕ) : Type 0 where
 -- What the report asks for was handed out, and its status answered; or the answer is 9, of a failed file or stream.
 abbrev pub Answers : (List ℕ → Status → Type 0) → List ℕ → List ℕ → ℕ → ℕ → Type 0
 Answers Report old new whole answered =
-    ((out : List ℕ) × (status : Status) × Report out status × (answered ≡ code_of status) × IsHandedOut out old new whole) ⊎ (answered ≡ code_of File)
+    ((out : List ℕ) × (status : Status) × Report out status × (answered ≡ code_of status)
+    × IsHandedOut out old new whole) ⊎ (answered ≡ code_of File)

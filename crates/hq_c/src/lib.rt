@@ -1,8 +1,10 @@
-//! `libhsaq`: `audit`, `check`, `replay`, `show`, `explain`, `fix` and `trim` as calls from C and C++, declared in `library/hsaq.h`.
+//! `libhsaq`: `audit`, `check`, `replay`, `show`, `explain`, `fix` and `trim` as calls from C and C++, declared in
+//! `library/hsaq.h`.
 //!
-//! Texts come as a pointer and a length, and a report goes into a room of the caller's, as far as it fits; its whole length is told, so
-//! that the caller can ask again with more room. The answer is the program's exit status. Nothing is kept between calls, no thread is
-//! started, nothing is printed, and calls from several threads at once don't meet.
+//! Texts come as a pointer and a length, and a report goes into a room of the caller's, as far as it fits; its
+//! whole length is told, so that the caller can ask again with more room. The answer is the program's exit status.
+//! Nothing is kept between calls, no thread is started, nothing is printed, and calls from several threads at once
+//! don't meet.
 #![tactic(auto)]
 
 ghost use Rattle.hq_c.specs.Calls.{Answers, OfBytes};
@@ -29,7 +31,8 @@ use std::alloc::Global;
 /// Audits a job: its certificate, or the packets that can never complete, or the conflict that nothing orders.
 #[unsafe(no_mangle)]
 pub extern "C" fn hsaq_audit(alloc: Global, job: &[u8], report: &mut [u8], whole: &mut usize) -> u32
-    ensures { Answers (OfBytes (JobTextReport (λ value. JobReport (plan value))) job.now) report.old report.new whole.new result }
+    ensures { Answers
+        (OfBytes (JobTextReport (λ value. JobReport (plan value))) job.now) report.old report.new whole.new result }
 {
     let mut reader = job;
     let mut written = Vec::new(alloc);
@@ -46,7 +49,9 @@ pub extern "C" fn hsaq_check(
     report: &mut [u8],
     whole: &mut usize,
 ) -> u32
-    ensures { Answers (OfBytes (JobTextReport (λ value. OfBytes (CertReport value) certificate.now)) job.now) report.old report.new whole.new result }
+    ensures { Answers
+        (OfBytes (JobTextReport
+        (λ value. OfBytes (CertReport value) certificate.now)) job.now) report.old report.new whole.new result }
 {
     let mut reader = job;
     let mut other = certificate;
@@ -64,7 +69,10 @@ pub extern "C" fn hsaq_replay(
     report: &mut [u8],
     whole: &mut usize,
 ) -> u32
-    ensures { Answers (OfBytes (JobTextReport (λ value. OfBytes (TimelineReport (RunReport value)) timeline.now)) job.now) report.old report.new whole.new result }
+    ensures { Answers
+        (OfBytes (JobTextReport
+        (λ value. OfBytes
+        (TimelineReport (RunReport value)) timeline.now)) job.now) report.old report.new whole.new result }
 {
     let mut reader = job;
     let mut other = timeline;
@@ -84,7 +92,8 @@ pub extern "C" fn hsaq_show(alloc: Global, job: &[u8], report: &mut [u8], whole:
     hand_out(&written, status, report, whole)
 }
 
-/// Explains why the conflicts of a job are ordered or aren't, the first hundred, and which single changes would order those that aren't.
+/// Explains why the conflicts of a job are ordered or aren't, the first hundred, and which single changes would
+/// order those that aren't.
 #[unsafe(no_mangle)]
 pub extern "C" fn hsaq_explain(
     alloc: Global,
@@ -92,7 +101,8 @@ pub extern "C" fn hsaq_explain(
     report: &mut [u8],
     whole: &mut usize,
 ) -> u32
-    ensures { Answers (OfBytes (JobTextReport (ExplainReport Which.First)) job.now) report.old report.new whole.new result }
+    ensures { Answers
+        (OfBytes (JobTextReport (ExplainReport Which.First)) job.now) report.old report.new whole.new result }
 {
     let mut reader = job;
     let mut written = Vec::new(alloc);
@@ -103,7 +113,9 @@ pub extern "C" fn hsaq_explain(
 /// A job's text with the bits and fences that it lacks, or why none mend it.
 #[unsafe(no_mangle)]
 pub extern "C" fn hsaq_fix(alloc: Global, job: &[u8], report: &mut [u8], whole: &mut usize) -> u32
-    ensures { Answers (OfBytes (λ text. JobTextReport (ChangeReport Aim.Fix text) text) job.now) report.old report.new whole.new result }
+    ensures { Answers
+        (OfBytes (λ text. JobTextReport
+        (ChangeReport Aim.Fix text) text) job.now) report.old report.new whole.new result }
 {
     let mut reader = job;
     let mut written = Vec::new(alloc);
@@ -114,7 +126,9 @@ pub extern "C" fn hsaq_fix(alloc: Global, job: &[u8], report: &mut [u8], whole: 
 /// A job's text without the bits and fences that it doesn't need, or why it isn't ordered.
 #[unsafe(no_mangle)]
 pub extern "C" fn hsaq_trim(alloc: Global, job: &[u8], report: &mut [u8], whole: &mut usize) -> u32
-    ensures { Answers (OfBytes (λ text. JobTextReport (ChangeReport Aim.Trim text) text) job.now) report.old report.new whole.new result }
+    ensures { Answers
+        (OfBytes (λ text. JobTextReport
+        (ChangeReport Aim.Trim text) text) job.now) report.old report.new whole.new result }
 {
     let mut reader = job;
     let mut written = Vec::new(alloc);

@@ -5,4 +5,5 @@ use Rattle.hq_cert.specs.View.{cited}
 
 -- the lines' numbers, None for `=`
 abbrev pub links_of : Links → Numbers
-links_of a = record { from = cited a.from; link = cited a.link; between = a.between; link2 = cited a.link2; to = cited a.to }
+links_of a = record
+    { from = cited a.from; link = cited a.link; between = a.between; link2 = cited a.link2; to = cited a.to }

@@ -6,4 +6,11 @@ use Rattle.hq_cert.specs.View.{line_of, pair_of}
 
 -- what the lines so far leave, by the draft's fields
 abbrev pub state_of : Draft → State
-state_of d = record { stage = d.stage; chained = d.chained; order = d.order.items; lines = map line_of d.lines.items; pairs = map pair_of d.pairs.items }
+state_of d = record {
+  stage = d.stage;
+  chained = d.chained;
+  order = d.order.items;
+  lines = map line_of d.lines.items;
+  pairs = map
+      pair_of d.pairs.items;
+}

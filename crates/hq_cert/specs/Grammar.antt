@@ -1,11 +1,13 @@
 -- The text of a certificate: what its lines spell.
-use Rattle.std.specs.Prelude.{◌≡◌, ℕ, ◌+◌, ◌^◌, ◌<◌, ◌≤◌, Bool, IsTrue, List, [], ◌∷◌, ◌++◌, length, map, codes, Option, Some, None, if◌then◌else◌}
+use Rattle.std.specs.Prelude.{◌≡◌, ℕ, ◌+◌, ◌^◌, ◌<◌, ◌≤◌, Bool, IsTrue, List, [], ◌∷◌, ◌++◌, length, map, codes}
+use Rattle.std.specs.Prelude.{Option, Some, None, if◌then◌else◌}
 use Rattle.std.specs.List.{AllByRecursion}
 use Rattle.std.specs.Fmt.{decimal}
 use Rattle.hq_text.specs.Lines.{words_of}
 use Rattle.hq_model.specs.Certificate as model
 use Rattle.hq_model.specs.Certificate.Rule.{Bit, Queue, And, Or, Through}
-use Rattle.hq_model.specs.Certificate.Fences.{ForReadWrite, ForWriteWrite, ForWriteRead, ForWriteWriteChained, ForWriteReadChained}
+use Rattle.hq_model.specs.Certificate.Fences.{ForReadWrite, ForWriteWrite, ForWriteRead, ForWriteWriteChained}
+use Rattle.hq_model.specs.Certificate.Fences.{ForWriteReadChained}
 
 -- ---- the words of each line
 
@@ -55,7 +57,8 @@ order_words order = codes "order" ∷ map decimal order
 -- the head, the order, the lines by number from 0, the pair lines, and `end`
 abbrev pub certificate_words : Bool → model.Certificate → List (List (List ℕ))
 certificate_words chained c =
-    head_words chained ∷ order_words c.order ∷ (lines_words 0 c.lines ++ (map pair_words c.pairs ++ (codes "end" ∷ []) ∷ []))
+    head_words chained ∷ order_words c.order ∷
+    (lines_words 0 c.lines ++ (map pair_words c.pairs ++ (codes "end" ∷ []) ∷ []))
 
 -- ---- which values have a text
 
@@ -103,10 +106,13 @@ LinesFit k (line ∷ lines) = LineFits k line × LinesFit (k + 1) lines
 abbrev pub FencesFit : Bool → ℕ → model.Fences → Type 0
 FencesFit chained count (ForReadWrite line) = IsBelow count line
 FencesFit chained count (ForWriteWrite x from on) = IsSmall x × IsCited count from × IsBelow count on
-FencesFit chained count (ForWriteRead x y from between to) = IsSmall x × IsSmall y × IsCited count from × IsBelow count between × IsCited count to
-FencesFit chained count (ForWriteWriteChained x x2 from link on) = IsTrue chained × IsSmall x × IsSmall x2 × IsCited count from × IsBelow count link × IsBelow count on
+FencesFit chained count (ForWriteRead x y from between to) = IsSmall x × IsSmall y × IsCited count from
+    × IsBelow count between × IsCited count to
+FencesFit chained count (ForWriteWriteChained x x2 from link on) = IsTrue chained × IsSmall x × IsSmall x2
+    × IsCited count from × IsBelow count link × IsBelow count on
 FencesFit chained count (ForWriteReadChained x x2 y2 y from link between link2 to) =
-    IsTrue chained × IsSmall x × IsSmall x2 × IsSmall y2 × IsSmall y × IsCited count from × IsCited count link × IsBelow count between × IsCited count link2 × IsCited count to
+    IsTrue chained × IsSmall x × IsSmall x2 × IsSmall y2 × IsSmall y × IsCited count from × IsCited count link
+    × IsBelow count between × IsCited count link2 × IsCited count to
 
 -- the pair line's numbers are small, and its fences cite lines that are there
 pub record PairFits (chained : Bool) (count : ℕ) (pair : model.Pair) : Type 0 where

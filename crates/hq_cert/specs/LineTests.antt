@@ -1,5 +1,6 @@
 -- The order of tests: what a line's words say, or the first test that they fail.
-use Rattle.std.specs.Prelude.{ℕ, ◌^◌, Bool, true, false, ◌&&◌, List, [], ◌∷◌, length, Option, Some, None, Result, Ok, Err, codes, ◌==◌, nat_le, nat_lt, if◌then◌else◌}
+use Rattle.std.specs.Prelude.{ℕ, ◌^◌, Bool, true, false, ◌&&◌, List, [], ◌∷◌, length, Option, Some, None, Result}
+use Rattle.std.specs.Prelude.{Ok, Err, codes, ◌==◌, nat_le, nat_lt, if◌then◌else◌}
 use Rattle.std.specs.Str.{bytes_eq}
 use Rattle.hq_text.specs.Numbers.{number_of}
 use Rattle.hq_text.specs.InTurn.{◌>>=◌}
@@ -13,7 +14,8 @@ use Rattle.hq_cert.specs.declared.pairs.Packets.{Packets}
 use Rattle.hq_cert.specs.declared.pairs.Numbers.{Numbers}
 use Rattle.hq_model.specs.Certificate as model
 use Rattle.hq_model.specs.Certificate.Rule.{Bit, Queue, And, Or, Through}
-use Rattle.hq_model.specs.Certificate.Fences.{ForReadWrite, ForWriteWrite, ForWriteRead, ForWriteWriteChained, ForWriteReadChained}
+use Rattle.hq_model.specs.Certificate.Fences.{ForReadWrite, ForWriteWrite, ForWriteRead, ForWriteWriteChained}
+use Rattle.hq_model.specs.Certificate.Fences.{ForWriteReadChained}
 
 -- ---- numbers and citations
 
@@ -240,7 +242,8 @@ abbrev pub chain_of : Packets → Numbers → model.Fences
 chain_of a b = ForWriteReadChained a.x a.x2 a.y2 a.y b.from b.link b.between b.link2 b.to
 
 -- all are read before one is looked up
-unfoldable pub read_chain_of : ℕ → Result Packets CertReason → Result Numbers CertReason → Result model.Fences CertReason
+unfoldable pub read_chain_of : ℕ → Result Packets CertReason → Result Numbers CertReason
+    → Result model.Fences CertReason
 read_chain_of count packets_read numbers_read = do
   packets ← packets_read
   numbers ← numbers_read
@@ -249,7 +252,8 @@ read_chain_of count packets_read numbers_read = do
 
 -- nine words behind `wrc`
 unfoldable pub read_chain_said : ℕ → List (List ℕ) → Result model.Fences CertReason
-read_chain_said count (x ∷ x2 ∷ y2 ∷ y ∷ from ∷ link ∷ between ∷ link2 ∷ to ∷ []) = read_chain_of count (packets_said x x2 y2 y) (links_said from link between link2 to)
+read_chain_said count (x ∷ x2 ∷ y2 ∷ y ∷ from ∷ link ∷ between ∷ link2 ∷ to ∷ []) = read_chain_of count
+    (packets_said x x2 y2 y) (links_said from link between link2 to)
 read_chain_said count _ = Err reason.Word
 
 -- the fences of a pair line behind so many lines
@@ -275,7 +279,8 @@ pair_if count p r operands (Some kind) = pair_of count p r kind operands
 
 -- a pair line behind so many lines, by the words behind `pair`
 unfoldable pub pair_said : Bool → ℕ → List (List ℕ) → Result model.Pair CertReason
-pair_said chained count (p ∷ r ∷ name ∷ operands) = pair_if count p r operands (fences_kind chained name (length operands))
+pair_said chained count (p ∷ r ∷ name ∷ operands) = pair_if count p r operands
+    (fences_kind chained name (length operands))
 pair_said chained count _ = Err reason.Word
 
 -- ---- the first two lines
@@ -290,4 +295,5 @@ head_said _ = Err reason.Word
 -- `order` and at most 1,024 numbers
 unfoldable pub order_said : List (List ℕ) → Result (List ℕ) CertReason
 order_said [] = Err reason.Word
-order_said (name ∷ numbers) = if bytes_eq name (codes "order") && nat_le (length numbers) 1024 then numbers_said numbers else Err reason.Word
+order_said (name ∷ numbers) = if bytes_eq name (codes "order") && nat_le
+    (length numbers) 1024 then numbers_said numbers else Err reason.Word

@@ -5,7 +5,8 @@ use Rattle.hq_text.specs.LineByLine.{AdmitsAll}
 use Rattle.hq_text.specs.Lines.{lines_of}
 use Rattle.hq_text.specs.Printed.{line_text}
 use Rattle.hq_model.specs.Certificate as model
-use Rattle.hq_cert.specs.Grammar.{IsSmall, IsBelow, IsCited, citation_word, rule_words, line_words, fences_words, pair_words, RuleFits, LineFits, FencesFit, PairFits}
+use Rattle.hq_cert.specs.Grammar.{IsSmall, IsBelow, IsCited, citation_word, rule_words, line_words, fences_words}
+use Rattle.hq_cert.specs.Grammar.{pair_words, RuleFits, LineFits, FencesFit, PairFits}
 use Rattle.hq_cert.specs.TextFaults.{State, added}
 
 -- the text begins with so many digits, which are the number n, and goes on

@@ -1,5 +1,6 @@
 -- The text of a certificate's lines and pair lines, in parts.
-use Rattle.std.specs.Prelude.{◌≡◌, ℕ, ◌+◌, ◌-◌, ◌*◌, ◌/◌, ◌^◌, ◌<◌, ◌≤◌, List, ◌++◌, Option, IsTrue, length, map, take, drop, slice_index_or}
+use Rattle.std.specs.Prelude.{◌≡◌, ℕ, ◌+◌, ◌-◌, ◌*◌, ◌/◌, ◌^◌, ◌<◌, ◌≤◌, List, ◌++◌, Option, IsTrue, length, map}
+use Rattle.std.specs.Prelude.{take, drop, slice_index_or}
 use Rattle.std.specs.Io.KnownBytes.{Appends}
 use Rattle.hq_text.specs.Printed.{lines_text}
 use Rattle.hq_model.specs.Certificate as model
@@ -21,8 +22,10 @@ IsNear c number = (number ≤ parts_of c + 64) × (length c.lines < 2 ^ 40) × (
 
 -- This is the text of a part.
 pub record IsPart (c : model.Certificate) (part : ℕ) (text : List ℕ) : Type 0 where
-  pub lines : part < parts_in (length c.lines) → text ≡ lines_text (lines_words (part * 16384) (take 16384 (drop (part * 16384) c.lines)))
-  pub pairs : parts_in (length c.lines) ≤ part → text ≡ lines_text (map pair_words (take 16384 (drop ((part - parts_in (length c.lines)) * 16384) c.pairs)))
+  pub lines : part < parts_in (length c.lines)
+      → text ≡ lines_text (lines_words (part * 16384) (take 16384 (drop (part * 16384) c.lines)))
+  pub pairs : parts_in (length c.lines) ≤ part
+      → text ≡ lines_text (map pair_words (take 16384 (drop ((part - parts_in (length c.lines)) * 16384) c.pairs)))
 
 -- Where a part is whole, it has its text.
 abbrev pub HasText : model.Certificate → ℕ → Part → Type 0
@@ -32,8 +35,10 @@ HasText c number part = IsTrue part.whole → IsPart c number part.text.items
 abbrev pub HaveTexts : model.Certificate → ℕ → List Part → Type 0
 HaveTexts c first parts = (i : ℕ) (d : Part) → i < length parts → HasText c (first + i) (slice_index_or parts i d)
 
--- What the writer holds, with what stands in the buffer behind it, grew from what the writer held by the text of a part.
-pub record PutsPart (c : model.Certificate) (part : ℕ) (w : Option (List ℕ)) (old : List ℕ) (v : Option (List ℕ)) (new : List ℕ) (end : ℕ) : Type 0 where
+-- What the writer holds, with what stands in the buffer behind it, grew from what the writer held by the text of a
+-- part.
+pub record PutsPart (c : model.Certificate) (part : ℕ) (w : Option (List ℕ)) (old : List ℕ) (v : Option (List ℕ))
+    (new : List ℕ) (end : ℕ) : Type 0 where
   pub text : List ℕ
   pub is : IsPart c part text
   pub gains : Gains w old 0 v new end text
@@ -46,7 +51,8 @@ pub record WritesPart (c : model.Certificate) (part : ℕ) (w v : Option (List �
 
 -- the text of the parts ahead of one
 abbrev pub text_upto : model.Certificate → ℕ → List ℕ
-text_upto c part = lines_text (lines_words 0 (take (part * 16384) c.lines)) ++ lines_text (map pair_words (take ((part - parts_in (length c.lines)) * 16384) c.pairs))
+text_upto c part = lines_text (lines_words 0 (take (part * 16384) c.lines)) ++ lines_text
+    (map pair_words (take ((part - parts_in (length c.lines)) * 16384) c.pairs))
 
 -- Where a writer held the parts ahead of one behind what it held before, it now holds those ahead of another.
 pub record WritesParts (c : model.Certificate) (from to : ℕ) (w v : Option (List ℕ)) : Type 0 where

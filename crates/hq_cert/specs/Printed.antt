@@ -7,7 +7,8 @@ use Rattle.hq_model.specs.Job.{Job, packet}
 use Rattle.hq_model.specs.Theorems.{Valid}
 use Rattle.hq_model.specs.Certificate.{CertHolds}
 use Rattle.hq_model.specs.Certificate as model
-use Rattle.hq_model.specs.Certificate.Fences.{ForReadWrite, ForWriteWrite, ForWriteRead, ForWriteWriteChained, ForWriteReadChained}
+use Rattle.hq_model.specs.Certificate.Fences.{ForReadWrite, ForWriteWrite, ForWriteRead, ForWriteWriteChained}
+use Rattle.hq_model.specs.Certificate.Fences.{ForWriteReadChained}
 use Rattle.hq_cert.specs.Grammar.{certificate_words, CertificateFits, CertText}
 
 -- fences that are chained
@@ -35,6 +36,8 @@ pub record Limited (job : Job) : Type 0 where
   pub packets : length job.packets ≤ 1024
   pub slots : (r : ℕ) → length (packet job r).deps ≤ 5
 
--- What prints of a certificate that holds for such a job, with lines that 32 bits number, is a text of that certificate.
+-- What prints of a certificate that holds for such a job, with lines that 32 bits number, is a text of that
+-- certificate.
 abbrev pub PrintedIsRead : Type 0
-PrintedIsRead = (job : Job) (c : model.Certificate) → Valid job → Limited job → CertHolds job c → length c.lines ≤ 2 ^ 32 → CertText (lines_of (text_of c)) c
+PrintedIsRead = (job : Job) (c : model.Certificate) → Valid job → Limited job → CertHolds job c
+    → length c.lines ≤ 2 ^ 32 → CertText (lines_of (text_of c)) c

@@ -1,5 +1,6 @@
 -- What the lines before a line leave, and the first faulty line of a text.
-use Rattle.std.specs.Prelude.{◌≡◌, ℕ, Bool, true, false, ◌&&◌, List, [], ◌∷◌, ◌++◌, length, Option, Some, None, Result, Ok, Err, codes, if◌then◌else◌}
+use Rattle.std.specs.Prelude.{◌≡◌, ℕ, Bool, true, false, ◌&&◌, List, [], ◌∷◌, ◌++◌, length, Option, Some, None}
+use Rattle.std.specs.Prelude.{Result, Ok, Err, codes, if◌then◌else◌}
 use Rattle.std.specs.Str.{bytes_eq}
 use Rattle.hq_text.specs.LineByLine as text
 use Rattle.hq_text.specs.InTurn.{◌>>=◌}
@@ -26,19 +27,23 @@ start = record { stage = stage.Head; chained = false; order = []; lines = []; pa
 
 -- behind the first line
 abbrev pub with_head : State → Bool → State
-with_head s chained = record { stage = stage.Order; chained = chained; order = s.order; lines = s.lines; pairs = s.pairs }
+with_head s chained = record
+    { stage = stage.Order; chained = chained; order = s.order; lines = s.lines; pairs = s.pairs }
 
 -- behind the order
 abbrev pub with_order : State → List ℕ → State
-with_order s order = record { stage = stage.Lines; chained = s.chained; order = order; lines = s.lines; pairs = s.pairs }
+with_order s order = record
+    { stage = stage.Lines; chained = s.chained; order = order; lines = s.lines; pairs = s.pairs }
 
 -- with one more line
 abbrev pub with_line : State → model.Line → State
-with_line s line = record { stage = stage.Lines; chained = s.chained; order = s.order; lines = s.lines ++ line ∷ []; pairs = s.pairs }
+with_line s line = record
+    { stage = stage.Lines; chained = s.chained; order = s.order; lines = s.lines ++ line ∷ []; pairs = s.pairs }
 
 -- with one more pair line
 abbrev pub with_pair : State → model.Pair → State
-with_pair s pair = record { stage = stage.Pairs; chained = s.chained; order = s.order; lines = s.lines; pairs = s.pairs ++ pair ∷ [] }
+with_pair s pair = record
+    { stage = stage.Pairs; chained = s.chained; order = s.order; lines = s.lines; pairs = s.pairs ++ pair ∷ [] }
 
 -- behind the end
 abbrev pub with_end : State → State
@@ -96,7 +101,8 @@ add_behind s first others = if bytes_eq first (codes "pair") then add_pair s oth
 -- in a place where lines may stand still, or no more
 unfoldable pub add_content : Bool → State → List (List ℕ) → Result State CertReason
 add_content lines s [] = Err reason.Word
-add_content lines s (first ∷ others) = if bytes_eq first (codes "line") && lines then add_line s others else add_behind s first others
+add_content lines s (first ∷ others) = if bytes_eq first
+    (codes "line") && lines then add_line s others else add_behind s first others
 
 -- by what may come next
 abbrev pub add_at : Stage → State → List (List ℕ) → Result State CertReason
@@ -116,7 +122,8 @@ added s words = add_at s.stage s words
 abbrev pub at_line : ℕ → CertReason → CertFault
 at_line line why = record { line = line; reason = why }
 
--- The first fault of a text: of the first line that is refused, or that there is no end, told of the line behind the last.
+-- The first fault of a text: of the first line that is refused, or that there is no end, told of the line behind
+-- the last.
 abbrev pub FirstFault : List (List ℕ) → CertFault → Type 0
 FirstFault lines f = text.FirstFault added unended start lines f.line f.reason
 
@@ -128,7 +135,8 @@ OneCertificate = (lines : List (List ℕ)) (a b : model.Certificate) → CertTex
 
 -- A certificate's text has no fault.
 abbrev pub FaultlessWhereCertificate : Type 0
-FaultlessWhereCertificate = (lines : List (List ℕ)) (c : model.Certificate) (f : CertFault) → CertText lines c → FirstFault lines f → ⊥
+FaultlessWhereCertificate = (lines : List (List ℕ)) (c : model.Certificate) (f : CertFault) → CertText lines c
+    → FirstFault lines f → ⊥
 
 -- A text has one first fault.
 abbrev pub OneFirstFault : Type 0

@@ -5,12 +5,15 @@ use Rattle.hq_cert.specs.declared.certificate.Rule.{Rule}
 use Rattle.hq_cert.specs.declared.certificate.Rule.TheVariants.{Bit, Queue, And, Or, Through}
 use Rattle.hq_cert.specs.declared.certificate.Line.{Line}
 use Rattle.hq_cert.specs.declared.certificate.Fences.{Fences}
-use Rattle.hq_cert.specs.declared.certificate.Fences.TheVariants.{ReadWrite, WriteWrite, WriteRead, WriteWriteChained, WriteReadChained}
+use Rattle.hq_cert.specs.declared.certificate.Fences.TheVariants.{ReadWrite, WriteWrite, WriteRead}
+use Rattle.hq_cert.specs.declared.certificate.Fences.TheVariants.{WriteWriteChained, WriteReadChained}
 use Rattle.hq_cert.specs.declared.certificate.Pair.{Pair}
 use Rattle.hq_cert.specs.declared.certificate.Certificate.TheInside.{Inside}
 use Rattle.hq_model.specs.Certificate as model
-use Rattle.hq_model.specs.Certificate.Rule.{Bit as BitRule, Queue as QueueRule, And as AndRule, Or as OrRule, Through as ThroughRule}
-use Rattle.hq_model.specs.Certificate.Fences.{ForReadWrite, ForWriteWrite, ForWriteRead, ForWriteWriteChained, ForWriteReadChained}
+use Rattle.hq_model.specs.Certificate.Rule.{Bit as BitRule, Queue as QueueRule, And as AndRule, Or as OrRule}
+use Rattle.hq_model.specs.Certificate.Rule.{Through as ThroughRule}
+use Rattle.hq_model.specs.Certificate.Fences.{ForReadWrite, ForWriteWrite, ForWriteRead, ForWriteWriteChained}
+use Rattle.hq_model.specs.Certificate.Fences.{ForWriteReadChained}
 
 -- the number of the line, or None for `=`
 abbrev pub cited : Citation → Option ℕ
@@ -39,4 +42,5 @@ abbrev pub pair_of : Pair → model.Pair
 pair_of pair = record { p = pair.p; r = pair.r; fences = fences_of pair.fences }
 
 abbrev pub certificate_of : Inside → model.Certificate
-certificate_of c = record { order = c.order.items; lines = map line_of c.lines.items; pairs = map pair_of c.pairs.items }
+certificate_of c = record
+    { order = c.order.items; lines = map line_of c.lines.items; pairs = map pair_of c.pairs.items }

@@ -6,8 +6,8 @@ ghost use Rattle.hq_cert.specs.View.{cited};
 /// What stands for `=`: no line has this number.
 const SAME: u32 = u32::MAX;
 
-/// What a line or a pair line cites: a line by its number, or `=`, that two packets are one. It takes four bytes, since large
-/// certificates have millions of them.
+/// What a line or a pair line cites: a line by its number, or `=`, that two packets are one. It takes four bytes,
+/// since large certificates have millions of them.
 #[derive(Clone, Copy, Debug, PartialEq, Eq)]
 pub struct Citation {
     code: u32,

@@ -2,7 +2,8 @@
 
 ghost use Rattle.std.specs.Prelude.{◌≡◌, ◌&&◌, ◌<◌, true, false, map, length, IfOk, IfErr, IfSome};
 ghost use Rattle.hq_cert.specs.LineTests.{head_said, order_said};
-ghost use Rattle.hq_cert.specs.TextFaults.{start, add_head, add_order, add_line, add_pair, add_end, add_behind, add_content, added, is_ended, read_of};
+ghost use Rattle.hq_cert.specs.TextFaults.{start, add_head, add_order, add_line, add_pair, add_end, add_behind};
+ghost use Rattle.hq_cert.specs.TextFaults.{add_content, added, is_ended, read_of};
 ghost use Rattle.hq_cert.specs.DraftView.{state_of};
 ghost use Rattle.hq_cert.specs.Gives.{Gives};
 ghost use Rattle.hq_cert.specs.OnePass.{LineAhead, PairAhead, TakenFrom};
@@ -84,7 +85,8 @@ impl Draft {
         self.lines.len()
     }
 
-    /// The same as the number of a line, where 32 bits can say it: behind 2^32 lines no more can come, but pair lines and the end can.
+    /// The same as the number of a line, where 32 bits can say it: behind 2^32 lines no more can come, but pair
+    /// lines and the end can.
     fn number(&self) -> Option<u32>
         ensures { IfSome result (λ n. n ≡ length (state_of self.now).lines) }
     {
@@ -158,7 +160,8 @@ impl Draft {
         first: &[u8],
         others: &[&[u8]],
     ) -> Result<(), CertReason>
-        ensures { Gives (λ u. state_of self.new) result (add_behind (state_of self.old) first.now (map (λ w. w.now) others.now)) }
+        ensures { Gives (λ u. state_of self.new) result
+            (add_behind (state_of self.old) first.now (map (λ w. w.now) others.now)) }
     {
         if first == b"pair".as_slice() {
             self.add_pair(alloc, others)
@@ -172,7 +175,8 @@ impl Draft {
     /// What stands behind the order, in a place where lines may stand still, or no more.
     #[tactic(auto, unfolding(crate::specs::TextFaults::add_content))]
     fn add_content(&mut self, alloc: Global, lines: bool, words: &[&[u8]]) -> Result<(), CertReason>
-        ensures { Gives (λ u. state_of self.new) result (add_content lines (state_of self.old) (map (λ w. w.now) words.now)) }
+        ensures { Gives (λ u. state_of self.new) result
+            (add_content lines (state_of self.old) (map (λ w. w.now) words.now)) }
     {
         let Some((first, others)) = words.split_first() else {
             return Err(CertReason::Word);
@@ -214,7 +218,8 @@ impl Draft {
         one_pass::pair(self.number()?, text)
     }
 
-    /// Takes in the lines that a text begins with, up to one that isn't in a common form. Answers how many they are, and what is left.
+    /// Takes in the lines that a text begins with, up to one that isn't in a common form. Answers how many they
+    /// are, and what is left.
     fn take_lines<'a>(&mut self, text: &'a [u8]) -> Result<(usize, &'a [u8]), CertReason>
         requires { self.old.stage ≡ Stage.Lines }
         ensures taken { IfOk result (λ t. TakenFrom text.now t.1.now t.0 (state_of self.old) (state_of self.new)) }
@@ -250,7 +255,8 @@ impl Draft {
         }
     }
 
-    /// Takes in the lines that a text begins with, as long as they are in a common form. Answers how many they are, and what is left.
+    /// Takes in the lines that a text begins with, as long as they are in a common form. Answers how many they are,
+    /// and what is left.
     #[tactic(auto, using(crate::proofs::Taking::none_taken_from))]
     pub fn take<'a>(&mut self, text: &'a [u8]) -> Result<(usize, &'a [u8]), CertReason>
         ensures taken { IfOk result (λ t. TakenFrom text.now t.1.now t.0 (state_of self.old) (state_of self.new)) }

@@ -19,16 +19,16 @@ pub fn one_first_fault()
     ensures { OneFirstFault }
 {}
 
-/// What a certificate prints is its text, and so is read as the same certificate. What the certificate must keep is what a text
-/// can say: numbers of 32 bits, at most 1,024 of them in the order, 1 to 5 branches, lines that cite below themselves, and pair
-/// lines that cite lines that are there.
+/// What a certificate prints is its text, and so is read as the same certificate. What the certificate must keep is
+/// what a text can say: numbers of 32 bits, at most 1,024 of them in the order, 1 to 5 branches, lines that cite
+/// below themselves, and pair lines that cite lines that are there.
 pub fn read_back()
     ensures { ReadBack }
 {}
 
-/// `parse` of what `print` wrote is the same certificate, or memory runs out: wherever the certificate holds for some job within
-/// the limits of the job text, and has at most 2^32 lines. For `print` writes this text, and `parse` ensures that a text of a
-/// certificate gives that one, or that there is no memory.
+/// `parse` of what `print` wrote is the same certificate, or memory runs out: wherever the certificate holds for
+/// some job within the limits of the job text, and has at most 2^32 lines. For `print` writes this text, and
+/// `parse` ensures that a text of a certificate gives that one, or that there is no memory.
 pub fn printed_is_read()
     ensures { PrintedIsRead }
 {}
@@ -38,15 +38,15 @@ pub fn word_means()
     ensures { WordMeans }
 {}
 
-/// A line is refused for a number exactly where its words have a form that may stand there, but one of them is no number or
-/// citation that its place takes: no number, one above 4294967295, a K out of turn, or `=` where a number must stand. Whether the
-/// lines that it cites are there isn't looked at.
+/// A line is refused for a number exactly where its words have a form that may stand there, but one of them is no
+/// number or citation that its place takes: no number, one above 4294967295, a K out of turn, or `=` where a number
+/// must stand. Whether the lines that it cites are there isn't looked at.
 pub fn number_means()
     ensures { NumberMeans }
 {}
 
-/// A line is refused for what it cites exactly where it is right but for that: it spells a line or a pair line, with numbers of 32
-/// bits, that cites a line that isn't there. So a wrong number is told first.
+/// A line is refused for what it cites exactly where it is right but for that: it spells a line or a pair line,
+/// with numbers of 32 bits, that cites a line that isn't there. So a wrong number is told first.
 pub fn citation_means()
     ensures { CitationMeans }
 {}

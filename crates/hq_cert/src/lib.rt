@@ -1,7 +1,8 @@
 //! Certificates of order, as values and as texts.
 //!
-//! A certificate has an order of the packets, lines that each conclude that one packet comes before another, and pair lines that
-//! say of two conflicting packets which fences order them. Nothing here knows whether it holds: that is for a checker to say.
+//! A certificate has an order of the packets, lines that each conclude that one packet comes before another, and
+//! pair lines that say of two conflicting packets which fences order them. Nothing here knows whether it holds:
+//! that is for a checker to say.
 #![tactic(auto)]
 
 mod certificate;

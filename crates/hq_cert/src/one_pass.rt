@@ -1,9 +1,10 @@
-//! Lines in their commonest forms, read in one pass over their bytes. A line that isn't read here is left to the readers of
-//! words, which tell what is wrong with it.
+//! Lines in their commonest forms, read in one pass over their bytes. A line that isn't read here is left to the
+//! readers of words, which tell what is wrong with it.
 
 ghost use Rattle.std.specs.Prelude.{◌≡◌, ◌++◌, ◌<◌, IfSome};
 ghost use Rattle.hq_cert.specs.View.{cited, rule_of, line_of, fences_of, pair_of};
-ghost use Rattle.hq_cert.specs.OnePass.{DigitsAhead, NumberAhead, BelowAhead, CitationAhead, RuleAhead, LineAhead, FencesAhead, PairAhead};
+ghost use Rattle.hq_cert.specs.OnePass.{DigitsAhead, NumberAhead, BelowAhead, CitationAhead, RuleAhead, LineAhead};
+ghost use Rattle.hq_cert.specs.OnePass.{FencesAhead, PairAhead};
 
 use crate::certificate::{Fences, Line, Pair, Rule};
 use crate::citation::Citation;

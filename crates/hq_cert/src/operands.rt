@@ -1,7 +1,8 @@
 //! What stands behind the names of lines: numbers and citations.
 
 ghost use Rattle.std.specs.Prelude.{◌≡◌, map};
-ghost use Rattle.hq_cert.specs.LineTests.{number_said, next_said, citation_said, below, cited_below, numbers_said, citations_said, all_below};
+ghost use Rattle.hq_cert.specs.LineTests.{number_said, next_said, citation_said, below, cited_below, numbers_said};
+ghost use Rattle.hq_cert.specs.LineTests.{citations_said, all_below};
 ghost use Rattle.hq_cert.specs.Gives.{Gives};
 ghost use Rattle.hq_cert.specs.View.{cited};
 

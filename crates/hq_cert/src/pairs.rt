@@ -1,7 +1,10 @@
 //! Pair lines read.
 
 ghost use Rattle.std.specs.Prelude.{◌≡◌, map};
-ghost use Rattle.hq_cert.specs.LineTests.{read_write_said, write_write_of, write_write_said, write_read_of, write_read_said, write_chain_of, write_chain_said, packets_said, links_said, links_below, read_chain_of, read_chain_said, fences_said, pair_said};
+ghost use Rattle.hq_cert.specs.LineTests.{read_write_said, write_write_of, write_write_said, write_read_of};
+ghost use Rattle.hq_cert.specs.LineTests.{write_read_said, write_chain_of, write_chain_said, packets_said};
+ghost use Rattle.hq_cert.specs.LineTests.{links_said, links_below, read_chain_of, read_chain_said, fences_said};
+ghost use Rattle.hq_cert.specs.LineTests.{pair_said};
 ghost use Rattle.hq_cert.specs.LineTests as tests;
 ghost use Rattle.hq_cert.specs.Gives.{Gives};
 ghost use Rattle.hq_cert.specs.View.{fences_of, pair_of};

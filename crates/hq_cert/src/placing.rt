@@ -118,7 +118,8 @@ pub fn put_citation(bytes: &mut [u8], at: usize, rows: &Rows, citation: Citation
 #[inline(always)]
 pub fn put_line(bytes: &mut [u8], at: usize, rows: &Rows, k: usize, line: &Line) -> usize
     requires { at + 128 ≤ length bytes.old }
-    ensures put { take result bytes.new ≡ take at bytes.old ++ (codes "line" ++ spaced (decimal k ∷ decimal line.now.p ∷ decimal line.now.r ∷ [])) }
+    ensures put { take result bytes.new ≡ take at bytes.old ++ (codes "line" ++ spaced
+        (decimal k ∷ decimal line.now.p ∷ decimal line.now.r ∷ [])) }
     ensures near { result ≤ at + 67 }
 {
     let at = put_word(bytes, at, b"line", 4);
@@ -142,7 +143,8 @@ pub fn put_named(bytes: &mut [u8], at: usize, rows: &Rows, name: &[u8; 4], numbe
 #[inline(always)]
 pub fn put_through(bytes: &mut [u8], at: usize, rows: &Rows, first: u32, second: u32) -> usize
     requires { at + 64 ≤ length bytes.old }
-    ensures put { take result bytes.new ≡ take at bytes.old ++ spaced (codes "through" ∷ decimal first ∷ decimal second ∷ []) }
+    ensures put { take result bytes.new ≡ take at bytes.old ++ spaced
+        (codes "through" ∷ decimal first ∷ decimal second ∷ []) }
     ensures near { result ≤ at + 50 }
 {
     let at = put_word(bytes, at, b" thr", 4);
@@ -153,7 +155,9 @@ pub fn put_through(bytes: &mut [u8], at: usize, rows: &Rows, first: u32, second:
 
 fn put_write_chain(bytes: &mut [u8], at: usize, rows: &Rows, chain: &WriteChain) -> usize
     requires { at + 128 ≤ length bytes.old }
-    ensures put { take result bytes.new ≡ take at bytes.old ++ spaced (codes "wwc" ∷ decimal chain.now.x ∷ decimal chain.now.x2 ∷ citation_word (cited chain.now.from) ∷ decimal chain.now.link ∷ decimal chain.now.on ∷ []) }
+    ensures put { take result bytes.new ≡ take at bytes.old ++ spaced
+        (codes "wwc" ∷ decimal chain.now.x ∷ decimal chain.now.x2 ∷ citation_word
+        (cited chain.now.from) ∷ decimal chain.now.link ∷ decimal chain.now.on ∷ []) }
     ensures near { result ≤ at + 109 }
 {
     let at = put_word(bytes, at, b" wwc", 4);
@@ -166,7 +170,8 @@ fn put_write_chain(bytes: &mut [u8], at: usize, rows: &Rows, chain: &WriteChain)
 
 fn put_chain_packets(bytes: &mut [u8], at: usize, rows: &Rows, chain: &ReadChain) -> usize
     requires { at + 96 ≤ length bytes.old }
-    ensures put { take result bytes.new ≡ take at bytes.old ++ spaced (codes "wrc" ∷ decimal chain.now.x ∷ decimal chain.now.x2 ∷ decimal chain.now.y2 ∷ decimal chain.now.y ∷ []) }
+    ensures put { take result bytes.new ≡ take at bytes.old ++ spaced
+        (codes "wrc" ∷ decimal chain.now.x ∷ decimal chain.now.x2 ∷ decimal chain.now.y2 ∷ decimal chain.now.y ∷ []) }
     ensures near { result ≤ at + 88 }
 {
     let at = put_word(bytes, at, b" wrc", 4);
@@ -178,7 +183,10 @@ fn put_chain_packets(bytes: &mut [u8], at: usize, rows: &Rows, chain: &ReadChain
 
 fn put_chain_links(bytes: &mut [u8], at: usize, rows: &Rows, chain: &ReadChain) -> usize
     requires { at + 112 ≤ length bytes.old }
-    ensures put { take result bytes.new ≡ take at bytes.old ++ spaced (citation_word (cited chain.now.from) ∷ citation_word (cited chain.now.link) ∷ decimal chain.now.between ∷ citation_word (cited chain.now.link2) ∷ citation_word (cited chain.now.to) ∷ []) }
+    ensures put { take result bytes.new ≡ take at bytes.old ++ spaced
+        (citation_word (cited chain.now.from) ∷ citation_word
+        (cited chain.now.link) ∷ decimal chain.now.between ∷ citation_word (cited chain.now.link2) ∷ citation_word
+        (cited chain.now.to) ∷ []) }
     ensures near { result ≤ at + 105 }
 {
     let at = put_citation(bytes, at, rows, chain.from);

@@ -4,7 +4,8 @@ ghost use Rattle.std.specs.Prelude.{◌≡◌, ◌+◌, ◌^◌, ◌<◌, ◌≤
 ghost use Rattle.std.specs.Fmt.{decimal};
 ghost use Rattle.std.specs.List.{list_any};
 ghost use Rattle.std.specs.Io.KnownBytes.{Appends};
-ghost use Rattle.hq_cert.specs.Grammar.{CertText, CertificateFits, citation_word, rule_words, head_words, order_words, lines_words, pair_words};
+ghost use Rattle.hq_cert.specs.Grammar.{CertText, CertificateFits, citation_word, rule_words, head_words};
+ghost use Rattle.hq_cert.specs.Grammar.{order_words, lines_words, pair_words};
 ghost use Rattle.hq_text.specs.Lines.{lines_of};
 ghost use Rattle.hq_text.specs.Printed.{spaced, line_text, lines_text};
 ghost use Rattle.hq_cert.specs.Printed.{is_chain, has_chain, text_of};
@@ -52,7 +53,8 @@ pub struct WriterFailed;
 #[inline(never)]
 pub fn spill<W: Write>(bytes: &[u8], at: usize, writer: &mut W) -> Result<usize, WriterFailed>
     requires { at ≤ length bytes.now }
-    ensures written { IfOk result (λ next. Gains (W.contents writer.old) bytes.now at (W.contents writer.new) bytes.now next []) }
+    ensures written { IfOk result
+        (λ next. Gains (W.contents writer.old) bytes.now at (W.contents writer.new) bytes.now next []) }
     ensures front { IfOk result (λ next. next ≡ 0) }
 {
     match writer.write_all(&bytes[..at]) {
@@ -66,7 +68,8 @@ pub fn spill<W: Write>(bytes: &[u8], at: usize, writer: &mut W) -> Result<usize,
 fn make_room<W: Write>(bytes: &[u8], at: usize, writer: &mut W) -> Result<usize, WriterFailed>
     requires within { at ≤ length bytes.now }
     requires long { 256 ≤ length bytes.now }
-    ensures written { IfOk result (λ next. Gains (W.contents writer.old) bytes.now at (W.contents writer.new) bytes.now next []) }
+    ensures written { IfOk result
+        (λ next. Gains (W.contents writer.old) bytes.now at (W.contents writer.new) bytes.now next []) }
     ensures room { IfOk result (λ next. next + 256 ≤ length bytes.now) }
 {
     if at + LINE <= bytes.len() {
@@ -86,7 +89,9 @@ fn write_numbers<W: Write>(
 ) -> Result<usize, WriterFailed>
     requires within { start ≤ length bytes.old }
     requires long { 256 ≤ length bytes.old }
-    ensures written { IfOk result (λ end. Gains (W.contents writer.old) bytes.old start (W.contents writer.new) bytes.new end (spaced (map decimal numbers.now))) }
+    ensures written { IfOk result
+        (λ end. Gains (W.contents writer.old) bytes.old start (W.contents writer.new) bytes.new end
+        (spaced (map decimal numbers.now))) }
     ensures within { IfOk result (λ end. end ≤ length bytes.new) }
 {
     let mut at = start;
@@ -108,7 +113,9 @@ fn write_citations<W: Write>(
 ) -> Result<usize, WriterFailed>
     requires within { start ≤ length bytes.old }
     requires long { 256 ≤ length bytes.old }
-    ensures written { IfOk result (λ end. Gains (W.contents writer.old) bytes.old start (W.contents writer.new) bytes.new end (spaced (map citation_word (map cited citations.now)))) }
+    ensures written { IfOk result
+        (λ end. Gains (W.contents writer.old) bytes.old start (W.contents writer.new) bytes.new end
+        (spaced (map citation_word (map cited citations.now)))) }
     ensures within { IfOk result (λ end. end ≤ length bytes.new) }
 {
     let mut at = start;
@@ -130,7 +137,9 @@ fn write_or<W: Write>(
 ) -> Result<usize, WriterFailed>
     requires room { at + 128 ≤ length bytes.old }
     requires long { 256 ≤ length bytes.old }
-    ensures written { IfOk result (λ end. Gains (W.contents writer.old) bytes.old at (W.contents writer.new) bytes.new end (spaced (codes "or" ∷ map citation_word (map cited citations.now)))) }
+    ensures written { IfOk result
+        (λ end. Gains (W.contents writer.old) bytes.old at (W.contents writer.new) bytes.new end
+        (spaced (codes "or" ∷ map citation_word (map cited citations.now)))) }
     ensures room { IfOk result (λ end. end + 1 ≤ length bytes.new) }
 {
     let at = put(bytes, at, b" or");
@@ -149,7 +158,9 @@ fn write_rule<W: Write>(
 ) -> Result<usize, WriterFailed>
     requires room { at + 128 ≤ length bytes.old }
     requires long { 256 ≤ length bytes.old }
-    ensures written { IfOk result (λ end. Gains (W.contents writer.old) bytes.old at (W.contents writer.new) bytes.new end (spaced (rule_words (rule_of rule.now)))) }
+    ensures written { IfOk result
+        (λ end. Gains (W.contents writer.old) bytes.old at (W.contents writer.new) bytes.new end
+        (spaced (rule_words (rule_of rule.now)))) }
     ensures room { IfOk result (λ end. end + 1 ≤ length bytes.new) }
 {
     match rule {
@@ -173,7 +184,9 @@ pub fn write_lines<W: Write>(
     requires within { start ≤ length bytes.old }
     requires long { 256 ≤ length bytes.old }
     requires few { first + length lines.now < 2 ^ 64 }
-    ensures written { IfOk result (λ end. Gains (W.contents writer.old) bytes.old start (W.contents writer.new) bytes.new end (lines_text (lines_words first (map line_of lines.now)))) }
+    ensures written { IfOk result
+        (λ end. Gains (W.contents writer.old) bytes.old start (W.contents writer.new) bytes.new end
+        (lines_text (lines_words first (map line_of lines.now)))) }
     ensures within { IfOk result (λ end. end ≤ length bytes.new) }
 {
     let mut at = start;
@@ -196,7 +209,9 @@ pub fn write_pairs<W: Write>(
 ) -> Result<usize, WriterFailed>
     requires within { start ≤ length bytes.old }
     requires long { 256 ≤ length bytes.old }
-    ensures written { IfOk result (λ end. Gains (W.contents writer.old) bytes.old start (W.contents writer.new) bytes.new end (lines_text (map pair_words (map pair_of pairs.now)))) }
+    ensures written { IfOk result
+        (λ end. Gains (W.contents writer.old) bytes.old start (W.contents writer.new) bytes.new end
+        (lines_text (map pair_words (map pair_of pairs.now)))) }
     ensures within { IfOk result (λ end. end ≤ length bytes.new) }
 {
     let mut at = start;
@@ -216,7 +231,9 @@ pub fn write_order<W: Write>(
     writer: &mut W,
 ) -> Result<usize, WriterFailed>
     requires { 256 ≤ length bytes.old }
-    ensures written { IfOk result (λ end. Gains (W.contents writer.old) bytes.old 0 (W.contents writer.new) bytes.new end (line_text (head_words chained) ++ line_text (order_words order.now))) }
+    ensures written { IfOk result
+        (λ end. Gains (W.contents writer.old) bytes.old 0 (W.contents writer.new) bytes.new end
+        (line_text (head_words chained) ++ line_text (order_words order.now))) }
     ensures within { IfOk result (λ end. end ≤ length bytes.new) }
 {
     let at = put_head(bytes, 0, chained);
@@ -272,16 +289,19 @@ pub fn taken(alloc: Global) -> Result<(Vec<u8>, Rows), AllocError>
     Ok((bytes, Rows::new(alloc)?))
 }
 
-/// Writes the text of a certificate, which begins `hsac 2` exactly where a chained pair line is there. Where the certificate has a text,
-/// as each one that an audit gives or a text was read as, what was written is that, and so is read as the same certificate. All memory is taken before
-/// the first byte is written. The writer is not flushed; where it fails a part of the text may be written.
+/// Writes the text of a certificate, which begins `hsac 2` exactly where a chained pair line is there. Where the
+/// certificate has a text, as each one that an audit gives or a text was read as, what was written is that, and so
+/// is read as the same certificate. All memory is taken before the first byte is written. The writer is not
+/// flushed; where it fails a part of the text may be written.
 pub fn print<W: Write>(
     alloc: Global,
     certificate: &Certificate,
     writer: &mut W,
 ) -> Result<(), PrintFault>
     ensures written { OnOk result (Appends (W.contents writer.old) (W.contents writer.new) (text_of certificate.now)) }
-    ensures read_back { OnOk result (CertificateFits (has_chain certificate.now) certificate.now → CertText (lines_of (text_of certificate.now)) certificate.now) }
+    ensures read_back { OnOk result
+        (CertificateFits (has_chain certificate.now) certificate.now
+        → CertText (lines_of (text_of certificate.now)) certificate.now) }
     ensures unwritten { result ≡ Err PrintFault.Memory → writer.new ≡ writer.old }
 {
     let (mut bytes, rows) = match taken(alloc) {

@@ -23,7 +23,8 @@ pub const NO_MEMORY: CertFault = CertFault {
 
 /// A fault at a line, or out of memory at line 0.
 fn fault_at(line: usize, reason: CertReason) -> CertFault
-    ensures { ((reason ≡ CertReason.Memory) × (result ≡ no_memory)) ⊎ ((¬ (reason ≡ CertReason.Memory)) × (result ≡ at_line line reason)) }
+    ensures { ((reason ≡ CertReason.Memory) × (result ≡ no_memory))
+        ⊎ ((¬ (reason ≡ CertReason.Memory)) × (result ≡ at_line line reason)) }
 {
     match reason {
         CertReason::Memory => NO_MEMORY,
@@ -63,7 +64,8 @@ fn counted(count: usize, more: usize) -> Result<usize, CertFault>
     }
 }
 
-/// Takes in all lines of a text, behind so many, and splits them into these words in turn. Answers how many lines there are then.
+/// Takes in all lines of a text, behind so many, and splits them into these words in turn. Answers how many lines
+/// there are then.
 fn take_split<'a>(
     draft: &mut Draft,
     alloc: Global,
@@ -109,7 +111,8 @@ pub fn take_lines(
 
 /// The certificate of a text of so many lines, all of them taken in; or that it has no end.
 pub fn finished(draft: Draft, count: usize) -> Result<Certificate, CertFault>
-    ensures { (lines : List (List ℕ)) → count ≡ length lines → AdmitsAll added start lines (state_of draft) → ReadOf result lines }
+    ensures { (lines : List (List ℕ)) → count ≡ length lines → AdmitsAll added start lines (state_of draft)
+        → ReadOf result lines }
 {
     if draft.is_ended() {
         return Ok(draft.certificate());
@@ -129,8 +132,8 @@ fn read_all(alloc: Global, text: &[u8]) -> Result<Certificate, CertFault>
     finished(draft, count)
 }
 
-/// The certificate that a text is, or the first faulty line. Where memory runs out, that is the fault, at line 0; so it is where
-/// a certificate has more lines than 32 bits number.
+/// The certificate that a text is, or the first faulty line. Where memory runs out, that is the fault, at line 0;
+/// so it is where a certificate has more lines than 32 bits number.
 pub fn parse(alloc: Global, text: &[u8]) -> Result<Certificate, CertFault>
     ensures found { IfOk result (λ c. CertText (lines_of text.now) c) }
     // The certificate of a text is read, unless memory runs out.

@@ -1,11 +1,13 @@
 //! Certificates to texts, by parts that many threads get ready.
 
-ghost use Rattle.std.specs.Prelude.{◌≡◌, ℕ, ◌+◌, ◌*◌, ◌<◌, ◌≤◌, ◌^◌, [], ◌++◌, Err, IfOk, OnOk, IsTrue, codes, drop, length, take};
+ghost use Rattle.std.specs.Prelude.{◌≡◌, ℕ, ◌+◌, ◌*◌, ◌<◌, ◌≤◌, ◌^◌, [], ◌++◌, Err, IfOk, OnOk, IsTrue, codes};
+ghost use Rattle.std.specs.Prelude.{drop, length, take};
 ghost use Rattle.std.specs.Io.KnownBytes.{Appends};
 ghost use Rattle.hq_text.specs.Lines.{lines_of};
 ghost use Rattle.hq_text.specs.Printed.{line_text};
 ghost use Rattle.hq_cert.specs.Grammar.{CertText, CertificateFits, head_words, order_words};
-ghost use Rattle.hq_cert.specs.Parted.{parts_in, parts_of, IsNear, HasText, HaveTexts, PutsPart, WritesPart, WritesParts, body_text};
+ghost use Rattle.hq_cert.specs.Parted.{parts_in, parts_of, IsNear, HasText, HaveTexts, PutsPart, WritesPart};
+ghost use Rattle.hq_cert.specs.Parted.{WritesParts, body_text};
 ghost use Rattle.hq_cert.specs.Printed.{has_chain, text_of};
 
 use crate::certificate::Certificate;
@@ -58,8 +60,8 @@ fn part_from<T>(items: &[T], from: usize) -> &[T]
     part
 }
 
-/// Puts the text of a part at the front of a buffer, by way of which it goes to the writer. Answers where the text ends that is in it
-/// yet.
+/// Puts the text of a part at the front of a buffer, by way of which it goes to the writer. Answers where the text
+/// ends that is in it yet.
 fn put_part<W: Write>(
     bytes: &mut [u8],
     rows: &Rows,
@@ -69,7 +71,8 @@ fn put_part<W: Write>(
 ) -> Result<usize, WriterFailed>
     requires long { 256 ≤ length bytes.old }
     requires near { IsNear certificate.now part }
-    ensures puts { IfOk result (PutsPart certificate.now part (W.contents writer.old) bytes.old (W.contents writer.new) bytes.new) }
+    ensures puts { IfOk result
+        (PutsPart certificate.now part (W.contents writer.old) bytes.old (W.contents writer.new) bytes.new) }
     ensures within { IfOk result (λ end. end ≤ length bytes.new) }
 {
     let lines = certificate.lines();
@@ -173,7 +176,8 @@ fn write_ready<W: Write>(
     requires long { 256 ≤ length bytes.old }
     requires near { IsNear certificate.now number }
     requires text { HasText certificate.now number part.now }
-    ensures { OnOk result (WritesParts certificate.now number (number + 1) (W.contents writer.old) (W.contents writer.new)) }
+    ensures { OnOk result
+        (WritesParts certificate.now number (number + 1) (W.contents writer.old) (W.contents writer.new)) }
 {
     if !part.whole {
         return write_part(bytes, rows, certificate, number, writer);
@@ -197,7 +201,8 @@ fn write_all_ready<W: Write>(
     requires few { length parts.now ≤ 64 }
     requires near { IsNear certificate.now (first + 64) }
     requires texts { HaveTexts certificate.now first parts.now }
-    ensures { OnOk result (WritesParts certificate.now first (first + length parts.now) (W.contents writer.old) (W.contents writer.new)) }
+    ensures { OnOk result
+        (WritesParts certificate.now first (first + length parts.now) (W.contents writer.old) (W.contents writer.new)) }
 {
     for (i, part) in parts.iter().enumerate() {
         write_ready(bytes, rows, certificate, first + i, part, writer)?;
@@ -239,7 +244,9 @@ fn write_front<W: Write>(
     writer: &mut W,
 ) -> Result<(), WriterFailed>
     requires { 256 ≤ length bytes.old }
-    ensures { OnOk result (Appends (W.contents writer.old) (W.contents writer.new) (line_text (head_words (has_chain certificate.now)) ++ line_text (order_words certificate.now.order))) }
+    ensures { OnOk result
+        (Appends (W.contents writer.old) (W.contents writer.new)
+        (line_text (head_words (has_chain certificate.now)) ++ line_text (order_words certificate.now.order))) }
 {
     let chained = has_chain(certificate.pairs());
     let at = write_order(bytes, rows, chained, certificate.order(), writer)?;
@@ -313,8 +320,8 @@ fn is_worth_it(certificate: &Certificate) -> bool
     lines.max(pairs) > SIZE && lines < LIMIT && pairs < LIMIT
 }
 
-/// Writes what `print` writes, the lines and pair lines by parts that as many threads get ready as there are processors. Where there is no
-/// memory for a part, it is written as `print` writes it.
+/// Writes what `print` writes, the lines and pair lines by parts that as many threads get ready as there are
+/// processors. Where there is no memory for a part, it is written as `print` writes it.
 pub fn print_wide<R: Threads + Sync, W: Write>(
     rt: &R,
     alloc: Global,
@@ -322,7 +329,9 @@ pub fn print_wide<R: Threads + Sync, W: Write>(
     writer: &mut W,
 ) -> Result<(), PrintFault>
     ensures written { OnOk result (Appends (W.contents writer.old) (W.contents writer.new) (text_of certificate.now)) }
-    ensures read_back { OnOk result (CertificateFits (has_chain certificate.now) certificate.now → CertText (lines_of (text_of certificate.now)) certificate.now) }
+    ensures read_back { OnOk result
+        (CertificateFits (has_chain certificate.now) certificate.now
+        → CertText (lines_of (text_of certificate.now)) certificate.now) }
     ensures unwritten { result ≡ Err PrintFault.Memory → writer.new ≡ writer.old }
 {
     if !is_worth_it(certificate) {

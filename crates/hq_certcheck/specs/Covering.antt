@@ -1,5 +1,6 @@
 -- Which conflicts have pair lines.
-use Rattle.std.specs.Prelude.{◌≡◌, ℕ, ◌+◌, ◌*◌, ◌/◌, ◌<◌, ◌⊎◌, ◌↔◌, ◌==◌, IsTrue, Bool, List, length, Some, slice_get, slice_index_or}
+use Rattle.std.specs.Prelude.{◌≡◌, ℕ, ◌+◌, ◌*◌, ◌/◌, ◌<◌, ◌⊎◌, ◌↔◌, ◌==◌, IsTrue, Bool, List, length, Some}
+use Rattle.std.specs.Prelude.{slice_get, slice_index_or}
 use Rattle.std.specs.Int.{bit_at}
 use Rattle.hq_footprint.specs.declared.conflicts.Kinds.{Kinds}
 use Rattle.hq_model.specs.Job.{Job, IsPacket}
@@ -65,20 +66,24 @@ pub record IsListed (pairs : List Pair) (limit p r : ℕ) (kind : Conflict) : Ty
 -- The table has a flag exactly where one of the first pair lines is for it.
 pub record AreListed (pairs : List Pair) (limit count : ℕ) (cells : List ℕ) : Type 0 where
   pub len : length cells ≡ count * count
-  pub flags : (p r : ℕ) → p < count → r < count → (kind : Conflict) → IsTrue (has_kind kind (cell cells count p r)) ↔ IsListed pairs limit p r kind
+  pub flags : (p r : ℕ) → p < count → r < count → (kind : Conflict) → IsTrue (has_kind kind (cell cells count p r))
+      ↔ IsListed pairs limit p r kind
 
 -- The flags are those that there were and that of the pair line.
 pub record IsMarked (pair : Pair) (count : ℕ) (old new : List ℕ) : Type 0 where
   pub len : length new ≡ length old
-  pub flags : (p r : ℕ) → p < count → r < count → (kind : Conflict) → IsTrue (has_kind kind (cell new count p r)) ↔ (IsTrue (has_kind kind (cell old count p r)) ⊎ IsFor pair p r kind)
+  pub flags : (p r : ℕ) → p < count → r < count → (kind : Conflict) → IsTrue (has_kind kind (cell new count p r))
+      ↔ (IsTrue (has_kind kind (cell old count p r)) ⊎ IsFor pair p r kind)
 
 -- Each kind of conflict of p with r has its flag.
 abbrev pub AreFlagged : Job → List ℕ → ℕ → ℕ → ℕ → Type 0
-AreFlagged job cells count p r = (kind : Conflict) → Conflicts job kind p r → IsTrue (has_kind kind (cell cells count p r))
+AreFlagged job cells count p r = (kind : Conflict) → Conflicts job kind p r
+    → IsTrue (has_kind kind (cell cells count p r))
 
 -- The same in one direction, for each conflict.
 abbrev pub IsFlagged : Job → List ℕ → ℕ → ℕ → ℕ → Type 0
-IsFlagged job cells count p r = (kind : Conflict) → Conflicts job kind p r → AreFlagged job cells count p r ⊎ AreFlagged job cells count r p
+IsFlagged job cells count p r = (kind : Conflict) → Conflicts job kind p r
+    → AreFlagged job cells count p r ⊎ AreFlagged job cells count r p
 
 -- Those of p with the packets after it, up to the end, are.
 abbrev pub AllFlagged : Job → List ℕ → ℕ → ℕ → ℕ → Type 0

@@ -7,7 +7,8 @@ use Rattle.hq_model.specs.Fence.{Conflict, Conflicts}
 use Rattle.hq_certcheck.specs.declared.extents.Extent.{Extent}
 use Rattle.hq_certcheck.specs.declared.extents.Extents.{Extents}
 
--- A range that has bytes lies within the extent. Where the extent's end is the greatest number that the code knows, it says nothing.
+-- A range that has bytes lies within the extent. Where the extent's end is the greatest number that the code knows,
+-- it says nothing.
 pub record HasRange (e : Extent) (r : Range) : Type 0 where
   pub low : 0 < r.len → e.low ≤ r.at
   pub high : 0 < r.len → (r.at + r.len ≤ e.end) ⊎ (e.end ≡ 2 ^ 64 - 1)
@@ -33,7 +34,8 @@ AreApart es a b = AreApartAt es es a b
 -- There is one for each packet, and packets whose extents are apart don't conflict.
 pub record TellConflicts (job : Job) (es : List Extent) : Type 0 where
   pub len : length es ≡ length job.packets
-  pub apart : (kind : Conflict) (a b : ℕ) → IsPacket job a → IsPacket job b → AreApart es a b → Conflicts job kind a b → ⊥
+  pub apart : (kind : Conflict) (a b : ℕ) → IsPacket job a → IsPacket job b → AreApart es a b → Conflicts job kind a b
+      → ⊥
 
 -- The first lies within the second.
 pub record IsAmong (e f : Extent) : Type 0 where

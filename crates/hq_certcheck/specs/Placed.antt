@@ -1,5 +1,6 @@
 -- Order lists by tables: each packet's place in a list.
-use Rattle.std.specs.Prelude.{◌≡◌, ℕ, ◌<◌, ◌≤◌, ◌↔◌, List, length, slice_index, slice_index_or, Option, None, Some, IfSome}
+use Rattle.std.specs.Prelude.{◌≡◌, ℕ, ◌<◌, ◌≤◌, ◌↔◌, List, length, slice_index, slice_index_or, Option, None, Some}
+use Rattle.std.specs.Prelude.{IfSome}
 use Rattle.hq_model.specs.Job.{Job, packet, IsPacket, Earlier, Dependency, Decrements, Frees}
 use Rattle.hq_model.specs.Job.Kind.{BarrierAnd, BarrierOr}
 use Rattle.hq_model.specs.Order.{place}
@@ -28,12 +29,14 @@ KeepsQueue job places queue = (p r : ℕ) → Earlier job p r → (packet job r)
 -- For each signal, the last place at which a packet completes on it, if one does.
 pub record AreLasts (job : Job) (places : List ℕ) (count : ℕ) (lasts : List (Option ℕ)) : Type 0 where
   pub len : length lasts ≡ count
-  pub last : (s b : ℕ) → IfSome (slice_index_or lasts s None) (λ l. l < b) ↔ ((d : ℕ) → Decrements job d s → slice_index places d < b)
+  pub last : (s b : ℕ) → IfSome (slice_index_or lasts s None) (λ l. l < b)
+      ↔ ((d : ℕ) → Decrements job d s → slice_index places d < b)
 
 -- The place is noted for the signal, if there is one.
 pub record IsNoted (old new : List (Option ℕ)) (done : Option ℕ) (place : ℕ) : Type 0 where
   pub len : length new ≡ length old
-  pub here : (s b : ℕ) → done ≡ Some s → IfSome (slice_index_or new s None) (λ l. l < b) ↔ (IfSome (slice_index_or old s None) (λ l. l < b) × (place < b))
+  pub here : (s b : ℕ) → done ≡ Some s → IfSome (slice_index_or new s None) (λ l. l < b)
+      ↔ (IfSome (slice_index_or old s None) (λ l. l < b) × (place < b))
   pub elsewhere : (s : ℕ) → (done ≡ Some s → ⊥) → slice_index_or new s None ≡ slice_index_or old s None
 
 -- Whatever completes on the signal stands ahead of r.
@@ -55,7 +58,8 @@ pub record HasWaited (job : Job) (places : List ℕ) (r : ℕ) : Type 0 where
 
 -- Where p frees m's slot, it stands ahead of m and of all that are submitted after m.
 abbrev pub HasSlot : Job → List ℕ → List ℕ → ℕ → Type 0
-HasSlot job turns places m = (p r : ℕ) → Frees job p m → IsPacket job r → slice_index turns m ≤ slice_index turns r → StandsAhead places p r
+HasSlot job turns places m = (p r : ℕ) → Frees job p m → IsPacket job r → slice_index turns m ≤ slice_index turns r
+    → StandsAhead places p r
 
 -- By the tables of places and of turns of submission, a list of all packets is an order list.
 pub record KeepsOrder (job : Job) (turns places : List ℕ) : Type 0 where

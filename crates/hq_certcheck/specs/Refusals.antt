@@ -27,5 +27,6 @@ abbrev pub IsRefused : Job → Certificate → CheckNo → Type 0
 IsRefused job c BadOrder = ¬ OrderList job c.order
 IsRefused job c (BadLine k) = OrderList job c.order × IsBadLine job c k
 IsRefused job c (PairMissing p r) = OrderList job c.order × ((k : ℕ) → LineHolds job c k) × FirstMissing job c p r
-IsRefused job c (BadPair p r) = OrderList job c.order × ((k : ℕ) → LineHolds job c k) × NoneMissing job c × IsBadPair job c p r
+IsRefused job c (BadPair p r) = OrderList job c.order × ((k : ℕ) → LineHolds job c k) × NoneMissing job c
+    × IsBadPair job c p r
 IsRefused job c Memory = Unit {0}

@@ -41,8 +41,8 @@ impl Accepted {
         Accepted { job, order }
     }
 
-    /// The job is ordered, its plan is one that all laws of the model speak of, the order is one that keeps the job's, and every
-    /// run of the job agrees with each such order.
+    /// The job is ordered, its plan is one that all laws of the model speak of, the order is one that keeps the
+    /// job's, and every run of the job agrees with each such order.
     pub fn ordered(&self)
         ensures valid { Valid (plan self.now.job) }
         ensures ordered { Ordered (plan self.now.job) }

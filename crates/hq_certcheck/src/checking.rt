@@ -24,7 +24,8 @@ use std::alloc::Global;
 
 /// The certificate's order, if it is an order list of the job.
 pub fn order_of(alloc: Global, job: &Job, certificate: &Certificate) -> Result<Vec<u16>, CheckNo>
-    ensures ok { IfOk result (λ order. OrderList (plan job.now) certificate.now.order × (order.items ≡ certificate.now.order)) }
+    ensures ok { IfOk result
+        (λ order. OrderList (plan job.now) certificate.now.order × (order.items ≡ certificate.now.order)) }
     ensures refused { IfErr result (IsRefused (plan job.now) certificate.now) }
 {
     let Some(order) = numbers(alloc, job, certificate.order())? else {
@@ -38,14 +39,16 @@ pub fn order_of(alloc: Global, job: &Job, certificate: &Certificate) -> Result<V
 
 /// The least line of the certificate that doesn't hold.
 fn bad_line(job: &Job, certificate: &Certificate) -> Option<usize>
-    ensures { MatchOption result ((k : ℕ) → LineHolds (plan job.now) certificate.now k) (IsBadLine (plan job.now) certificate.now) }
+    ensures { MatchOption result ((k : ℕ) → LineHolds (plan job.now) certificate.now k)
+        (IsBadLine (plan job.now) certificate.now) }
 {
     first_bad_line(job, certificate.lines())
 }
 
 /// The packets of the first pair line of the certificate that doesn't hold.
 fn bad_pair(job: &Job, certificate: &Certificate) -> Option<(u32, u32)>
-    ensures { MatchOption result (All (PairHolds (plan job.now) certificate.now) certificate.now.pairs) (λ pair. IsBadPair (plan job.now) certificate.now pair.0 pair.1) }
+    ensures { MatchOption result (All (PairHolds (plan job.now) certificate.now) certificate.now.pairs)
+        (λ pair. IsBadPair (plan job.now) certificate.now pair.0 pair.1) }
 {
     first_bad_pair(job, certificate.lines(), certificate.pairs())
 }
@@ -68,7 +71,8 @@ fn check_pairs(alloc: Global, job: &Job, certificate: &Certificate) -> Result<()
 
 /// The certificate's order, if the certificate holds.
 fn examine(alloc: Global, job: &Job, certificate: &Certificate) -> Result<Vec<u16>, CheckNo>
-    ensures ok { IfOk result (λ order. CertHolds (plan job.now) certificate.now × (order.items ≡ certificate.now.order)) }
+    ensures ok { IfOk result
+        (λ order. CertHolds (plan job.now) certificate.now × (order.items ≡ certificate.now.order)) }
     ensures refused { IfErr result (IsRefused (plan job.now) certificate.now) }
 {
     let order = order_of(alloc, job, certificate)?;
@@ -85,9 +89,11 @@ pub fn conclude(
     certificate: &Certificate,
     examined: Result<Vec<u16>, CheckNo>,
 ) -> Result<Accepted, (CheckNo, Job)>
-    requires ok { IfOk examined (λ order. CertHolds (plan job) certificate.now × (order.items ≡ certificate.now.order)) }
+    requires ok { IfOk examined
+        (λ order. CertHolds (plan job) certificate.now × (order.items ≡ certificate.now.order)) }
     requires refused { IfErr examined (IsRefused (plan job) certificate.now) }
-    ensures accepted { IfOk result (λ a. CertHolds (plan job) certificate.now × (a.job ≡ job) × (a.order ≡ certificate.now.order)) }
+    ensures accepted { IfOk result
+        (λ a. CertHolds (plan job) certificate.now × (a.job ≡ job) × (a.order ≡ certificate.now.order)) }
     ensures ordered { IfOk result (λ _. Ordered (plan job)) }
     ensures extends { IfOk result (λ a. Extends (plan job) a.order) }
     ensures headline { IfOk result (λ _. Headline (plan job)) }
@@ -104,16 +110,18 @@ pub fn conclude(
     }
 }
 
-/// Accepts the job where the certificate holds. Then every run of the machine, however launches, reads, stores, write-backs, stale
-/// fills and completions interleave, gives each packet the bytes that each order of one packet at a time that extends the job's
-/// gives it, makes at most the job's bound of work steps, and, where no work step is left, has every packet complete, nothing
-/// dirty, and memory as that order leaves it.
+/// Accepts the job where the certificate holds. Then every run of the machine, however launches, reads, stores,
+/// write-backs, stale fills and completions interleave, gives each packet the bytes that each order of one packet
+/// at a time that extends the job's gives it, makes at most the job's bound of work steps, and, where no work step
+/// is left, has every packet complete, nothing dirty, and memory as that order leaves it.
 ///
 /// # Errors
 ///
-/// The first reason why it isn't accepted, and the job as it was. A certificate that holds is refused only with `Memory`.
+/// The first reason why it isn't accepted, and the job as it was. A certificate that holds is refused only with
+/// `Memory`.
 pub fn check(alloc: Global, job: Job, certificate: &Certificate) -> Result<Accepted, (CheckNo, Job)>
-    ensures accepted { IfOk result (λ a. CertHolds (plan job) certificate.now × (a.job ≡ job) × (a.order ≡ certificate.now.order)) }
+    ensures accepted { IfOk result
+        (λ a. CertHolds (plan job) certificate.now × (a.job ≡ job) × (a.order ≡ certificate.now.order)) }
     ensures ordered { IfOk result (λ _. Ordered (plan job)) }
     ensures extends { IfOk result (λ a. Extends (plan job) a.order) }
     ensures headline { IfOk result (λ _. Headline (plan job)) }

@@ -3,7 +3,8 @@
 ghost use Rattle.std.specs.Prelude.{◌≡◌, ◌+◌, ◌<◌, ◌≤◌, ◌↔◌, IsTrue, IfOk, All, length};
 ghost use Rattle.hq_footprint.specs.declared.footprint.Range as footprint;
 ghost use Rattle.hq_job.specs.Plan.{plan};
-ghost use Rattle.hq_certcheck.specs.Extents.{HasRange, HasFoot, IsApart, IsAmong, AreApartAt, AreApart, TellConflicts, HasBlock, AreBlocks, IsApartFromBlock, AreExtents};
+ghost use Rattle.hq_certcheck.specs.Extents.{HasRange, HasFoot, IsApart, IsAmong, AreApartAt, AreApart};
+ghost use Rattle.hq_certcheck.specs.Extents.{TellConflicts, HasBlock, AreBlocks, IsApartFromBlock, AreExtents};
 
 use hq_footprint::{Footprint, Range};
 use hq_job::Job;
@@ -12,8 +13,8 @@ use std::alloc::{AllocError, Global};
 /// How many packets a block has.
 pub const BLOCK: usize = 32;
 
-/// All that a packet reads and writes lies from `low` on, and ahead of `end`, or has no end that is known where that is the
-/// greatest number.
+/// All that a packet reads and writes lies from `low` on, and ahead of `end`, or has no end that is known where
+/// that is the greatest number.
 #[derive(Clone, Copy, Debug)]
 pub struct Extent {
     low: u64,

@@ -6,9 +6,10 @@ ghost use Rattle.hq_certcheck.specs.declared.fault.CheckNo.TheVariants.{Memory};
 use std::alloc::{AllocError, AllocFailed};
 use thiserror::Error;
 
-/// Why a certificate isn't accepted: `BadOrder` where its order is no order list of the job; `BadLine` with the least line that
-/// doesn't hold; `PairMissing` with the first conflicting packets, in number order, that lack pair lines in both directions;
-/// `BadPair` with the packets of the first pair line that doesn't hold; `Memory` where there is none.
+/// Why a certificate isn't accepted: `BadOrder` where its order is no order list of the job; `BadLine` with the
+/// least line that doesn't hold; `PairMissing` with the first conflicting packets, in number order, that lack pair
+/// lines in both directions; `BadPair` with the packets of the first pair line that doesn't hold; `Memory` where
+/// there is none.
 #[derive(Debug, Drop, Error)]
 pub enum CheckNo {
     #[error("the order isn't one of the job's")]

@@ -1,6 +1,7 @@
 //! Laws of the model, for whoever has a certificate or a job that was accepted.
 
-ghost use Rattle.hq_model.specs.Theorems.{CertificatesOrder, OrderLaw, StaleCopies, BoundLaw, EndLaw, StuckLaw, HeadlineLaw};
+ghost use Rattle.hq_model.specs.Theorems.{CertificatesOrder, OrderLaw, StaleCopies, BoundLaw, EndLaw, StuckLaw};
+ghost use Rattle.hq_model.specs.Theorems.{HeadlineLaw};
 
 use hq_model::{certificate, machine, runs};
 

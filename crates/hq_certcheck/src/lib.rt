@@ -1,7 +1,7 @@
 //! Checks certificates of order.
 //!
-//! `check` says whether a certificate holds of a job. Where it does, every run of the job leaves the same memory, whoever made the
-//! certificate.
+//! `check` says whether a certificate holds of a job. Where it does, every run of the job leaves the same memory,
+//! whoever made the certificate.
 #![tactic(auto)]
 
 mod accepted;

@@ -68,7 +68,9 @@ fn hold_for_each(
     slots: &[Option<u16>],
     branches: &[Citation],
 ) -> bool
-    ensures { IsTrue result ↔ AllZip (HoldsFor (plan job.now) (map line_of lines.now) limit p) (signals slots.now) (map cited branches.now) }
+    ensures { IsTrue result
+        ↔ AllZip (HoldsFor (plan job.now) (map line_of lines.now) limit p) (signals slots.now)
+        (map cited branches.now) }
 {
     let mut next = 0;
     for slot in slots {
@@ -87,16 +89,17 @@ fn hold_for_each(
 
 /// Whether r is a barrier-OR whose dependencies have these branches.
 fn by_or(job: &Job, lines: &[Line], limit: usize, p: usize, r: usize, branches: &[Citation]) -> bool
-    ensures { IsTrue result ↔ Follows (plan job.now) (map line_of lines.now) limit p r (OrRule (map cited branches.now)) }
+    ensures { IsTrue result
+        ↔ Follows (plan job.now) (map line_of lines.now) limit p r (OrRule (map cited branches.now)) }
 {
-    job.is_packet(r)
-        && is_or(job, r)
-        && hold_for_each(job, lines, limit, p, job.slots(r), branches)
+    job.is_packet(r) && is_or(job, r) && hold_for_each(job, lines, limit, p, job.slots(r), branches)
 }
 
 /// Whether the first line says that p comes before a packet, and the second that this comes before r.
 fn through(lines: &[Line], limit: usize, p: usize, r: usize, first: usize, second: usize) -> bool
-    ensures { IsTrue result ↔ ((m : ℕ) × certificate.Says (map line_of lines.now) limit first p m × certificate.Says (map line_of lines.now) limit second m r) }
+    ensures { IsTrue result
+        ↔ ((m : ℕ) × certificate.Says (map line_of lines.now) limit first p m
+        × certificate.Says (map line_of lines.now) limit second m r) }
 {
     match follower(lines, limit, first, p) {
         Some(middle) => says(lines, limit, second, middle, r),
@@ -106,7 +109,8 @@ fn through(lines: &[Line], limit: usize, p: usize, r: usize, first: usize, secon
 
 /// Whether the line follows by its rule from lines below the limit.
 fn follows(job: &Job, lines: &[Line], limit: usize, line: &Line) -> bool
-    ensures { IsTrue result ↔ Follows (plan job.now) (map line_of lines.now) limit line.now.p line.now.r (rule_of line.now.rule) }
+    ensures { IsTrue result
+        ↔ Follows (plan job.now) (map line_of lines.now) limit line.now.p line.now.r (rule_of line.now.rule) }
 {
     let p = line.p as usize;
     let r = line.r as usize;
@@ -131,7 +135,8 @@ pub fn line_holds(job: &Job, lines: &[Line], k: usize) -> bool
 
 /// The least line that doesn't hold.
 pub fn first_bad_line(job: &Job, lines: &[Line]) -> Option<usize>
-    ensures { MatchOption result ((k : ℕ) → LineFollows (plan job.now) (map line_of lines.now) k) (FirstBadLine (plan job.now) (map line_of lines.now)) }
+    ensures { MatchOption result ((k : ℕ) → LineFollows (plan job.now) (map line_of lines.now) k)
+        (FirstBadLine (plan job.now) (map line_of lines.now)) }
 {
     for k in 0..lines.len() {
         if !line_holds(job, lines, k) {

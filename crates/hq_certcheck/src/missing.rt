@@ -1,11 +1,14 @@
 //! Conflicts that have no pair lines.
 
-ghost use Rattle.std.specs.Prelude.{◌≡◌, ℕ, ◌+◌, ◌*◌, ◌<◌, ◌≤◌, ◌↔◌, IsTrue, IfOk, MatchOption, All, false, map, length};
+ghost use Rattle.std.specs.Prelude.{◌≡◌, ℕ, ◌+◌, ◌*◌, ◌<◌, ◌≤◌, ◌↔◌, IsTrue, IfOk, MatchOption, All, false, map};
+ghost use Rattle.std.specs.Prelude.{length};
 ghost use Rattle.hq_cert.specs.View.{pair_of, fences_of};
 ghost use Rattle.hq_job.specs.Plan.{plan};
 ghost use Rattle.hq_model.specs.Fence.{Conflict, Conflicts};
 ghost use Rattle.hq_model.specs.Certificate.{kind_of};
-ghost use Rattle.hq_certcheck.specs.Covering.{FirstMissing, has_kind, flag_of, kinds_in, AreListed, IsMarked, AreFlagged, IsFlagged, AllFlagged, BlockFlagged, FirstUnflaggedOf, FirstUnflaggedAfter, FirstUnflagged, NoneMissing};
+ghost use Rattle.hq_certcheck.specs.Covering.{FirstMissing, has_kind, flag_of, kinds_in, AreListed, IsMarked};
+ghost use Rattle.hq_certcheck.specs.Covering.{AreFlagged, IsFlagged, AllFlagged, BlockFlagged, FirstUnflaggedOf};
+ghost use Rattle.hq_certcheck.specs.Covering.{FirstUnflaggedAfter, FirstUnflagged, NoneMissing};
 ghost use Rattle.hq_certcheck.specs.Extents.{AreExtents};
 
 use crate::extents::{BLOCK, Extents};
@@ -75,7 +78,8 @@ fn mark_all(cells: &mut [u8], count: usize, pairs: &[Pair])
 /// The kinds that have pair lines, for each two packets: a byte of flags.
 pub fn listed(alloc: Global, count: usize, pairs: &[Pair]) -> Result<Vec<u8>, AllocError>
     requires { count ≤ 1024 }
-    ensures { let found = map pair_of pairs.now in IfOk result (λ cells. AreListed found (length found) count cells.items) }
+    ensures { let found = map pair_of pairs.now in IfOk result
+        (λ cells. AreListed found (length found) count cells.items) }
 {
     let mut cells = vec![in alloc; 0; count * count]?;
     mark_all(&mut cells, count, pairs);
@@ -208,7 +212,8 @@ fn first_unflagged_of(
     requires len { length cells.now ≡ length job.now.packets * length job.now.packets }
     requires p_is { p < length job.now.packets }
     requires block { block < length extents.now.blocks.items }
-    ensures { MatchOption result (BlockFlagged (plan job.now) cells.now (length job.now.packets) p block) (FirstUnflaggedOf (plan job.now) cells.now (length job.now.packets) p block) }
+    ensures { MatchOption result (BlockFlagged (plan job.now) cells.now (length job.now.packets) p block)
+        (FirstUnflaggedOf (plan job.now) cells.now (length job.now.packets) p block) }
 {
     if extents.is_apart_from_block(p, block) {
         return None;
@@ -227,7 +232,9 @@ pub fn first_unflagged_after(job: &Job, extents: &Extents, cells: &[u8], p: usiz
     requires extents { AreExtents (plan job.now) extents.now }
     requires len { length cells.now ≡ length job.now.packets * length job.now.packets }
     requires p_is { p < length job.now.packets }
-    ensures { MatchOption result (AllFlagged (plan job.now) cells.now (length job.now.packets) p (length job.now.packets)) (λ r. FirstUnflaggedAfter (plan job.now) cells.now (length job.now.packets) p r) }
+    ensures { MatchOption result
+        (AllFlagged (plan job.now) cells.now (length job.now.packets) p (length job.now.packets))
+        (λ r. FirstUnflaggedAfter (plan job.now) cells.now (length job.now.packets) p r) }
 {
     for block in p / BLOCK..extents.blocks() {
         if let Some(r) = first_unflagged_of(job, extents, cells, p, block) {
@@ -241,7 +248,10 @@ pub fn first_unflagged_after(job: &Job, extents: &Extents, cells: &[u8], p: usiz
 fn first_unflagged(job: &Job, extents: &Extents, cells: &[u8]) -> Option<(u16, u16)>
     requires extents { AreExtents (plan job.now) extents.now }
     requires len { length cells.now ≡ length job.now.packets * length job.now.packets }
-    ensures { MatchOption result ((p : ℕ) → p < length job.now.packets → AllFlagged (plan job.now) cells.now (length job.now.packets) p (length job.now.packets)) (λ found. FirstUnflagged (plan job.now) cells.now (length job.now.packets) found.0 found.1) }
+    ensures { MatchOption result
+        ((p : ℕ) → p < length job.now.packets
+        → AllFlagged (plan job.now) cells.now (length job.now.packets) p (length job.now.packets))
+        (λ found. FirstUnflagged (plan job.now) cells.now (length job.now.packets) found.0 found.1) }
 {
     job.valid();
     for p in 0..job.packets().len() {
@@ -260,8 +270,10 @@ fn missing_by(
     cells: &[u8],
 ) -> Option<(u16, u16)>
     requires extents { AreExtents (plan job.now) extents.now }
-    requires listed { AreListed certificate.now.pairs (length certificate.now.pairs) (length job.now.packets) cells.now }
-    ensures { MatchOption result (NoneMissing (plan job.now) certificate.now) (λ pair. FirstMissing (plan job.now) certificate.now pair.0 pair.1) }
+    requires listed { AreListed certificate.now.pairs (length certificate.now.pairs)
+        (length job.now.packets) cells.now }
+    ensures { MatchOption result (NoneMissing (plan job.now) certificate.now)
+        (λ pair. FirstMissing (plan job.now) certificate.now pair.0 pair.1) }
 {
     first_unflagged(job, extents, cells)
 }
@@ -272,7 +284,9 @@ pub fn first_missing(
     job: &Job,
     certificate: &Certificate,
 ) -> Result<Option<(u16, u16)>, AllocError>
-    ensures { IfOk result (λ found. MatchOption found (NoneMissing (plan job.now) certificate.now) (λ pair. FirstMissing (plan job.now) certificate.now pair.0 pair.1)) }
+    ensures { IfOk result
+        (λ found. MatchOption found (NoneMissing (plan job.now) certificate.now)
+        (λ pair. FirstMissing (plan job.now) certificate.now pair.0 pair.1)) }
 {
     job.valid();
     let extents = Extents::build(alloc, job)?;

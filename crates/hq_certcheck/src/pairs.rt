@@ -6,7 +6,8 @@ ghost use Rattle.hq_job.specs.Plan.{plan};
 ghost use Rattle.hq_model.specs.Job.{packet, IsPacket};
 ghost use Rattle.hq_model.specs.Fence.{FenceReaches, Forwards};
 ghost use Rattle.hq_model.specs.Certificate.{ReleaseHolds, AcquireHolds, FencesHold};
-ghost use Rattle.hq_model.specs.Certificate.Fences.{ForWriteWrite, ForWriteRead, ForWriteWriteChained, ForWriteReadChained};
+ghost use Rattle.hq_model.specs.Certificate.Fences.{ForWriteWrite, ForWriteRead, ForWriteWriteChained};
+ghost use Rattle.hq_model.specs.Certificate.Fences.{ForWriteReadChained};
 ghost use Rattle.hq_certcheck.specs.Listed.{PairFollows, PairFollowsAt, FirstBadPair, NeedsSystem};
 
 use crate::citing::{cites, says};
@@ -35,7 +36,9 @@ fn forwards(job: &Job, p: usize, m: usize) -> bool
     requires { IsPacket (plan job.now) p }
     ensures { IsTrue result ↔ Forwards (plan job.now) p m (packet (plan job.now) m).release }
 {
-    job.is_packet(m) && job.agent_of(m) == job.agent_of(p) && job.release_of(m).reaches(Scope::System)
+    job.is_packet(m)
+        && job.agent_of(m) == job.agent_of(p)
+        && job.release_of(m).reaches(Scope::System)
 }
 
 /// Whether m stands on r's agent, and acquires from the system.
@@ -43,7 +46,9 @@ fn fetches(job: &Job, r: usize, m: usize) -> bool
     requires { IsPacket (plan job.now) r }
     ensures { IsTrue result ↔ Forwards (plan job.now) r m (packet (plan job.now) m).acquire }
 {
-    job.is_packet(m) && job.agent_of(m) == job.agent_of(r) && job.acquire_of(m).reaches(Scope::System)
+    job.is_packet(m)
+        && job.agent_of(m) == job.agent_of(r)
+        && job.acquire_of(m).reaches(Scope::System)
 }
 
 /// Whether a fence between two packets needs to reach the whole system.
@@ -168,7 +173,8 @@ fn write_read(
 ) -> bool
     requires p_is { IsPacket (plan job.now) p }
     requires r_is { IsPacket (plan job.now) r }
-    ensures { IsTrue result ↔ FencesHold (plan job.now) (map line_of lines.now) p r (ForWriteRead x y (cited from) between (cited to)) }
+    ensures { IsTrue result
+        ↔ FencesHold (plan job.now) (map line_of lines.now) p r (ForWriteRead x y (cited from) between (cited to)) }
 {
     let needed = job.need(p, r);
     releases(job, p, x, needed)
@@ -182,7 +188,9 @@ fn write_read(
 fn write_write_chained(job: &Job, lines: &[Line], p: usize, r: usize, chain: &WriteChain) -> bool
     requires p_is { IsPacket (plan job.now) p }
     requires r_is { IsPacket (plan job.now) r }
-    ensures { let c = chain.now in IsTrue result ↔ FencesHold (plan job.now) (map line_of lines.now) p r (ForWriteWriteChained c.x c.x2 (cited c.from) c.link c.on) }
+    ensures { let c = chain.now in IsTrue result
+        ↔ FencesHold (plan job.now) (map line_of lines.now) p r
+        (ForWriteWriteChained c.x c.x2 (cited c.from) c.link c.on) }
 {
     let x = chain.x as usize;
     let x2 = chain.x2 as usize;
@@ -195,7 +203,9 @@ fn write_write_chained(job: &Job, lines: &[Line], p: usize, r: usize, chain: &Wr
 fn write_read_chained(job: &Job, lines: &[Line], p: usize, r: usize, chain: &ReadChain) -> bool
     requires p_is { IsPacket (plan job.now) p }
     requires r_is { IsPacket (plan job.now) r }
-    ensures { let c = chain.now in IsTrue result ↔ FencesHold (plan job.now) (map line_of lines.now) p r (ForWriteReadChained c.x c.x2 c.y2 c.y (cited c.from) (cited c.link) c.between (cited c.link2) (cited c.to)) }
+    ensures { let c = chain.now in IsTrue result
+        ↔ FencesHold (plan job.now) (map line_of lines.now) p r
+        (ForWriteReadChained c.x c.x2 c.y2 c.y (cited c.from) (cited c.link) c.between (cited c.link2) (cited c.to)) }
 {
     let x = chain.x as usize;
     let x2 = chain.x2 as usize;
@@ -261,7 +271,8 @@ pub fn pair_line_holds(job: &Job, lines: &[Line], pairs: &[Pair], k: usize) -> b
 
 /// The packets of the first pair line that doesn't hold.
 pub fn first_bad_pair(job: &Job, lines: &[Line], pairs: &[Pair]) -> Option<(u32, u32)>
-    ensures { MatchOption result (All (PairFollows (plan job.now) (map line_of lines.now)) (map pair_of pairs.now)) (λ bad. FirstBadPair (plan job.now) (map line_of lines.now) (map pair_of pairs.now) bad.0 bad.1) }
+    ensures { MatchOption result (All (PairFollows (plan job.now) (map line_of lines.now)) (map pair_of pairs.now))
+        (λ bad. FirstBadPair (plan job.now) (map line_of lines.now) (map pair_of pairs.now) bad.0 bad.1) }
 {
     for pair in pairs {
         if !pair_holds(job, lines, pair) {

@@ -11,7 +11,9 @@ use std::alloc::{AllocError, Global};
 
 /// The numbers of the list, if all are numbers of packets.
 pub fn numbers(alloc: Global, job: &Job, list: &[u32]) -> Result<Option<Vec<u16>>, AllocError>
-    ensures { IfOk result (λ found. MatchOption found (¬ All (IsPacket (plan job.now)) list.now) (λ numbers. All (IsPacket (plan job.now)) list.now × (numbers.items ≡ list.now))) }
+    ensures { IfOk result
+        (λ found. MatchOption found (¬ All (IsPacket (plan job.now)) list.now)
+        (λ numbers. All (IsPacket (plan job.now)) list.now × (numbers.items ≡ list.now))) }
 {
     job.valid();
     let count = job.packets().len();

@@ -60,7 +60,9 @@ fn frees(job: &Job, queue_places: &[usize], p: usize, m: usize) -> bool
 fn least_from(turns: &[usize], places: &[usize], m: usize) -> usize
     requires count { length turns.now ≡ length places.now }
     requires m_is { m < length places.now }
-    ensures { (b : ℕ) → b < result ↔ ((r : ℕ) → r < length places.now → slice_index turns.now m ≤ slice_index turns.now r → b < slice_index places.now r) }
+    ensures { (b : ℕ) → b < result
+        ↔ ((r : ℕ) → r < length places.now → slice_index turns.now m ≤ slice_index turns.now r
+        → b < slice_index places.now r) }
 {
     let mut least = places[m];
     for r in 0..places.len() {

@@ -26,19 +26,21 @@ fn dependencies(slots: &[Option<u16>; 5]) -> u64
     slots.iter().filter(|slot| slot.is_some()).count() as u64
 }
 
-/// How many steps a packet takes at most: its own, an observation for each dependency, a read for each byte that it reads, and
-/// a store and two pushes for each that it writes.
+/// How many steps a packet takes at most: its own, an observation for each dependency, a read for each byte that it
+/// reads, and a store and two pushes for each that it writes.
 fn steps_of(own: u64, packet: &Placed) -> u64
     requires own { own ≤ 4 }
     requires short { IsShort packet.now }
-    ensures steps { let p = packet.now in result ≡ own + count_by is_some p.slots + length (read_entries p.bytes) + 3 * length (written_bytes p.bytes) }
+    ensures steps { let p = packet.now in result ≡ own + count_by is_some p.slots + length
+        (read_entries p.bytes) + 3 * length (written_bytes p.bytes) }
     ensures few { result ≤ 400000 }
 {
     let bytes = packet.bytes;
     own + dependencies(&packet.slots) + total(bytes.reads) + 3 * bytes.write.len
 }
 
-/// How many steps of its own each packet has: a launch, an entry and a completion, and a submission where queues are rings.
+/// How many steps of its own each packet has: a launch, an entry and a completion, and a submission where queues
+/// are rings.
 fn own_steps(job: &Job) -> u64
     ensures own { result ≡ own_steps (plan job.now) }
     ensures few { result ≤ 4 }

@@ -28,35 +28,40 @@ const LEAST_LINES: usize = 8192;
 /// Whether line k doesn't hold.
 fn is_bad(job: &Job, lines: &[Line], k: usize) -> bool
     requires { k < length lines.now }
-    ensures { (result ≡ false → LineFollows (plan job.now) (map line_of lines.now) k) × (IsTrue result → ¬ LineFollows (plan job.now) (map line_of lines.now) k) }
+    ensures { (result ≡ false → LineFollows (plan job.now) (map line_of lines.now) k)
+        × (IsTrue result → ¬ LineFollows (plan job.now) (map line_of lines.now) k) }
 {
     !line_holds(job, lines, k)
 }
 
 /// The least line that doesn't hold.
 fn first_bad_line(rt: &(impl Threads + Sync), job: &Job, lines: &[Line]) -> Option<usize>
-    ensures { MatchOption result ((k : ℕ) → LineFollows (plan job.now) (map line_of lines.now) k) (FirstBadLine (plan job.now) (map line_of lines.now)) }
+    ensures { MatchOption result ((k : ℕ) → LineFollows (plan job.now) (map line_of lines.now) k)
+        (FirstBadLine (plan job.now) (map line_of lines.now)) }
 {
     let places = (0..lines.len()).into_par_iter().with_min_len(LEAST_LINES);
     places.position_first(
         rt,
         |k: usize| -> bool
             requires { k < length lines.now }
-            ensures { (result ≡ false → LineFollows (plan job.entry.now) (map line_of lines.entry.now) k) × (IsTrue result → ¬ LineFollows (plan job.entry.now) (map line_of lines.entry.now) k) }
+            ensures { (result ≡ false → LineFollows (plan job.entry.now) (map line_of lines.entry.now) k)
+                × (IsTrue result → ¬ LineFollows (plan job.entry.now) (map line_of lines.entry.now) k) }
         { is_bad(job, lines, k) },
     )
 }
 
 /// The least line of the certificate that doesn't hold.
 fn bad_line(rt: &(impl Threads + Sync), job: &Job, certificate: &Certificate) -> Option<usize>
-    ensures { MatchOption result ((k : ℕ) → LineHolds (plan job.now) certificate.now k) (IsBadLine (plan job.now) certificate.now) }
+    ensures { MatchOption result ((k : ℕ) → LineHolds (plan job.now) certificate.now k)
+        (IsBadLine (plan job.now) certificate.now) }
 {
     first_bad_line(rt, job, certificate.lines())
 }
 
 /// The packets of the first pair line of the certificate that doesn't hold.
 fn bad_pair(rt: &(impl Threads + Sync), job: &Job, certificate: &Certificate) -> Option<(u32, u32)>
-    ensures { MatchOption result (All (PairHolds (plan job.now) certificate.now) certificate.now.pairs) (λ pair. IsBadPair (plan job.now) certificate.now pair.0 pair.1) }
+    ensures { MatchOption result (All (PairHolds (plan job.now) certificate.now) certificate.now.pairs)
+        (λ pair. IsBadPair (plan job.now) certificate.now pair.0 pair.1) }
 {
     first_bad_pair(rt, job, certificate.lines(), certificate.pairs())
 }
@@ -89,7 +94,8 @@ fn examine(
     job: &Job,
     certificate: &Certificate,
 ) -> Result<Vec<u16>, CheckNo>
-    ensures ok { IfOk result (λ order. CertHolds (plan job.now) certificate.now × (order.items ≡ certificate.now.order)) }
+    ensures ok { IfOk result
+        (λ order. CertHolds (plan job.now) certificate.now × (order.items ≡ certificate.now.order)) }
     ensures refused { IfErr result (IsRefused (plan job.now) certificate.now) }
 {
     let order = order_of(alloc, job, certificate)?;
@@ -100,19 +106,21 @@ fn examine(
     Ok(order)
 }
 
-/// What `check` answers, with the lines and the pair lines checked, and those that are missing sought, by as many threads as there
-/// are processors.
+/// What `check` answers, with the lines and the pair lines checked, and those that are missing sought, by as many
+/// threads as there are processors.
 ///
 /// # Errors
 ///
-/// Those of `check`: with `BadLine` the least line that doesn't hold, and so with the others, whichever thread met it first.
+/// Those of `check`: with `BadLine` the least line that doesn't hold, and so with the others, whichever thread met
+/// it first.
 pub fn check_wide(
     rt: &(impl Threads + Sync),
     alloc: Global,
     job: Job,
     certificate: &Certificate,
 ) -> Result<Accepted, (CheckNo, Job)>
-    ensures accepted { IfOk result (λ a. CertHolds (plan job) certificate.now × (a.job ≡ job) × (a.order ≡ certificate.now.order)) }
+    ensures accepted { IfOk result
+        (λ a. CertHolds (plan job) certificate.now × (a.job ≡ job) × (a.order ≡ certificate.now.order)) }
     ensures ordered { IfOk result (λ _. Ordered (plan job)) }
     ensures extends { IfOk result (λ a. Extends (plan job) a.order) }
     ensures headline { IfOk result (λ _. Headline (plan job)) }

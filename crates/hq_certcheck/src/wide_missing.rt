@@ -2,7 +2,8 @@
 
 ghost use Rattle.std.specs.Prelude.{◌≡◌, ℕ, ◌*◌, ◌<◌, ◌≤◌, IsTrue, IfOk, MatchOption, false, length};
 ghost use Rattle.hq_job.specs.Plan.{plan};
-ghost use Rattle.hq_certcheck.specs.Covering.{FirstMissing, AreListed, AllFlagged, FirstUnflaggedRow, FirstUnflagged, NoneMissing};
+ghost use Rattle.hq_certcheck.specs.Covering.{FirstMissing, AreListed, AllFlagged, FirstUnflaggedRow};
+ghost use Rattle.hq_certcheck.specs.Covering.{FirstUnflagged, NoneMissing};
 ghost use Rattle.hq_certcheck.specs.Extents.{AreExtents};
 
 use crate::extents::Extents;
@@ -21,7 +22,8 @@ fn lacks_some(job: &Job, extents: &Extents, cells: &[u8], p: usize) -> bool
     requires extents { AreExtents (plan job.now) extents.now }
     requires len { length cells.now ≡ length job.now.packets * length job.now.packets }
     requires p_is { p < length job.now.packets }
-    ensures { (result ≡ false → AllFlagged (plan job.now) cells.now (length job.now.packets) p (length job.now.packets)) × (IsTrue result → ¬ AllFlagged (plan job.now) cells.now (length job.now.packets) p (length job.now.packets)) }
+    ensures { (result ≡ false → AllFlagged (plan job.now) cells.now (length job.now.packets) p (length job.now.packets))
+        × (IsTrue result → ¬ AllFlagged (plan job.now) cells.now (length job.now.packets) p (length job.now.packets)) }
 {
     first_unflagged_after(job, extents, cells, p).is_some()
 }
@@ -35,7 +37,10 @@ fn first_row(
 ) -> Option<usize>
     requires extents { AreExtents (plan job.now) extents.now }
     requires len { length cells.now ≡ length job.now.packets * length job.now.packets }
-    ensures { MatchOption result ((p : ℕ) → p < length job.now.packets → AllFlagged (plan job.now) cells.now (length job.now.packets) p (length job.now.packets)) (FirstUnflaggedRow (plan job.now) cells.now (length job.now.packets)) }
+    ensures { MatchOption result
+        ((p : ℕ) → p < length job.now.packets
+        → AllFlagged (plan job.now) cells.now (length job.now.packets) p (length job.now.packets))
+        (FirstUnflaggedRow (plan job.now) cells.now (length job.now.packets)) }
 {
     let rows = (0..job.packets().len())
         .into_par_iter()
@@ -43,8 +48,14 @@ fn first_row(
     rows.position_first(
         rt,
         |p: usize| -> bool
-            requires { AreExtents (plan job.now) extents.now × (length cells.now ≡ length job.now.packets * length job.now.packets) × (p < length job.now.packets) }
-            ensures { (result ≡ false → AllFlagged (plan job.entry.now) cells.entry.now (length job.entry.now.packets) p (length job.entry.now.packets)) × (IsTrue result → ¬ AllFlagged (plan job.entry.now) cells.entry.now (length job.entry.now.packets) p (length job.entry.now.packets)) }
+            requires { AreExtents (plan job.now) extents.now
+                × (length cells.now ≡ length job.now.packets * length job.now.packets) × (p < length job.now.packets) }
+            ensures { (result ≡ false
+                → AllFlagged (plan job.entry.now) cells.entry.now (length job.entry.now.packets) p
+                (length job.entry.now.packets))
+                × (IsTrue result
+                → ¬ AllFlagged (plan job.entry.now) cells.entry.now (length job.entry.now.packets) p
+                (length job.entry.now.packets)) }
         { lacks_some(job, extents, cells, p) },
     )
 }
@@ -58,7 +69,10 @@ fn first_unflagged(
 ) -> Option<(u16, u16)>
     requires extents { AreExtents (plan job.now) extents.now }
     requires len { length cells.now ≡ length job.now.packets * length job.now.packets }
-    ensures { MatchOption result ((p : ℕ) → p < length job.now.packets → AllFlagged (plan job.now) cells.now (length job.now.packets) p (length job.now.packets)) (λ found. FirstUnflagged (plan job.now) cells.now (length job.now.packets) found.0 found.1) }
+    ensures { MatchOption result
+        ((p : ℕ) → p < length job.now.packets
+        → AllFlagged (plan job.now) cells.now (length job.now.packets) p (length job.now.packets))
+        (λ found. FirstUnflagged (plan job.now) cells.now (length job.now.packets) found.0 found.1) }
 {
     job.valid();
     match first_row(rt, job, extents, cells) {
@@ -79,8 +93,10 @@ fn missing_by(
     cells: &[u8],
 ) -> Option<(u16, u16)>
     requires extents { AreExtents (plan job.now) extents.now }
-    requires listed { AreListed certificate.now.pairs (length certificate.now.pairs) (length job.now.packets) cells.now }
-    ensures { MatchOption result (NoneMissing (plan job.now) certificate.now) (λ pair. FirstMissing (plan job.now) certificate.now pair.0 pair.1) }
+    requires listed { AreListed certificate.now.pairs (length certificate.now.pairs)
+        (length job.now.packets) cells.now }
+    ensures { MatchOption result (NoneMissing (plan job.now) certificate.now)
+        (λ pair. FirstMissing (plan job.now) certificate.now pair.0 pair.1) }
 {
     first_unflagged(rt, job, extents, cells)
 }
@@ -92,7 +108,9 @@ pub fn first_missing(
     job: &Job,
     certificate: &Certificate,
 ) -> Result<Option<(u16, u16)>, AllocError>
-    ensures { IfOk result (λ found. MatchOption found (NoneMissing (plan job.now) certificate.now) (λ pair. FirstMissing (plan job.now) certificate.now pair.0 pair.1)) }
+    ensures { IfOk result
+        (λ found. MatchOption found (NoneMissing (plan job.now) certificate.now)
+        (λ pair. FirstMissing (plan job.now) certificate.now pair.0 pair.1)) }
 {
     job.valid();
     let extents = Extents::build(alloc, job)?;

@@ -17,7 +17,8 @@ const LEAST_PAIRS: usize = 8192;
 /// Whether pair line k doesn't hold.
 fn is_bad(job: &Job, lines: &[Line], pairs: &[Pair], k: usize) -> bool
     requires { k < length pairs.now }
-    ensures { (result ≡ false → PairFollowsAt (plan job.now) (map line_of lines.now) (map pair_of pairs.now) k) × (IsTrue result → ¬ PairFollowsAt (plan job.now) (map line_of lines.now) (map pair_of pairs.now) k) }
+    ensures { (result ≡ false → PairFollowsAt (plan job.now) (map line_of lines.now) (map pair_of pairs.now) k)
+        × (IsTrue result → ¬ PairFollowsAt (plan job.now) (map line_of lines.now) (map pair_of pairs.now) k) }
 {
     !pair_line_holds(job, lines, pairs, k)
 }
@@ -29,14 +30,19 @@ fn first_bad_place(
     lines: &[Line],
     pairs: &[Pair],
 ) -> Option<usize>
-    ensures { MatchOption result ((k : ℕ) → PairFollowsAt (plan job.now) (map line_of lines.now) (map pair_of pairs.now) k) (FirstBadPlace (plan job.now) (map line_of lines.now) (map pair_of pairs.now)) }
+    ensures { MatchOption result
+        ((k : ℕ) → PairFollowsAt (plan job.now) (map line_of lines.now) (map pair_of pairs.now) k)
+        (FirstBadPlace (plan job.now) (map line_of lines.now) (map pair_of pairs.now)) }
 {
     let places = (0..pairs.len()).into_par_iter().with_min_len(LEAST_PAIRS);
     places.position_first(
         rt,
         |k: usize| -> bool
             requires { k < length pairs.now }
-            ensures { (result ≡ false → PairFollowsAt (plan job.entry.now) (map line_of lines.entry.now) (map pair_of pairs.entry.now) k) × (IsTrue result → ¬ PairFollowsAt (plan job.entry.now) (map line_of lines.entry.now) (map pair_of pairs.entry.now) k) }
+            ensures { (result ≡ false
+                → PairFollowsAt (plan job.entry.now) (map line_of lines.entry.now) (map pair_of pairs.entry.now) k)
+                × (IsTrue result
+                → ¬ PairFollowsAt (plan job.entry.now) (map line_of lines.entry.now) (map pair_of pairs.entry.now) k) }
         { is_bad(job, lines, pairs, k) },
     )
 }
@@ -48,7 +54,8 @@ pub fn first_bad_pair(
     lines: &[Line],
     pairs: &[Pair],
 ) -> Option<(u32, u32)>
-    ensures { MatchOption result (All (PairFollows (plan job.now) (map line_of lines.now)) (map pair_of pairs.now)) (λ bad. FirstBadPair (plan job.now) (map line_of lines.now) (map pair_of pairs.now) bad.0 bad.1) }
+    ensures { MatchOption result (All (PairFollows (plan job.now) (map line_of lines.now)) (map pair_of pairs.now))
+        (λ bad. FirstBadPair (plan job.now) (map line_of lines.now) (map pair_of pairs.now) bad.0 bad.1) }
 {
     match first_bad_place(rt, job, lines, pairs) {
         Some(k) => {

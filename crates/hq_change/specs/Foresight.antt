@@ -17,8 +17,8 @@ pub record AreConflicts (job : Job) (rows : List (Vec ℕ)) : Type 0 where
   pub square : IsSquare (length job.packets) rows
   pub conflict : (b a : ℕ) → Marks rows b a → (b < a) × HaveConflict job b a
 
--- The setting is at or below the one before, and at or above the floor. It differs in no other packet's head than p's; and where p has its
--- bit still, that can't go.
+-- The setting is at or below the one before, and at or above the floor. It differs in no other packet's head than
+-- p's; and where p has its bit still, that can't go.
 pub record Foreseen (floor : List Head) (p : ℕ) (old new : Job) : Type 0 where
   pub below : Raises new old
   pub above : AtOrAbove floor new

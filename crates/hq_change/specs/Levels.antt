@@ -40,5 +40,6 @@ HeadLowered level floor old new = IsLowered level floor old new ⊎ (Stays level
 -- So are the heads from one number up to another; the others are as they were.
 pub record AreLowered (level : Level) (floor : List Head) (from to : ℕ) (old new : List Head) : Type 0 where
   pub len : length new ≡ length old
-  pub inside : (p : ℕ) (low head : Head) → from ≤ p → p < to → slice_get floor p ≡ Some low → slice_get old p ≡ Some head → (other : Head) × (slice_get new p ≡ Some other) × HeadLowered level low head other
+  pub inside : (p : ℕ) (low head : Head) → from ≤ p → p < to → slice_get floor p ≡ Some low
+      → slice_get old p ≡ Some head → (other : Head) × (slice_get new p ≡ Some other) × HeadLowered level low head other
   pub others : (p : ℕ) → (p < from) ⊎ (to ≤ p) → slice_get new p ≡ slice_get old p

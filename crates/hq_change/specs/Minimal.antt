@@ -48,7 +48,8 @@ Settled floor k p part = CanLower floor k p part → ¬ Ordered (with_head k p (
 
 -- so it is for all packets from one number on whose part stands at the level
 abbrev pub SettledFrom : Level → List Head → Job → ℕ → Type 0
-SettledFrom level floor k from = (p : ℕ) → from ≤ p → IsPacket k p → IsAt level (head_at k p) → Settled floor k p (part_of level)
+SettledFrom level floor k from = (p : ℕ) → from ≤ p → IsPacket k p → IsAt level (head_at k p)
+    → Settled floor k p (part_of level)
 
 -- ---- while heads are lowered
 
@@ -64,17 +65,20 @@ pub record IsOn (floor : List Head) (k : Job) (heads : List Head) : Type 0 where
 abbrev pub Fit : Level → Job → Rounds → Type 0
 Fit level job rounds = level ≢ levels.Bit → AreOf job rounds
 
--- After an attempt at the packets from one number up to another: the setting is at or below the one before, and differs in these packets alone;
--- where the attempt went, or was at one packet, they are settled.
-pub record Attempted (level : Level) (floor : List Head) (from to : ℕ) (old new : Job) (heads : List Head) (rounds : Rounds) (went : Bool) : Type 0 where
+-- After an attempt at the packets from one number up to another: the setting is at or below the one before, and
+-- differs in these packets alone; where the attempt went, or was at one packet, they are settled.
+pub record Attempted (level : Level) (floor : List Head) (from to : ℕ) (old new : Job) (heads : List Head)
+    (rounds : Rounds) (went : Bool) : Type 0 where
   pub on : IsOn floor new heads
   pub below : Raises new old
   pub others : (p : ℕ) → (p < from) ⊎ (to ≤ p) → head_at new p ≡ head_at old p
   pub fit : Fit level new rounds
-  pub settled : IsTrue went ⊎ (to ≡ from + 1) → (p : ℕ) → from ≤ p → p < to → IsAt level (head_at new p) → Settled floor new p (part_of level)
+  pub settled : IsTrue went ⊎ (to ≡ from + 1) → (p : ℕ) → from ≤ p → p < to → IsAt level (head_at new p)
+      → Settled floor new p (part_of level)
 
 -- After all packets were settled at a level: the setting is at or below the one before.
-pub record Settles (level : Level) (floor : List Head) (old new : Job) (heads : List Head) (rounds : Rounds) : Type 0 where
+pub record Settles (level : Level) (floor : List Head) (old new : Job) (heads : List Head)
+    (rounds : Rounds) : Type 0 where
   pub on : IsOn floor new heads
   pub below : Raises new old
   pub fit : Fit level new rounds

@@ -16,7 +16,8 @@ use hq_order::{Before, Rounds};
 use hq_packet::Head;
 use std::alloc::{AllocError, Global};
 
-/// What stays as it is while heads are lowered at one level: which packets may conflict, and the heads below which none goes.
+/// What stays as it is while heads are lowered at one level: which packets may conflict, and the heads below which
+/// none goes.
 #[derive(Clone, Copy)]
 pub struct Search<'a> {
     pub parts: &'a Parts,
@@ -24,7 +25,8 @@ pub struct Search<'a> {
     pub level: Level,
 }
 
-/// The rounds of a job whose heads were lowered at a level, from those that it had. Those of another bit are worked out anew.
+/// The rounds of a job whose heads were lowered at a level, from those that it had. Those of another bit are worked
+/// out anew.
 fn rounds_for(alloc: Global, job: &Job, rounds: Rounds, level: Level) -> Result<Rounds, AllocError>
     requires { Fit level (plan job.now) rounds }
     ensures { IfOk result (λ new. AreOf (plan job.now) new) }
@@ -38,8 +40,8 @@ fn rounds_for(alloc: Global, job: &Job, rounds: Rounds, level: Level) -> Result<
     Ok(before.into_rounds())
 }
 
-/// Lowers the heads of the packets from one number up to another, if the job is still ordered then, and answers whether it is; else leaves
-/// the job as it was. An error leaves a job of which nothing is known.
+/// Lowers the heads of the packets from one number up to another, if the job is still ordered then, and answers
+/// whether it is; else leaves the job as it was. An error leaves a job of which nothing is known.
 pub fn attempt(
     alloc: Global,
     job: &mut Job,
@@ -54,7 +56,9 @@ pub fn attempt(
     requires parts { AreParts (plan job.old) search.now.parts.now }
     requires from { from < to }
     requires to { to ≤ length job.old.packets }
-    ensures attempted { IfOk result (λ tried. Attempted search.now.level search.now.floor.now from to (plan job.old) (plan job.new) heads.new.items tried.1 tried.0) }
+    ensures attempted { IfOk result
+        (λ tried. Attempted search.now.level search.now.floor.now from to (plan job.old)
+        (plan job.new) heads.new.items tried.1 tried.0) }
     ensures same { OnOk result (SameButHeads job.old job.new) }
 {
     job.valid();

@@ -143,8 +143,8 @@ fn foreseen(
     }
 }
 
-/// Lowers each bit, if the job is still ordered then: by foresight where that does, else by attempts. An error leaves a job of which
-/// nothing is known.
+/// Lowers each bit, if the job is still ordered then: by foresight where that does, else by attempts. An error
+/// leaves a job of which nothing is known.
 pub fn settle_bits(
     alloc: Global,
     job: &mut Job,

@@ -150,8 +150,8 @@ fn give_lacking(alloc: Global, job: &mut Job, watch: &dyn Watch) -> Result<(), A
     lower(alloc, job, &floor, watch)
 }
 
-/// The job without what it doesn't need: its bits and scopes are at or below those that it had, it is ordered, and in no other
-/// setting at or below this one. Nothing but heads is other. The watch hears how far it is.
+/// The job without what it doesn't need: its bits and scopes are at or below those that it had, it is ordered, and
+/// in no other setting at or below this one. Nothing but heads is other. The watch hears how far it is.
 ///
 /// # Errors
 ///
@@ -170,13 +170,14 @@ pub fn trim(alloc: Global, mut job: Job, watch: &dyn Watch) -> Result<Job, Audit
     }
 }
 
-/// The job with what it lacks: its bits and scopes are at or above those that it had, it is ordered, and in no other setting between
-/// the two; a job that is ordered is answered as it is. Nothing but heads is other. The watch hears how far it is.
+/// The job with what it lacks: its bits and scopes are at or above those that it had, it is ordered, and in no
+/// other setting between the two; a job that is ordered is answered as it is. Nothing but heads is other. The watch
+/// hears how far it is.
 ///
 /// # Errors
 ///
-/// `Stuck` and `Conflict` as an audit says them of the job with all bits and all fences of system scope: then no setting at or above
-/// the job's own is ordered. `Memory`.
+/// `Stuck` and `Conflict` as an audit says them of the job with all bits and all fences of system scope: then no
+/// setting at or above the job's own is ordered. `Memory`.
 pub fn fix(alloc: Global, mut job: Job, watch: &dyn Watch) -> Result<Job, AuditNo>
     ensures fixed { IfOk result (λ k. IsFixed (plan job) (plan k)) }
     ensures heads { IfOk result (λ k. job_with_heads job (heads_of k) ≡ k) }

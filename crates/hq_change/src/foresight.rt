@@ -90,7 +90,9 @@ fn has_apart(
     requires few { length conflicts.now ≤ 16 }
     requires width { length (row rows.now a) ≡ length conflicts.now }
     requires a_is { a < length rows.now }
-    ensures { IfOk result (λ apart. IsTrue apart → ((b : ℕ) × IsTrue (has conflicts.now b) × ¬ Marks rows.now b a × ¬ Marks rows.now a b)) }
+    ensures { IfOk result
+        (λ apart. IsTrue apart
+        → ((b : ℕ) × IsTrue (has conflicts.now b) × ¬ Marks rows.now b a × ¬ Marks rows.now a b)) }
 {
     if covers(&rows[a], conflicts) {
         return Ok(false);
@@ -108,7 +110,8 @@ fn has_apart(
     Ok(false)
 }
 
-/// Whether two packets conflict of which neither is before the other, as far as that is found quickly: then the job isn't ordered.
+/// Whether two packets conflict of which neither is before the other, as far as that is found quickly: then the job
+/// isn't ordered.
 pub fn is_apart(alloc: Global, job: &Job, foresight: &Foresight) -> Result<bool, AllocError>
     requires { AreConflicts (plan job.now) foresight.now.conflicts.now }
     ensures { IfOk result (λ apart. IsTrue apart → ¬ Ordered (plan job.now)) }

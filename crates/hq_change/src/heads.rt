@@ -29,8 +29,8 @@ pub fn copied(alloc: Global, heads: &[Head]) -> Result<Vec<Head>, AllocError>
     Ok(copy)
 }
 
-/// Lowers the heads from one number up to another by one level, where they stand at the level and that isn't below the floor. Answers
-/// whether there was one.
+/// Lowers the heads from one number up to another by one level, where they stand at the level and that isn't below
+/// the floor. Answers whether there was one.
 pub fn lower_between(
     heads: &mut [Head],
     floor: &[Head],

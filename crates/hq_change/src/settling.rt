@@ -24,8 +24,8 @@ pub fn tell(watch: &dyn Watch, level: Level, packets: usize, left: usize) {
     watch.settled(done, packets.saturating_mul(LEVELS));
 }
 
-/// Lowers each head at the level of the search, if the job is still ordered then, the last packet's first: many at once where that goes,
-/// half as many where it doesn't. An error leaves a job of which nothing is known.
+/// Lowers each head at the level of the search, if the job is still ordered then, the last packet's first: many at
+/// once where that goes, half as many where it doesn't. An error leaves a job of which nothing is known.
 pub fn settle(
     alloc: Global,
     job: &mut Job,
@@ -37,7 +37,8 @@ pub fn settle(
     requires on { IsOn search.now.floor.now (plan job.old) heads.old.items }
     requires rounds { Fit search.now.level (plan job.old) rounds }
     requires parts { AreParts (plan job.old) search.now.parts.now }
-    ensures settles { IfOk result (λ new. Settles search.now.level search.now.floor.now (plan job.old) (plan job.new) heads.new.items new) }
+    ensures settles { IfOk result
+        (λ new. Settles search.now.level search.now.floor.now (plan job.old) (plan job.new) heads.new.items new) }
     ensures same { OnOk result (SameButHeads job.old job.new) }
 {
     job.valid();

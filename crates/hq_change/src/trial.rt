@@ -74,8 +74,8 @@ fn is_ordered(before: &Before, parts: &Parts, from: usize, to: usize) -> bool
     all_shown(before, parts).is_ok()
 }
 
-/// Whether the job with these rounds is ordered, and the rounds. The conflicts of the packets from one number up to another come first
-/// where they are few.
+/// Whether the job with these rounds is ordered, and the rounds. The conflicts of the packets from one number up to
+/// another come first where they are few.
 pub fn judged(job: &Job, rounds: Rounds, parts: &Parts, from: usize, to: usize) -> (bool, Rounds)
     requires rounds { AreOf (plan job.now) rounds }
     requires parts { AreParts (plan job.now) parts.now }

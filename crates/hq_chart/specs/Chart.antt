@@ -1,5 +1,6 @@
 -- The text of a picture. A unit across is a tenth of an event, so that what happens at event 12 is drawn at 120.
-use Rattle.std.specs.Prelude.{ℕ, zero, suc, ◌+◌, ◌*◌, Bool, if◌then◌else◌, List, [], ◌∷◌, ◌++◌, Option, Some, None, length, codes, slice_get}
+use Rattle.std.specs.Prelude.{ℕ, zero, suc, ◌+◌, ◌*◌, Bool, if◌then◌else◌, List, [], ◌∷◌, ◌++◌, Option, Some, None}
+use Rattle.std.specs.Prelude.{length, codes, slice_get}
 use Rattle.std.specs.Fmt.{decimal}
 use Rattle.hq_job.specs.Value.{JobValue}
 use Rattle.hq_job.specs.declared.rows.Placed.{Placed}
@@ -38,7 +39,9 @@ height_of job copies = agent_line job (agents_drawn job copies)
 -- a packet as it is told of, and where its row lies
 abbrev pub spot_in : ℕ → Placed → Option Queue → Option Spot
 spot_in number placed None = None
-spot_in number placed (Some queue) = Some (record { shown = record { number = number; queue = queue.name; placed = placed }; y = line_of number placed.queue })
+spot_in number placed (Some queue) = Some
+    (record
+    { shown = record { number = number; queue = queue.name; placed = placed }; y = line_of number placed.queue })
 
 abbrev pub spot_at : JobValue → ℕ → Option Placed → Option Spot
 spot_at job number None = None
@@ -152,7 +155,8 @@ agents_text job (suc n) = agents_text job n ++ agent_label job n
 -- what is drawn of events, the first of which has this place
 abbrev pub events_text : JobValue → Bool → List Row → ℕ → List Event → List ℕ
 events_text job copies rows place [] = []
-events_text job copies rows place (e ∷ es) = part_text job (shape_of copies rows place e) ++ events_text job copies (moved rows place e) (place + 1) es
+events_text job copies rows place (e ∷ es) = part_text job (shape_of copies rows place e) ++ events_text job copies
+    (moved rows place e) (place + 1) es
 
 -- the bars of the first packets, up to the end, as far as they aren't complete
 abbrev pub open_text : JobValue → List Row → ℕ → ℕ → List ℕ
@@ -180,11 +184,12 @@ end_text job copies place refused = if refused then refusal_text job copies plac
 
 abbrev pub drawn_text : JobValue → Bool → List Row → List Event → Bool → List ℕ
 drawn_text job copies rows events refused =
-    head_text job copies (length events) ++ rows_text job (length job.packets) ++ agents_text job (agents_drawn job copies) ++ events_text job copies rows 0 events
+    head_text job copies (length events) ++ rows_text job (length job.packets) ++ agents_text job
+    (agents_drawn job copies) ++ events_text job copies rows 0 events
     ++ left_text job (rows_after rows 0 events) (length events)
     ++ end_text job copies (length events) refused ++ codes "</svg>\n"
 
--- The picture of events that happened, those of copies only where these are asked for, with the refusal of the next one behind them where
--- there is one.
+-- The picture of events that happened, those of copies only where these are asked for, with the refusal of the next
+-- one behind them where there is one.
 abbrev pub chart_text : JobValue → Bool → List Event → Bool → List ℕ
 chart_text job copies events refused = drawn_text job copies (rows_of job.packets) events refused

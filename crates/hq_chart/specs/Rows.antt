@@ -1,5 +1,6 @@
 -- What packets do while events happen, and what is drawn of each event.
-use Rattle.std.specs.Prelude.{ℕ, ◌+◌, Bool, true, false, ◌&&◌, ◌==◌, if◌then◌else◌, List, [], ◌∷◌, Option, Some, None, map, slice_get, slice_set}
+use Rattle.std.specs.Prelude.{ℕ, ◌+◌, Bool, true, false, ◌&&◌, ◌==◌, if◌then◌else◌, List, [], ◌∷◌, Option, Some}
+use Rattle.std.specs.Prelude.{None, map, slice_get, slice_set}
 use Rattle.std.specs.List.{position}
 use Rattle.hq_job.specs.declared.rows.Placed.{Placed}
 use Rattle.hq_machine.specs.declared.event.Event.{Event}
@@ -108,7 +109,8 @@ copies_shape_of place (event.DropAgent agent byte) = Some (shape.AgentMark mark.
 abbrev pub copies_shape_if : Bool → ℕ → Event → Option Shape
 copies_shape_if copies place e = if copies then copies_shape_of place e else None
 
--- what is drawn of the event of a place: a mark, or the bar of the phase that it ends; of events of copies only where these are asked for
+-- what is drawn of the event of a place: a mark, or the bar of the phase that it ends; of events of copies only
+-- where these are asked for
 abbrev pub shape_of : Bool → List Row → ℕ → Event → Option Shape
 shape_of copies rows place event.Submit = Some (shape.Submission place)
 shape_of copies rows place (event.Launch queue) = None

@@ -26,7 +26,9 @@ fn write_all<W: Write>(
     events: &[Event],
     is_refused: bool,
 ) -> io::Result<()>
-    ensures { OnOk result (Appends (W.contents writer.old) (W.contents writer.new) (drawn_text job.now copies rows.old events.now is_refused)) }
+    ensures { OnOk result
+        (Appends (W.contents writer.old) (W.contents writer.new)
+        (drawn_text job.now copies rows.old events.now is_refused)) }
 {
     write_head(writer, job, copies, events)?;
     write_rows(writer, job)?;
@@ -37,8 +39,8 @@ fn write_all<W: Write>(
     write_closing(writer)
 }
 
-/// Writes the picture of events on a job, those of copies only where these are asked for, and where another that isn't enabled comes behind
-/// them says so. Nothing is written before the last growth of memory.
+/// Writes the picture of events on a job, those of copies only where these are asked for, and where another that
+/// isn't enabled comes behind them says so. Nothing is written before the last growth of memory.
 ///
 /// # Errors
 ///
@@ -51,7 +53,8 @@ pub fn chart<W: Write>(
     events: &[Event],
     is_refused: bool,
 ) -> Result<(), ChartFault>
-    ensures drawn { OnOk result (Appends (W.contents writer.old) (W.contents writer.new) (chart_text job.now copies events.now is_refused)) }
+    ensures drawn { OnOk result
+        (Appends (W.contents writer.old) (W.contents writer.new) (chart_text job.now copies events.now is_refused)) }
     ensures unwritten { IfErr result (λ e. e ≡ Memory → writer.new ≡ writer.old) }
 {
     let mut rows = rows_of(alloc, job.packets())?;

@@ -1,6 +1,7 @@
 //! Pictures of timelines: what each packet did when, as SVG.
 //!
-//! Each packet has a row, queue by queue. Events lie ten units apart, by their number in the timeline, which is no measure of time.
+//! Each packet has a row, queue by queue. Events lie ten units apart, by their number in the timeline, which is no
+//! measure of time.
 #![tactic(auto)]
 
 mod drawing;

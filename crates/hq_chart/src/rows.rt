@@ -1,7 +1,8 @@
 //! What packets do, event by event.
 
 ghost use Rattle.std.specs.Prelude.{◌≡◌, Some, IfOk};
-ghost use Rattle.hq_chart.specs.Rows.{bar_of, bar_of_stage, copies_shape_if, copies_shape_of, first_ahead, is_ahead, moved, rows_of, shape_of, with_stage};
+ghost use Rattle.hq_chart.specs.Rows.{bar_of, bar_of_stage, copies_shape_if, copies_shape_of, first_ahead};
+ghost use Rattle.hq_chart.specs.Rows.{is_ahead, moved, rows_of, shape_of, with_stage};
 
 use crate::shape::{Mark, Phase, Shape};
 use hq_job::Placed;

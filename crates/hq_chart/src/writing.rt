@@ -2,7 +2,11 @@
 
 ghost use Rattle.std.specs.Prelude.{◌≡◌, ◌+◌, ◌<◌, ◌^◌, OnOk, Some, option_map, slice_get, length, codes};
 ghost use Rattle.std.specs.Io.KnownBytes.{Appends};
-ghost use Rattle.hq_chart.specs.Chart.{agent_label, agent_line, agents_drawn, agent_text, height_of, host_text, outline_text, size_text, legend_text, opening_text, end_line, end_note, end_text, agents_text, bar_text, label_of, label_text, mark_text, left_text, part_text, head_text, phase_word, rows_text, refusal_text, shape_text, events_text};
+ghost use Rattle.hq_chart.specs.Chart.{agent_label, agent_line, agents_drawn, agent_text, height_of, host_text};
+ghost use Rattle.hq_chart.specs.Chart.{outline_text, size_text, legend_text, opening_text, end_line, end_note};
+ghost use Rattle.hq_chart.specs.Chart.{end_text, agents_text, bar_text, label_of, label_text, mark_text, left_text};
+ghost use Rattle.hq_chart.specs.Chart.{part_text, head_text, phase_word, rows_text, refusal_text, shape_text};
+ghost use Rattle.hq_chart.specs.Chart.{events_text};
 ghost use Rattle.hq_chart.specs.Rows.{rows_after};
 
 use crate::rows::{Row, advance, bar_of, shape_of};
@@ -217,7 +221,9 @@ fn write_opening<W: Write>(
     copies: bool,
     events: &[Event],
 ) -> io::Result<()>
-    ensures { OnOk result (Appends (W.contents writer.old) (W.contents writer.new) (opening_text (length events.now + 40) (height_of job.now copies))) }
+    ensures { OnOk result
+        (Appends (W.contents writer.old) (W.contents writer.new)
+        (opening_text (length events.now + 40) (height_of job.now copies))) }
 {
     let opening = Opening(SizeText {
         width: width_of(events),
@@ -233,7 +239,8 @@ pub fn write_head<W: Write>(
     copies: bool,
     events: &[Event],
 ) -> io::Result<()>
-    ensures { OnOk result (Appends (W.contents writer.old) (W.contents writer.new) (head_text job.now copies (length events.now))) }
+    ensures { OnOk result
+        (Appends (W.contents writer.old) (W.contents writer.new) (head_text job.now copies (length events.now))) }
 {
     write_opening(writer, job, copies, events)?;
     write_legend(writer, job.rings())
@@ -273,7 +280,8 @@ fn write_label<W: Write>(writer: &mut W, job: &Job, packet: usize) -> io::Result
 
 /// Writes the rows' labels.
 pub fn write_rows<W: Write>(writer: &mut W, job: &Job) -> io::Result<()>
-    ensures { OnOk result (Appends (W.contents writer.old) (W.contents writer.new) (rows_text job.now (length job.now.packets))) }
+    ensures { OnOk result
+        (Appends (W.contents writer.old) (W.contents writer.new) (rows_text job.now (length job.now.packets))) }
 {
     for packet in 0..job.packets().len() {
         write_label(writer, job, packet)?;
@@ -301,7 +309,8 @@ impl fmt::Display for AgentText {
 /// What is written of an agent's row, if the job has the agent.
 fn agent_of(job: &Job, agent: usize) -> Option<AgentText>
     requires { agent < 2 ^ 32 }
-    ensures { result ≡ option_map (λ name. record { name = name; y = agent_line job.now agent }) (slice_get job.now.agents agent) }
+    ensures { result ≡ option_map (λ name. record { name = name; y = agent_line job.now agent })
+        (slice_get job.now.agents agent) }
 {
     let name = job.agent_names().get(agent)?;
     Some(AgentText {
@@ -323,7 +332,8 @@ fn write_agent<W: Write>(writer: &mut W, job: &Job, agent: usize) -> io::Result<
 
 /// Writes the labels of agents' rows, which are there where copies are asked for.
 pub fn write_agents<W: Write>(writer: &mut W, job: &Job, copies: bool) -> io::Result<()>
-    ensures { OnOk result (Appends (W.contents writer.old) (W.contents writer.new) (agents_text job.now (agents_drawn job.now copies))) }
+    ensures { OnOk result
+        (Appends (W.contents writer.old) (W.contents writer.new) (agents_text job.now (agents_drawn job.now copies))) }
 {
     for agent in 0..agents_drawn(job, copies) {
         write_agent(writer, job, agent)?;
@@ -339,7 +349,8 @@ pub fn write_events<W: Write>(
     rows: &mut [Row],
     events: &[Event],
 ) -> io::Result<()>
-    ensures written { OnOk result (Appends (W.contents writer.old) (W.contents writer.new) (events_text job.now copies rows.old 0 events.now)) }
+    ensures written { OnOk result
+        (Appends (W.contents writer.old) (W.contents writer.new) (events_text job.now copies rows.old 0 events.now)) }
     ensures rows { OnOk result (rows.new ≡ rows_after rows.old 0 events.now) }
 {
     for (place, event) in events.iter().enumerate() {
@@ -357,7 +368,8 @@ pub fn write_open<W: Write>(
     rows: &[Row],
     events: &[Event],
 ) -> io::Result<()>
-    ensures { OnOk result (Appends (W.contents writer.old) (W.contents writer.new) (left_text job.now rows.now (length events.now))) }
+    ensures { OnOk result
+        (Appends (W.contents writer.old) (W.contents writer.new) (left_text job.now rows.now (length events.now))) }
 {
     let end = events.len();
     for packet in 0..rows.len() {
@@ -374,7 +386,9 @@ fn write_end_line<W: Write>(
     copies: bool,
     events: &[Event],
 ) -> io::Result<()>
-    ensures { OnOk result (Appends (W.contents writer.old) (W.contents writer.new) (end_line (length events.now) (height_of job.now copies))) }
+    ensures { OnOk result
+        (Appends (W.contents writer.old) (W.contents writer.new)
+        (end_line (length events.now) (height_of job.now copies))) }
 {
     let place = events.len();
     let height = height_of(job, copies);
@@ -412,7 +426,8 @@ fn write_refusal<W: Write>(
     copies: bool,
     events: &[Event],
 ) -> io::Result<()>
-    ensures { OnOk result (Appends (W.contents writer.old) (W.contents writer.new) (refusal_text job.now copies (length events.now))) }
+    ensures { OnOk result
+        (Appends (W.contents writer.old) (W.contents writer.new) (refusal_text job.now copies (length events.now))) }
 {
     write_end_line(writer, job, copies, events)?;
     write_end_note(writer, events)
@@ -426,7 +441,9 @@ pub fn write_end<W: Write>(
     events: &[Event],
     is_refused: bool,
 ) -> io::Result<()>
-    ensures { OnOk result (Appends (W.contents writer.old) (W.contents writer.new) (end_text job.now copies (length events.now) is_refused)) }
+    ensures { OnOk result
+        (Appends (W.contents writer.old) (W.contents writer.new)
+        (end_text job.now copies (length events.now) is_refused)) }
 {
     if is_refused {
         write_refusal(writer, job, copies, events)

@@ -128,8 +128,8 @@ fn say_heads(rt: &HostRuntime, changed: &Changed) -> Counts {
     counts
 }
 
-/// Says which heads were changed; where the job goes without what it doesn't need, how much that is. Where standard error fails, nothing
-/// is said.
+/// Says which heads were changed; where the job goes without what it doesn't need, how much that is. Where standard
+/// error fails, nothing is said.
 pub fn say_changes(rt: &HostRuntime, changed: &Changed, aim: Aim) {
     let counts = say_heads(rt, changed);
     if aim == Aim::Trim {
@@ -137,7 +137,8 @@ pub fn say_changes(rt: &HostRuntime, changed: &Changed, aim: Aim) {
     }
 }
 
-/// Says that nothing mends a job, where it is to be mended and a conflict stays. Where standard error fails, nothing is said.
+/// Says that nothing mends a job, where it is to be mended and a conflict stays. Where standard error fails,
+/// nothing is said.
 pub fn say_unmended(rt: &HostRuntime, status: Status, aim: Aim) {
     if aim == Aim::Fix && status == Status::Conflict {
         let _ = eprintln!(rt; "hsaq: {UNFIXABLE}");

@@ -243,7 +243,8 @@ pub fn explain(rt: &HostRuntime, status: Status, answer: &str) {
     };
 }
 
-/// Says beside an explanation, which says all else itself, what is wrong with the words or the job. Where standard error fails, nothing is said.
+/// Says beside an explanation, which says all else itself, what is wrong with the words or the job. Where standard
+/// error fails, nothing is said.
 pub fn explain_explained(rt: &HostRuntime, status: Status, answer: &str) {
     match status {
         Status::Words => {
@@ -321,7 +322,8 @@ impl<'a> fmt::Display for Difference<'a> {
     }
 }
 
-/// Says how two runs of a job differ; or, where none were found, what its conflict is. Where standard error fails, nothing is said.
+/// Says how two runs of a job differ; or, where none were found, what its conflict is. Where standard error fails,
+/// nothing is said.
 pub fn explain_witness(rt: &HostRuntime, first: &str, second: &str) {
     let _ = match Difference::of_line(second) {
         Some(difference) => eprintln!(rt; "hsaq: {difference}"),

@@ -318,7 +318,8 @@ fn answer_on_stdout(
     }
 }
 
-/// What `clap` says of words: a fault on standard error; the help or the version, which is asked for, on standard output.
+/// What `clap` says of words: a fault on standard error; the help or the version, which is asked for, on standard
+/// output.
 fn say_words(rt: &HostRuntime, error: &clap::Error) -> Status {
     match (error.print(rt), error.use_stderr()) {
         (Err(_), _) => Status::File,

@@ -27,7 +27,8 @@ impl Write for Output {
     }
 }
 
-/// The file of a path, made or emptied. Standard output is taken as it is: as a file of its own it would be written from its start.
+/// The file of a path, made or emptied. Standard output is taken as it is: as a file of its own it would be written
+/// from its start.
 pub fn create(rt: &HostRuntime, path: &str) -> io::Result<Output> {
     if path == "/dev/stdout" {
         return Ok(Output::Standard(rt.stdout()));

@@ -12,8 +12,8 @@ const RUN_PATIENCE: u64 = 10;
 /// For how many tenths of a second a change says nothing.
 const CHANGE_PATIENCE: u64 = 20;
 
-/// A line that is written again and again, at most ten times a second, where standard error is a terminal and the work takes longer than
-/// one is patient for.
+/// A line that is written again and again, at most ten times a second, where standard error is a terminal and the
+/// work takes longer than one is patient for.
 #[derive(Drop)]
 struct Line<'a> {
     rt: &'a HostRuntime,

@@ -1,6 +1,8 @@
--- Memory, the copies that agents hold of it, those that lanes hold, and the one change that each call makes. A lane is a
--- packet's; it stands on its queue's agent. This project's own.
-use Rattle.std.specs.Prelude.{◌≡◌, ◌≢◌, ◌⊎◌, ℕ, zero, suc, not, ◌+◌, ◌-◌, ◌<◌, ◌≤◌, Bool, true, false, List, [], ◌∷◌, length, take, drop, map, ◌++◌, replicate, slice_index, slice_index_or, All, Option, Some, None, set, if◌then◌else◌, refl}
+-- Memory, the copies that agents hold of it, those that lanes hold, and the one change that each call makes. A lane
+-- is a packet's; it stands on its queue's agent. This project's own.
+use Rattle.std.specs.Prelude.{◌≡◌, ◌≢◌, ◌⊎◌, ℕ, zero, suc, not, ◌+◌, ◌-◌, ◌<◌, ◌≤◌, Bool, true, false, List, []}
+use Rattle.std.specs.Prelude.{◌∷◌, length, take, drop, map, ◌++◌, replicate, slice_index, slice_index_or, All}
+use Rattle.std.specs.Prelude.{Option, Some, None, set, if◌then◌else◌, refl}
 use Rattle.std.specs.Bool.{beq}
 use Rattle.std.specs.Coded.{Coded, code_by, coded×, coded_ℕ, coded_bool, coded_list}
 use Rattle.std.specs.FinMap as finite
@@ -12,7 +14,8 @@ use Rattle.hq_model.specs.View.{Held, copies_of}
 use Rattle.hq_copies.specs.declared.span.Span.{Span}
 use Rattle.hq_copies.specs.Spans.{AreInside}
 
--- What contracts see: the bytes of memory, the map of each agent and of each lane from bytes to copies, and each lane's agent.
+-- What contracts see: the bytes of memory, the map of each agent and of each lane from bytes to copies, and each
+-- lane's agent.
 pub record CopiesValue : Type 0 where
   pub memory : List ℕ
   pub agents : List Held
@@ -20,7 +23,8 @@ pub record CopiesValue : Type 0 where
   pub lane_agents : List ℕ
 
 -- Each byte's number is small, each lane has an agent that is there, and lanes that hold bytes are inside the spans.
-pub record IsCopies (memory : List ℕ) (agents lanes : List Held) (lane_agents : List ℕ) (holding marked : Span) : Type 0 where
+pub record IsCopies (memory : List ℕ) (agents lanes : List Held) (lane_agents : List ℕ)
+    (holding marked : Span) : Type 0 where
   pub bytes : length memory ≤ 65536
   pub lanes_agree : length lanes ≡ length lane_agents
   pub agents_there : All (λ a. a < length agents) lane_agents
@@ -59,7 +63,13 @@ IsAgentByte c a b = (a < length c.agents) × (b < length c.memory)
 
 abbrev pub opened : List ℕ → ℕ → List ℕ → CopiesValue
 opened memory agents lane_agents =
-    record { memory = memory; agents = replicate agents finite.empty; lanes = replicate (length lane_agents) finite.empty; lane_agents = lane_agents }
+    record {
+      memory = memory;
+      agents = replicate agents finite.empty;
+      lanes = replicate
+          (length lane_agents) finite.empty;
+      lane_agents = lane_agents;
+    }
 
 abbrev pub stored : CopiesValue → ℕ → ℕ → ℕ → CopiesValue
 stored c p b value = record c { lanes = with_copy c.lanes p b (a_copy value true) }
@@ -72,15 +82,26 @@ stored_run c p b (value ∷ values) = stored_run (stored c p b value) p (b + 1) 
 -- The lane's dirty byte is written into its agent's map, dirty there, and stays in the lane, clean.
 abbrev pub lane_pushed : CopiesValue → ℕ → ℕ → ℕ → CopiesValue
 lane_pushed c p b value =
-    record c { lanes = with_copy c.lanes p b (a_copy value false); agents = with_copy c.agents (slice_index c.lane_agents p) b (a_copy value true) }
+    record c {
+      lanes = with_copy c.lanes p b (a_copy value false);
+      agents = with_copy c.agents
+          (slice_index c.lane_agents p) b (a_copy value true);
+    }
 
 -- The agent's dirty byte is written into memory, and stays with the agent, clean.
 abbrev pub agent_pushed : CopiesValue → ℕ → ℕ → ℕ → CopiesValue
-agent_pushed c a b value = record c { agents = with_copy c.agents a b (a_copy value false); memory = set c.memory b value }
+agent_pushed c a b value = record c {
+  agents = with_copy c.agents a b
+      (a_copy value false);
+  memory = set c.memory b value;
+}
 
 -- a clean copy of what is seen below
 abbrev pub lane_filled : CopiesValue → ℕ → ℕ → CopiesValue
-lane_filled c p b = record c { lanes = with_copy c.lanes p b (a_copy (agent_byte c (slice_index c.lane_agents p) b) false) }
+lane_filled c p b = record c {
+  lanes = with_copy c.lanes p b
+      (a_copy (agent_byte c (slice_index c.lane_agents p) b) false);
+}
 
 abbrev pub agent_filled : CopiesValue → ℕ → ℕ → CopiesValue
 agent_filled c a b = record c { agents = with_copy c.agents a b (a_copy (slice_index c.memory b) false) }
@@ -99,8 +120,8 @@ dirty_only m = finite.retain_keys m (λ b. is_dirty (finite.get m b))
 abbrev pub dirty_within : ℕ → ℕ → List Held → List Held
 dirty_within start end maps = take start maps ++ map dirty_only (drop start (take end maps)) ++ drop end maps
 
--- An acquire fence: of scope agent or system it drops the clean copies of the lanes from start on and before end, of scope
--- system also those of the agent. Dirty copies stay.
+-- An acquire fence: of scope agent or system it drops the clean copies of the lanes from start on and before end,
+-- of scope system also those of the agent. Dirty copies stay.
 abbrev pub fenced : CopiesValue → ℕ → ℕ → ℕ → Scope → CopiesValue
 fenced c start end a fence =
     record c {
@@ -145,15 +166,18 @@ pub record AgentReleased (old : CopiesValue) (a : ℕ) (new : CopiesValue) : Typ
   pub lane_agents : new.lane_agents ≡ old.lane_agents
   pub agent_count : length new.agents ≡ length old.agents
   pub byte_count : length new.memory ≡ length old.memory
-  pub memory : (b : ℕ) → b < length old.memory → slice_index new.memory b ≡ written (copies_of old.agents a b) (slice_index old.memory b)
+  pub memory : (b : ℕ) → b < length old.memory
+      → slice_index new.memory b ≡ written (copies_of old.agents a b) (slice_index old.memory b)
   pub agent : (b : ℕ) → copies_of new.agents a b ≡ cleaned (copies_of old.agents a b)
   pub others : (q b : ℕ) → q ≢ a → copies_of new.agents q b ≡ copies_of old.agents q b
 
--- What a release fence writes back: by scope agent or system the dirty bytes of the lanes, by system then those of the agent.
+-- What a release fence writes back: by scope agent or system the dirty bytes of the lanes, by system then those of
+-- the agent.
 abbrev pub Released : CopiesValue → ℕ → ℕ → ℕ → Scope → CopiesValue → Type 0
 Released old start end a scope.None new = new ≡ old
 Released old start end a scope.Agent new = LanesReleased old start end a new
-Released old start end a scope.System new = (mid : CopiesValue) × LanesReleased old start end a mid × AgentReleased mid a new
+Released old start end a scope.System new = (mid : CopiesValue) × LanesReleased old start end a mid
+    × AgentReleased mid a new
 
 -- ---- what is asked
 
@@ -163,10 +187,11 @@ IsClean copy = (value : ℕ) × (copy ≡ Some (a_copy value false))
 abbrev pub IsDirty : Option Copy → Type 0
 IsDirty copy = (value : ℕ) × (copy ≡ Some (a_copy value true))
 
--- What a release fence waits for: by scope agent or system no lane from start on and before end is dirty, by system nor is the
--- agent.
+-- What a release fence waits for: by scope agent or system no lane from start on and before end is dirty, by system
+-- nor is the agent.
 pub record IsReleased (c : CopiesValue) (start end a : ℕ) (fence : Scope) : Type 0 where
-  pub lanes : reaches fence scope.Agent ≡ true → (l b : ℕ) → start ≤ l → l < end → is_dirty (copies_of c.lanes l b) ≡ false
+  pub lanes : reaches fence scope.Agent ≡ true → (l b : ℕ) → start ≤ l → l < end
+      → is_dirty (copies_of c.lanes l b) ≡ false
   pub agent : reaches fence scope.System ≡ true → (b : ℕ) → is_dirty (copies_of c.agents a b) ≡ false
 
 -- b is the least dirty byte.
@@ -183,10 +208,12 @@ IsAbsent copy = copy ≡ None
 -- ---- what a push does: of a dirty byte
 
 abbrev pub PushedLane : CopiesValue → ℕ → ℕ → CopiesValue → Type 0
-PushedLane old p b new = (value : ℕ) × (copies_of old.lanes p b ≡ Some (a_copy value true)) × (new ≡ lane_pushed old p b value)
+PushedLane old p b new = (value : ℕ) × (copies_of old.lanes p b ≡ Some (a_copy value true))
+    × (new ≡ lane_pushed old p b value)
 
 abbrev pub PushedAgent : CopiesValue → ℕ → ℕ → CopiesValue → Type 0
-PushedAgent old a b new = (value : ℕ) × (copies_of old.agents a b ≡ Some (a_copy value true)) × (new ≡ agent_pushed old a b value)
+PushedAgent old a b new = (value : ℕ) × (copies_of old.agents a b ≡ Some (a_copy value true))
+    × (new ≡ agent_pushed old a b value)
 
 -- the bytes that are seen through a lane from b on, so many of them
 abbrev pub lane_bytes : CopiesValue → ℕ → ℕ → ℕ → List ℕ
@@ -195,7 +222,8 @@ lane_bytes c p b count = listed count (λ i. lane_byte c p (b + i))
 -- ---- how the values are told apart
 
 abbrev pub copy_code : Coded Copy
-copy_code = code_by (ℕ × Bool) (coded× coded_ℕ coded_bool) (λ c. (c.value, c.dirty)) (λ t. record { value = t.0; dirty = t.1 }) (λ _. refl)
+copy_code = code_by (ℕ × Bool) (coded× coded_ℕ coded_bool) (λ c. (c.value, c.dirty))
+    (λ t. record { value = t.0; dirty = t.1 }) (λ _. refl)
 
 abbrev pub held_code : Coded Held
 held_code = finite.code coded_ℕ copy_code
@@ -225,6 +253,7 @@ abbrev pub begins_run : Held → ℕ → Bool
 begins_run m zero = begins (finite.get m zero) None
 begins_run m (suc b) = begins (finite.get m (suc b)) (finite.get m b)
 
--- So many runs do the bytes of the map stand in: so many of them begin one, below any number from which on nothing is held.
+-- So many runs do the bytes of the map stand in: so many of them begin one, below any number from which on nothing
+-- is held.
 abbrev pub IsRunCount : Held → ℕ → Type 0
 IsRunCount m count = (end : ℕ) → ((b : ℕ) → end ≤ b → finite.get m b ≡ None) → count ≡ count_below (begins_run m) end

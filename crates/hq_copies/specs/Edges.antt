@@ -1,6 +1,7 @@
--- Sets of numbers as rising lists of edges, and bytes by their numbers. An edge is a number at which the set begins or ends.
--- This project's own.
-use Rattle.std.specs.Prelude.{◌≡◌, ℕ, zero, suc, ◌+◌, ◌-◌, ◌<◌, ◌≤◌, Bool, true, false, not, List, [], ◌∷◌, length, nat_lt, ◌==◌, slice_index, if◌then◌else◌, Option, Some, None, max}
+-- Sets of numbers as rising lists of edges, and bytes by their numbers. An edge is a number at which the set begins
+-- or ends. This project's own.
+use Rattle.std.specs.Prelude.{◌≡◌, ℕ, zero, suc, ◌+◌, ◌-◌, ◌<◌, ◌≤◌, Bool, true, false, not, List, [], ◌∷◌, length}
+use Rattle.std.specs.Prelude.{nat_lt, ◌==◌, slice_index, if◌then◌else◌, Option, Some, None, max}
 use Rattle.std.specs.FinMap as finite
 use Rattle.hq_model.specs.View.{Held}
 use Rattle.hq_model.specs.Machine.{Copy}
@@ -38,10 +39,12 @@ pub record Covered (edges : List ℕ) (start end : ℕ) (new : List ℕ) : Type 
   pub within : (n : ℕ) → start ≤ n → n < end → has new n ≡ true
   pub past : (n : ℕ) → end ≤ n → has new n ≡ has edges n
 
--- how many numbers below n are in the set, by its edges from one of them on; inside says whether the numbers before are in it
+-- how many numbers below n are in the set, by its edges from one of them on; inside says whether the numbers before
+-- are in it
 abbrev pub spans : Bool → ℕ → List ℕ → ℕ → ℕ
 spans inside from [] n = if inside then n - from else 0
-spans inside from (e ∷ edges) n = if nat_lt n e then (if inside then n - from else 0) else (if inside then e - from else 0) + spans (not inside) e edges n
+spans inside from (e ∷ edges) n = if nat_lt n e then (if inside then n - from else 0) else
+    (if inside then e - from else 0) + spans (not inside) e edges n
 
 -- The byte of a number in the set: the bytes stand in the order of their numbers.
 abbrev pub byte_at : (ℕ → Bool) → List ℕ → ℕ → Option ℕ
@@ -80,7 +83,9 @@ gathered f (suc n) = with_one n (f n) (gathered f n)
 
 -- the copies that two sets of bytes are, the lower ones and the upper ones with their mark
 abbrev pub copy_at : List ℕ → List ℕ → List ℕ → List ℕ → Bool → ℕ → Option Copy
-copy_at lower lower_bytes upper upper_bytes dirty n = layered dirty (byte_at (has upper) upper_bytes n) (byte_at (has lower) lower_bytes n)
+copy_at lower lower_bytes upper upper_bytes dirty n = layered dirty (byte_at (has upper) upper_bytes n)
+    (byte_at (has lower) lower_bytes n)
 
 abbrev pub level : List ℕ → List ℕ → List ℕ → List ℕ → Bool → Held
-level lower lower_bytes upper upper_bytes dirty = gathered (copy_at lower lower_bytes upper upper_bytes dirty) (max (ceiling lower) (ceiling upper))
+level lower lower_bytes upper upper_bytes dirty = gathered (copy_at lower lower_bytes upper upper_bytes dirty)
+    (max (ceiling lower) (ceiling upper))

@@ -1,11 +1,16 @@
 //! Memory and the maps of copies.
 
-ghost use Rattle.std.specs.Prelude.{◌≡◌, is_some, ◌↔◌, ◌<◌, ◌≤◌, ◌+◌, ℕ, ◌-◌, Some, length, All, IsTrue, IfOk, IfErr, OnOk, OnErr, MatchOption, slice_index, ◌⊎◌, replicate, false};
+ghost use Rattle.std.specs.Prelude.{◌≡◌, is_some, ◌↔◌, ◌<◌, ◌≤◌, ◌+◌, ℕ, ◌-◌, Some, length, All, IsTrue, IfOk};
+ghost use Rattle.std.specs.Prelude.{IfErr, OnOk, OnErr, MatchOption, slice_index, ◌⊎◌, replicate, false};
 ghost use Rattle.std.specs.FinMap as finite;
 ghost use Rattle.hq_packet.specs.Scopes.{reaches};
 ghost use Rattle.hq_model.specs.Machine.{is_dirty};
 ghost use Rattle.hq_model.specs.View.{copies_of};
-ghost use Rattle.hq_copies.specs.Copies.{opened, stored, lane_filled, agent_filled, lane_dropped, agent_dropped, fenced, lane_byte, lane_bytes, IsLaneByte, IsAgentByte, IsDirty, IsClean, IsReleased, IsFirstDirty, NoneDirty, held, PushedLane, PushedAgent, IsAbsent, agent_byte, dirty_within, IsRunCount, LanesReleased, AgentReleased, Released, fed, cleaned, stored_run};
+ghost use Rattle.hq_copies.specs.Copies.{opened, stored, lane_filled, agent_filled, lane_dropped, agent_dropped};
+ghost use Rattle.hq_copies.specs.Copies.{fenced, lane_byte, lane_bytes, IsLaneByte, IsAgentByte, IsDirty, IsClean};
+ghost use Rattle.hq_copies.specs.Copies.{IsReleased, IsFirstDirty, NoneDirty, held, PushedLane, PushedAgent};
+ghost use Rattle.hq_copies.specs.Copies.{IsAbsent, agent_byte, dirty_within, IsRunCount, LanesReleased};
+ghost use Rattle.hq_copies.specs.Copies.{AgentReleased, Released, fed, cleaned, stored_run};
 
 use crate::fault::CopiesFault;
 use crate::level::Level;
@@ -35,7 +40,8 @@ impl Model for Copies {
 
     ghost coded = { copies_code };
 
-    ghost view = { λ c. record { memory = c.memory.items; agents = c.agents.items; lanes = c.lanes.items; lane_agents = c.lane_agents.items } };
+    ghost view = { λ c. record
+        { memory = c.memory.items; agents = c.agents.items; lanes = c.lanes.items; lane_agents = c.lane_agents.items } };
 
     ghost invariant = { λ c. IsCopies c.memory.items c.agents.items c.lanes.items c.lane_agents.items c.holding c.marked };
 }
@@ -186,8 +192,11 @@ impl Copies {
         requires { IsLaneByte self.old lane byte }
         ensures ok { OnOk result (PushedLane self.old lane byte self.new) }
         ensures err { OnErr result (self.new ≡ self.old) }
-        ensures not_dirty { IfErr result (λ e. e ≡ CopiesFault.NotDirty → IsDirty (copies_of self.old.lanes lane byte) → ⊥) }
-        ensures faults { IfErr result (λ e. (e ≡ CopiesFault.NotDirty) ⊎ ((e ≡ CopiesFault.Memory) × IsDirty (copies_of self.old.lanes lane byte))) }
+        ensures not_dirty { IfErr result
+            (λ e. e ≡ CopiesFault.NotDirty → IsDirty (copies_of self.old.lanes lane byte) → ⊥) }
+        ensures faults { IfErr result
+            (λ e. (e ≡ CopiesFault.NotDirty)
+            ⊎ ((e ≡ CopiesFault.Memory) × IsDirty (copies_of self.old.lanes lane byte))) }
     {
         let number = self.number(byte);
         let Some(value) = self.lanes[lane].dirty_byte(number) else {
@@ -207,8 +216,11 @@ impl Copies {
         requires { IsAgentByte self.old agent byte }
         ensures ok { OnOk result (PushedAgent self.old agent byte self.new) }
         ensures err { OnErr result (self.new ≡ self.old) }
-        ensures not_dirty { IfErr result (λ e. e ≡ CopiesFault.NotDirty → IsDirty (copies_of self.old.agents agent byte) → ⊥) }
-        ensures faults { IfErr result (λ e. (e ≡ CopiesFault.NotDirty) ⊎ ((e ≡ CopiesFault.Memory) × IsDirty (copies_of self.old.agents agent byte))) }
+        ensures not_dirty { IfErr result
+            (λ e. e ≡ CopiesFault.NotDirty → IsDirty (copies_of self.old.agents agent byte) → ⊥) }
+        ensures faults { IfErr result
+            (λ e. (e ≡ CopiesFault.NotDirty)
+            ⊎ ((e ≡ CopiesFault.Memory) × IsDirty (copies_of self.old.agents agent byte))) }
     {
         let number = self.number(byte);
         let Some(value) = self.agents[agent].dirty_byte(number) else {
@@ -222,10 +234,14 @@ impl Copies {
     /// Gives a lane a clean copy of a byte that it doesn't hold, as its agent sees it.
     pub fn fill_lane(&mut self, lane: usize, byte: usize) -> Result<(), CopiesFault>
         requires { IsLaneByte self.old lane byte }
-        ensures ok { OnOk result (IsAbsent (copies_of self.old.lanes lane byte) × (self.new ≡ lane_filled self.old lane byte)) }
+        ensures ok { OnOk result
+            (IsAbsent (copies_of self.old.lanes lane byte) × (self.new ≡ lane_filled self.old lane byte)) }
         ensures err { OnErr result (self.new ≡ self.old) }
-        ensures present { IfErr result (λ e. e ≡ CopiesFault.Present → IsAbsent (copies_of self.old.lanes lane byte) → ⊥) }
-        ensures faults { IfErr result (λ e. (e ≡ CopiesFault.Present) ⊎ ((e ≡ CopiesFault.Memory) × IsAbsent (copies_of self.old.lanes lane byte))) }
+        ensures present { IfErr result
+            (λ e. e ≡ CopiesFault.Present → IsAbsent (copies_of self.old.lanes lane byte) → ⊥) }
+        ensures faults { IfErr result
+            (λ e. (e ≡ CopiesFault.Present)
+            ⊎ ((e ≡ CopiesFault.Memory) × IsAbsent (copies_of self.old.lanes lane byte))) }
     {
         let number = self.number(byte);
         if !self.lanes[lane].is_absent(number) {
@@ -242,10 +258,14 @@ impl Copies {
     /// Gives an agent a clean copy of a byte of memory that it doesn't hold.
     pub fn fill_agent(&mut self, agent: usize, byte: usize) -> Result<(), CopiesFault>
         requires { IsAgentByte self.old agent byte }
-        ensures ok { OnOk result (IsAbsent (copies_of self.old.agents agent byte) × (self.new ≡ agent_filled self.old agent byte)) }
+        ensures ok { OnOk result
+            (IsAbsent (copies_of self.old.agents agent byte) × (self.new ≡ agent_filled self.old agent byte)) }
         ensures err { OnErr result (self.new ≡ self.old) }
-        ensures present { IfErr result (λ e. e ≡ CopiesFault.Present → IsAbsent (copies_of self.old.agents agent byte) → ⊥) }
-        ensures faults { IfErr result (λ e. (e ≡ CopiesFault.Present) ⊎ ((e ≡ CopiesFault.Memory) × IsAbsent (copies_of self.old.agents agent byte))) }
+        ensures present { IfErr result
+            (λ e. e ≡ CopiesFault.Present → IsAbsent (copies_of self.old.agents agent byte) → ⊥) }
+        ensures faults { IfErr result
+            (λ e. (e ≡ CopiesFault.Present)
+            ⊎ ((e ≡ CopiesFault.Memory) × IsAbsent (copies_of self.old.agents agent byte))) }
     {
         let number = self.number(byte);
         if !self.agents[agent].is_absent(number) {
@@ -259,10 +279,14 @@ impl Copies {
     /// Lets a lane's clean copy of a byte go.
     pub fn drop_lane(&mut self, lane: usize, byte: usize) -> Result<(), CopiesFault>
         requires { IsLaneByte self.old lane byte }
-        ensures ok { OnOk result (IsClean (copies_of self.old.lanes lane byte) × (self.new ≡ lane_dropped self.old lane byte)) }
+        ensures ok { OnOk result
+            (IsClean (copies_of self.old.lanes lane byte) × (self.new ≡ lane_dropped self.old lane byte)) }
         ensures err { OnErr result (self.new ≡ self.old) }
-        ensures not_clean { IfErr result (λ e. e ≡ CopiesFault.NotClean → IsClean (copies_of self.old.lanes lane byte) → ⊥) }
-        ensures faults { IfErr result (λ e. (e ≡ CopiesFault.NotClean) ⊎ ((e ≡ CopiesFault.Memory) × IsClean (copies_of self.old.lanes lane byte))) }
+        ensures not_clean { IfErr result
+            (λ e. e ≡ CopiesFault.NotClean → IsClean (copies_of self.old.lanes lane byte) → ⊥) }
+        ensures faults { IfErr result
+            (λ e. (e ≡ CopiesFault.NotClean)
+            ⊎ ((e ≡ CopiesFault.Memory) × IsClean (copies_of self.old.lanes lane byte))) }
     {
         let number = self.number(byte);
         let level = &mut self.lanes[lane];
@@ -278,10 +302,14 @@ impl Copies {
     /// Lets an agent's clean copy of a byte go.
     pub fn drop_agent(&mut self, agent: usize, byte: usize) -> Result<(), CopiesFault>
         requires { IsAgentByte self.old agent byte }
-        ensures ok { OnOk result (IsClean (copies_of self.old.agents agent byte) × (self.new ≡ agent_dropped self.old agent byte)) }
+        ensures ok { OnOk result
+            (IsClean (copies_of self.old.agents agent byte) × (self.new ≡ agent_dropped self.old agent byte)) }
         ensures err { OnErr result (self.new ≡ self.old) }
-        ensures not_clean { IfErr result (λ e. e ≡ CopiesFault.NotClean → IsClean (copies_of self.old.agents agent byte) → ⊥) }
-        ensures faults { IfErr result (λ e. (e ≡ CopiesFault.NotClean) ⊎ ((e ≡ CopiesFault.Memory) × IsClean (copies_of self.old.agents agent byte))) }
+        ensures not_clean { IfErr result
+            (λ e. e ≡ CopiesFault.NotClean → IsClean (copies_of self.old.agents agent byte) → ⊥) }
+        ensures faults { IfErr result
+            (λ e. (e ≡ CopiesFault.NotClean)
+            ⊎ ((e ≡ CopiesFault.Memory) × IsClean (copies_of self.old.agents agent byte))) }
     {
         let number = self.number(byte);
         let below = &mut self.agents[agent];
@@ -389,7 +417,8 @@ impl Copies {
     /// The first dirty byte of a lane.
     pub fn first_dirty_lane(&self, lane: usize) -> Option<u32>
         requires { lane < length self.now.lanes }
-        ensures { MatchOption result (NoneDirty (held self.now.lanes lane)) (λ b. IsFirstDirty (held self.now.lanes lane) b) }
+        ensures { MatchOption result (NoneDirty (held self.now.lanes lane))
+            (λ b. IsFirstDirty (held self.now.lanes lane) b) }
     {
         self.lanes[lane].first_dirty()
     }
@@ -397,7 +426,8 @@ impl Copies {
     /// The first dirty byte of an agent.
     pub fn first_dirty_agent(&self, agent: usize) -> Option<u32>
         requires { agent < length self.now.agents }
-        ensures { MatchOption result (NoneDirty (held self.now.agents agent)) (λ b. IsFirstDirty (held self.now.agents agent) b) }
+        ensures { MatchOption result (NoneDirty (held self.now.agents agent))
+            (λ b. IsFirstDirty (held self.now.agents agent) b) }
     {
         self.agents[agent].first_dirty()
     }
@@ -495,7 +525,8 @@ fn have_no_dirty(levels: &[Level], start: usize, end: usize) -> bool
 fn feed_each(lanes: &[Level], start: usize, end: usize, below: &mut Level) -> Result<(), AllocError>
     requires rising { start ≤ end }
     requires within { end ≤ length lanes.now }
-    ensures { OnOk result ((b : ℕ) → finite.get below.new b ≡ fed lanes.now start (end - start) b (finite.get below.old b)) }
+    ensures { OnOk result
+        ((b : ℕ) → finite.get below.new b ≡ fed lanes.now start (end - start) b (finite.get below.old b)) }
 {
     for i in start..end {
         lanes[i].feed(below)?;

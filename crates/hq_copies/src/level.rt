@@ -1,9 +1,11 @@
 //! What one agent or one lane holds.
 
-ghost use Rattle.std.specs.Prelude.{◌≡◌, is_some, ℕ, ◌+◌, ◌<◌, ◌≤◌, ◌^◌, ◌↔◌, if◌then◌else◌, true, false, Some, None, IsTrue, IfOk, OnOk, OnErr, MatchOption, length, slice_index};
+ghost use Rattle.std.specs.Prelude.{◌≡◌, is_some, ℕ, ◌+◌, ◌<◌, ◌≤◌, ◌^◌, ◌↔◌, if◌then◌else◌, true, false, Some};
+ghost use Rattle.std.specs.Prelude.{None, IsTrue, IfOk, OnOk, OnErr, MatchOption, length, slice_index};
 ghost use Rattle.std.specs.FinMap as finite;
 ghost use Rattle.hq_model.specs.Machine.{value_or};
-ghost use Rattle.hq_copies.specs.Copies.{a_copy, dirty_only, IsClean, IsDirty, IsAbsent, NoneDirty, IsFirstDirty, IsRunCount, begins_run, cleaned, taken, written};
+ghost use Rattle.hq_copies.specs.Copies.{a_copy, dirty_only, IsClean, IsDirty, IsAbsent, NoneDirty, IsFirstDirty};
+ghost use Rattle.hq_copies.specs.Copies.{IsRunCount, begins_run, cleaned, taken, written};
 ghost use Rattle.hq_copies.specs.Edges.{layered};
 ghost use Rattle.hq_copies.specs.Marks.{AreRuns, byte_of};
 ghost use Rattle.hq_copies.specs.Overlays.{run_at, dirty_over, has_mark};
@@ -60,7 +62,8 @@ impl Level {
 
     /// What is held of a number.
     pub fn get(&self, number: u32) -> Option<Byte>
-        ensures { MatchOption result (finite.get self.now number ≡ None) (λ b. finite.get self.now number ≡ Some (a_copy b.value b.dirty)) }
+        ensures { MatchOption result (finite.get self.now number ≡ None)
+            (λ b. finite.get self.now number ≡ Some (a_copy b.value b.dirty)) }
     {
         match self.upper.get(number) {
             Some(value) => Some(Byte {
@@ -79,7 +82,8 @@ impl Level {
 
     /// The dirty byte that is held of a number.
     pub fn dirty_byte(&self, number: u32) -> Option<u8>
-        ensures { MatchOption result (IsDirty (finite.get self.now number) → ⊥) (λ b. finite.get self.now number ≡ Some (a_copy b true)) }
+        ensures { MatchOption result (IsDirty (finite.get self.now number) → ⊥)
+            (λ b. finite.get self.now number ≡ Some (a_copy b true)) }
     {
         let byte = self.get(number)?;
         if byte.dirty { Some(byte.value) } else { None }
@@ -145,7 +149,8 @@ impl Level {
     /// Holds the bytes of the numbers from start on as dirty ones: all of them or none.
     pub fn set_run(&mut self, start: u32, bytes: &[u8]) -> Result<(), AllocError>
         requires { start + length bytes.now < 2 ^ 32 }
-        ensures ok { OnOk result ((n : ℕ) → finite.get self.new n ≡ dirty_over (run_at start bytes.now n) (finite.get self.old n)) }
+        ensures ok { OnOk result
+            ((n : ℕ) → finite.get self.new n ≡ dirty_over (run_at start bytes.now n) (finite.get self.old n)) }
         ensures err { OnErr result (self.new ≡ self.old) }
     {
         settle(&mut self.lower, &mut self.upper, self.dirty)?;
@@ -216,7 +221,8 @@ impl Level {
 
     /// The level below takes all dirty bytes in.
     pub fn feed(&self, below: &mut Level) -> Result<(), AllocError>
-        ensures { OnOk result ((n : ℕ) → finite.get below.new n ≡ taken (finite.get self.now n) (finite.get below.old n)) }
+        ensures { OnOk result
+            ((n : ℕ) → finite.get below.new n ≡ taken (finite.get self.now n) (finite.get below.old n)) }
     {
         if !self.dirty {
             return Ok(());
@@ -231,7 +237,8 @@ impl Level {
 
     /// Writes all dirty bytes into memory, where it has so many bytes.
     pub fn write_to(&self, memory: &mut [u8])
-        ensures { (n : ℕ) → n < length memory.old → slice_index memory.new n ≡ written (finite.get self.now n) (slice_index memory.old n) }
+        ensures { (n : ℕ) → n < length memory.old
+            → slice_index memory.new n ≡ written (finite.get self.now n) (slice_index memory.old n) }
     {
         if self.dirty {
             self.upper.write_to(0, memory);
@@ -240,7 +247,8 @@ impl Level {
 
     /// Writes the bytes that are held over those of the slice, which begins at a number.
     pub fn write_over(&self, from: u32, bytes: &mut [u8])
-        ensures { (i : ℕ) → i < length bytes.old → slice_index bytes.new i ≡ value_or (finite.get self.now (from + i)) (slice_index bytes.old i) }
+        ensures { (i : ℕ) → i < length bytes.old
+            → slice_index bytes.new i ≡ value_or (finite.get self.now (from + i)) (slice_index bytes.old i) }
     {
         self.lower.write_to(from, bytes);
         self.upper.write_to(from, bytes);
@@ -314,8 +322,12 @@ fn settle(lower: &mut Runs, upper: &mut Runs, dirty: bool) -> Result<(), AllocEr
     requires upper { AreRuns upper.old }
     ensures lower { AreRuns lower.new }
     ensures upper { AreRuns upper.new }
-    ensures ok { OnOk result ((n : ℕ) → layered true (byte_of upper.new n) (byte_of lower.new n) ≡ layered dirty (byte_of upper.old n) (byte_of lower.old n)) }
-    ensures err { OnErr result ((n : ℕ) → layered dirty (byte_of upper.new n) (byte_of lower.new n) ≡ layered dirty (byte_of upper.old n) (byte_of lower.old n)) }
+    ensures ok { OnOk result
+        ((n : ℕ) → layered true (byte_of upper.new n) (byte_of lower.new n) ≡ layered dirty (byte_of upper.old n)
+        (byte_of lower.old n)) }
+    ensures err { OnErr result
+        ((n : ℕ) → layered dirty (byte_of upper.new n) (byte_of lower.new n) ≡ layered dirty (byte_of upper.old n)
+        (byte_of lower.old n)) }
 {
     if dirty || upper.is_empty() {
         return Ok(());

@@ -1,6 +1,8 @@
 //! The bytes of one mark, in runs.
 
-ghost use Rattle.std.specs.Prelude.{◌≡◌, ◌≢◌, ◌↔◌, ℕ, ◌+◌, ◌-◌, ◌<◌, ◌≤◌, ◌^◌, List, ◌++◌, length, slice_index, Some, None, IsTrue, OnOk, OnErr, IfOk, MatchOption, take, drop, if◌then◌else◌, vec_len, vec_capacity, true, false};
+ghost use Rattle.std.specs.Prelude.{◌≡◌, ◌≢◌, ◌↔◌, ℕ, ◌+◌, ◌-◌, ◌<◌, ◌≤◌, ◌^◌, List, ◌++◌, length, slice_index};
+ghost use Rattle.std.specs.Prelude.{Some, None, IsTrue, OnOk, OnErr, IfOk, MatchOption, take, drop, if◌then◌else◌};
+ghost use Rattle.std.specs.Prelude.{vec_len, vec_capacity, true, false};
 ghost use Rattle.hq_copies.specs.Edges.{has, IsRising, is_odd, toggled, unless, Covered};
 ghost use Rattle.hq_copies.specs.Copies.{count_below};
 ghost use Rattle.hq_copies.specs.Marks.{byte_of, AreRuns, HasRoom, HasRunRoom, SameRuns, IsNowhere, IsFirst};
@@ -261,7 +263,8 @@ impl Runs {
     /// Writes the bytes over those of the slice, which begins at a number.
     pub fn write_to(&self, from: u32, bytes: &mut [u8])
         requires { AreRuns self.now }
-        ensures { (i : ℕ) → i < length bytes.old → slice_index bytes.new i ≡ byte_over (byte_of self.now (from + i)) (slice_index bytes.old i) }
+        ensures { (i : ℕ) → i < length bytes.old
+            → slice_index bytes.new i ≡ byte_over (byte_of self.now (from + i)) (slice_index bytes.old i) }
     {
         let mut left = self.all();
         'runs: while let Some(run) = left.first_run() {
@@ -441,7 +444,8 @@ fn find(edges: &[u32], number: u32) -> (bool, usize)
 // Writes the bytes of a run over those of the slice, which begins at a number.
 fn write_run(bytes: &mut [u8], from: u32, start: u32, run: &[u8])
     requires { start + length run.now < 2 ^ 32 }
-    ensures { (i : ℕ) → i < length bytes.old → slice_index bytes.new i ≡ byte_over (run_at start run.now (from + i)) (slice_index bytes.old i) }
+    ensures { (i : ℕ) → i < length bytes.old
+        → slice_index bytes.new i ≡ byte_over (run_at start run.now (from + i)) (slice_index bytes.old i) }
 {
     if start < from {
         write(bytes, 0, behind(run, (from - start) as usize));
@@ -474,7 +478,8 @@ fn room(length: usize, start: usize, count: usize) -> usize
 // Writes bytes into a slice from a place on, where it has so many.
 fn write(slice: &mut [u8], start: usize, bytes: &[u8])
     requires { start + length bytes.now < 2 ^ 32 }
-    ensures { (n : ℕ) → n < length slice.old → slice_index slice.new n ≡ byte_over (run_at start bytes.now n) (slice_index slice.old n) }
+    ensures { (n : ℕ) → n < length slice.old
+        → slice_index slice.new n ≡ byte_over (run_at start bytes.now n) (slice_index slice.old n) }
 {
     for i in 0..room(slice.len(), start, bytes.len()) {
         slice[start + i] = bytes[i];

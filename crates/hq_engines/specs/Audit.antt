@@ -33,13 +33,15 @@ conflict_text p r kind why = codes "conflict " ++ decimal p ++ codes " " ++ deci
 -- Packets that can never complete: they are all there are, and in no run does one of them.
 pub record NeverComplete (job : Job) (packets : List ℕ) : Type 0 where
   pub stuck : AreStuck job packets
-  pub never : (p : ℕ) → In packets p → (events : List Event) (state : State) → Run job events state → state.phase p ≢ Complete
+  pub never : (p : ℕ) → In packets p → (events : List Event) (state : State) → Run job events state
+      → state.phase p ≢ Complete
 
--- What is written of a job that isn't shown to be ordered: the packets that can never complete, where there is no order list; or the
--- first conflict that isn't ordered; or that memory ran out.
+-- What is written of a job that isn't shown to be ordered: the packets that can never complete, where there is no
+-- order list; or the first conflict that isn't ordered; or that memory ran out.
 pub data NotOrdered (job : Job) : List ℕ → Status → Type 0 where
   stuck : (packets : List ℕ) → NeverComplete job packets → NotOrdered job (stuck_text packets) Stuck
-  conflict : (p r : ℕ) (kind : Kind) (why : Why) → IsRefused job (no.Conflict p r kind why) → NotOrdered job (with_feed (conflict_text p r kind why)) Conflict
+  conflict : (p r : ℕ) (kind : Kind) (why : Why) → IsRefused job (no.Conflict p r kind why)
+      → NotOrdered job (with_feed (conflict_text p r kind why)) Conflict
   no_memory : NotOrdered job (with_feed (codes "out of memory")) Memory
 
 -- What is written of a job: a certificate that holds; or why it isn't ordered.
@@ -50,5 +52,6 @@ pub data JobReport (job : Job) : List ℕ → Status → Type 0 where
 -- why a job has no certificate is written
 abbrev pub NoSaid : AuditNo → Option (List ℕ) → Option (List ℕ) → Status → Type 0
 NoSaid (no.Stuck packets) old new answered = Said old new (stuck_text packets.items) Stuck answered
-NoSaid (no.Conflict p r kind why) old new answered = Said old new (with_feed (conflict_text p r kind why)) Conflict answered
+NoSaid (no.Conflict p r kind why) old new answered = Said old new
+    (with_feed (conflict_text p r kind why)) Conflict answered
 NoSaid no.Memory old new answered = Said old new (with_feed (codes "out of memory")) Memory answered

@@ -11,4 +11,5 @@ buffer_line name bytes = with_feed (codes "buffer " ++ name ++ codes " " ++ enco
 -- the lines of buffers that lie in memory end to end
 abbrev pub buffers_text : List Bytes → List ℕ → List ℕ
 buffers_text [] memory = []
-buffers_text (b ∷ bs) memory = buffer_line b.name (take (length b.bytes) memory) ++ buffers_text bs (drop (length b.bytes) memory)
+buffers_text (b ∷ bs) memory = buffer_line b.name (take (length b.bytes) memory) ++ buffers_text bs
+    (drop (length b.bytes) memory)

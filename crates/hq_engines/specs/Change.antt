@@ -25,11 +25,13 @@ abbrev pub judged_job : Aim → Job → Job
 judged_job aim.Fix job = highest job
 judged_job aim.Trim job = job
 
--- What is written of a text and its job: the text with other heads, which is that of the job as the aim has it; or why the job can't be
--- ordered, or isn't.
+-- What is written of a text and its job: the text with other heads, which is that of the job as the aim has it; or
+-- why the job can't be ordered, or isn't.
 pub data ChangeReport (aim : Aim) (text : List ℕ) (job : JobValue) : List ℕ → Status → Type 0 where
-  changed : (k : JobValue) (new : List ℕ) → IsChanged aim (plan job) (plan k) → JobText (lines_of new) k → TextRewritten (heads_of k) job text new → ChangeReport aim text job new Done
-  not_ordered : {out : List ℕ} {status : Status} → NotOrdered (judged_job aim (plan job)) out status → ChangeReport aim text job out status
+  changed : (k : JobValue) (new : List ℕ) → IsChanged aim (plan job) (plan k) → JobText (lines_of new) k
+      → TextRewritten (heads_of k) job text new → ChangeReport aim text job new Done
+  not_ordered : {out : List ℕ} {status : Status} → NotOrdered (judged_job aim (plan job)) out status
+      → ChangeReport aim text job out status
 
 -- the job as the aim has it, and the heads that its packets had
 pub record TellsChange (aim : Aim) (job : JobValue) (it : Changed) : Type 0 where

@@ -63,17 +63,21 @@ refusal_status no.Memory = Memory
 
 -- Why there is no certificate: the text has a first fault.
 pub data NoCertificate (text : List ℕ) : List ℕ → Status → Type 0 where
-  refused : (fault : CertFault) → FirstFault (lines_of text) fault → NoCertificate text (with_feed (cert_refusal fault)) CertificateRefused
+  refused : (fault : CertFault) → FirstFault (lines_of text) fault
+      → NoCertificate text (with_feed (cert_refusal fault)) CertificateRefused
 
--- What is written of a job and a certificate: that it holds, and so every run of the job agrees with each order that keeps the
--- job's; or the first reason why it doesn't.
+-- What is written of a job and a certificate: that it holds, and so every run of the job agrees with each order
+-- that keeps the job's; or the first reason why it doesn't.
 pub data CheckedReport (job : JobValue) (c : Certificate) : List ℕ → Status → Type 0 where
-  accepted : CertHolds (plan job) c → Headline (plan job) → CheckedReport job c (with_feed (accepted_text (length job.packets) (bound (plan job)))) Done
-  refused : (refusal : CheckNo) → IsRefused (plan job) c refusal → CheckedReport job c (with_feed (refusal_text refusal)) (refusal_status refusal)
+  accepted : CertHolds (plan job) c → Headline (plan job)
+      → CheckedReport job c (with_feed (accepted_text (length job.packets) (bound (plan job)))) Done
+  refused : (refusal : CheckNo) → IsRefused (plan job) c refusal
+      → CheckedReport job c (with_feed (refusal_text refusal)) (refusal_status refusal)
 
 -- What is written of a job and a certificate's text.
 pub data CertReport (job : JobValue) (cert : List ℕ) : List ℕ → Status → Type 0 where
-  checked : {out : List ℕ} {status : Status} (c : Certificate) → CertText (lines_of cert) c → CheckedReport job c out status → CertReport job cert out status
+  checked : {out : List ℕ} {status : Status} (c : Certificate) → CertText (lines_of cert) c
+      → CheckedReport job c out status → CertReport job cert out status
   no_certificate : {out : List ℕ} {status : Status} → NoCertificate cert out status → CertReport job cert out status
 
 -- ---- what the parts write
@@ -89,5 +93,6 @@ NoSaid refusal old new answered = Said old new (with_feed (refusal_text refusal)
 
 -- what a check answered is written
 abbrev pub Checked : Result AcceptedJob (CheckNo × JobValue) → Option (List ℕ) → Option (List ℕ) → Status → Type 0
-Checked (Ok a) old new answered = Said old new (with_feed (accepted_text (length a.job.packets) (bound (plan a.job)))) Done answered
+Checked (Ok a) old new answered = Said old new
+    (with_feed (accepted_text (length a.job.packets) (bound (plan a.job)))) Done answered
 Checked (Err e) old new answered = NoSaid e.0 old new answered

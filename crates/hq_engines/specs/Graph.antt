@@ -18,5 +18,6 @@ status_of found.Stuck = Stuck
 
 -- What is written of a job: the picture of its order, whose status says what an audit finds; or that memory ran out.
 pub data GraphReport (job : JobValue) : List ℕ → Status → Type 0 where
-  drawn : {text : List ℕ} (found : Found) → GraphText job text → IsFound (plan job) found → GraphReport job text (status_of found)
+  drawn : {text : List ℕ} (found : Found) → GraphText job text → IsFound (plan job) found
+      → GraphReport job text (status_of found)
   no_memory : GraphReport job (with_feed (codes "out of memory")) Memory

@@ -1,5 +1,6 @@
 -- The words of `pack`, and the bytes that they are.
-use Rattle.std.specs.Prelude.{◌≡◌, ℕ, ◌+◌, ◌*◌, ◌^◌, Bool, true, false, List, [], ◌∷◌, ◌++◌, Option, Some, None, MatchOption, codes, nat_lt, option_map, if◌then◌else◌}
+use Rattle.std.specs.Prelude.{◌≡◌, ℕ, ◌+◌, ◌*◌, ◌^◌, Bool, true, false, List, [], ◌∷◌, ◌++◌, Option, Some, None}
+use Rattle.std.specs.Prelude.{MatchOption, codes, nat_lt, option_map, if◌then◌else◌}
 use Rattle.std.specs.Int.{w16, w32, w64, to_le_bytes}
 use Rattle.std.specs.Str.{bytes_eq}
 use Rattle.hq_text.specs.Numbers.{number_of}
@@ -36,7 +37,8 @@ fields_bytes [] [] = Some []
 fields_bytes [] (word ∷ words) = None
 fields_bytes (Reserved width ∷ fields) words = both (Some (zero_bytes width)) (fields_bytes fields words)
 fields_bytes (Number width ∷ fields) [] = None
-fields_bytes (Number width ∷ fields) (word ∷ words) = both (word_bytes width (number_of word)) (fields_bytes fields words)
+fields_bytes (Number width ∷ fields) (word ∷ words) = both (word_bytes width (number_of word))
+    (fields_bytes fields words)
 
 -- the bytes were appended, where there are some
 abbrev pub Pushes : Bool → List ℕ → List ℕ → Option (List ℕ) → Type 0
@@ -55,7 +57,8 @@ scope_number word = if bytes_eq word (codes "none") then Some 0
 
 -- the number of the header's two bytes: the format, the barrier bit, the scopes of the acquire and the release fence
 abbrev pub header_number : ℕ → Option ℕ → Option ℕ → Option ℕ → Option ℕ
-header_number format (Some bit) (Some acquire) (Some release) = Some (format + 256 * bit + 512 * acquire + 2048 * release)
+header_number format (Some bit) (Some acquire) (Some release) = Some
+    (format + 256 * bit + 512 * acquire + 2048 * release)
 header_number format (Some bit) (Some acquire) None = None
 header_number format (Some bit) None release = None
 header_number format None acquire release = None
@@ -69,7 +72,8 @@ header_bytes (Some header) = Some (to_le_bytes w16 header)
 -- the words behind the kind's, with the fields behind the header
 abbrev pub packet_bytes : ℕ → List Field → List (List ℕ) → Option (List ℕ)
 packet_bytes format fields (bit ∷ acquire ∷ release ∷ words) =
-    both (header_bytes (header_number format (bit_number bit) (scope_number acquire) (scope_number release))) (fields_bytes fields words)
+    both (header_bytes (header_number format (bit_number bit) (scope_number acquire) (scope_number release)))
+    (fields_bytes fields words)
 packet_bytes format fields (bit ∷ acquire ∷ []) = None
 packet_bytes format fields (bit ∷ []) = None
 packet_bytes format fields [] = None
@@ -77,18 +81,21 @@ packet_bytes format fields [] = None
 -- behind the header: SETUP, WX, WY, WZ, GX, GY, GZ, PRIVATE, GROUP, OBJECT, KERNARG, DONE
 abbrev pub kernel_fields : List Field
 kernel_fields =
-    Number Two ∷ Number Two ∷ Number Two ∷ Number Two ∷ Reserved Two ∷ Number Four ∷ Number Four ∷ Number Four ∷ Number Four ∷ Number Four
+    Number Two ∷ Number Two ∷ Number Two ∷ Number Two ∷ Reserved Two ∷ Number Four ∷ Number Four ∷ Number Four ∷ Number
+    Four ∷ Number Four
     ∷ Number Eight ∷ Number Eight ∷ Reserved Eight ∷ Number Eight ∷ []
 
 -- TYPE, RET, A0 to A3, DONE
 abbrev pub agent_fields : List Field
 agent_fields =
-    Number Two ∷ Reserved Four ∷ Number Eight ∷ Number Eight ∷ Number Eight ∷ Number Eight ∷ Number Eight ∷ Reserved Eight ∷ Number Eight ∷ []
+    Number Two ∷ Reserved Four ∷ Number Eight ∷ Number Eight ∷ Number Eight ∷ Number Eight ∷ Number Eight ∷ Reserved
+    Eight ∷ Number Eight ∷ []
 
 -- the five dependencies, DONE
 abbrev pub barrier_fields : List Field
 barrier_fields =
-    Reserved Two ∷ Reserved Four ∷ Number Eight ∷ Number Eight ∷ Number Eight ∷ Number Eight ∷ Number Eight ∷ Reserved Eight ∷ Number Eight ∷ []
+    Reserved Two ∷ Reserved Four ∷ Number Eight ∷ Number Eight ∷ Number Eight ∷ Number Eight ∷ Number Eight ∷ Reserved
+    Eight ∷ Number Eight ∷ []
 
 -- the bytes that the words behind `pack` are
 abbrev pub packed_of : List (List ℕ) → Option (List ℕ)

@@ -36,18 +36,25 @@ event_refusal place = codes "refused event " ++ decimal place
 
 -- Why there is no journal: the text has a first fault.
 pub data NoTimeline (text : List ℕ) : List ℕ → Status → Type 0 where
-  refused : (fault : TimeFault) → FirstFault (lines_of text) fault → NoTimeline text (with_feed (time_refusal fault)) RunRefused
+  refused : (fault : TimeFault) → FirstFault (lines_of text) fault
+      → NoTimeline text (with_feed (time_refusal fault)) RunRefused
 
--- What is written of a job and the events of a journal: the buffers as these leave them; or the first event that isn't enabled.
+-- What is written of a job and the events of a journal: the buffers as these leave them; or the first event that
+-- isn't enabled.
 pub data RunReport (job : JobValue) (events : List Event) : List ℕ → Status → Type 0 where
-  replayed : (bytes : List ℕ) → Replayed (plan job) events bytes → RunReport job events (buffers_text job.buffers bytes) Done
-  stopped : (place : ℕ) → StopsAt (plan job) events place → RunReport job events (with_feed (event_refusal place)) RunRefused
+  replayed : (bytes : List ℕ) → Replayed (plan job) events bytes
+      → RunReport job events (buffers_text job.buffers bytes) Done
+  stopped : (place : ℕ) → StopsAt (plan job) events place
+      → RunReport job events (with_feed (event_refusal place)) RunRefused
   no_memory : RunReport job events (with_feed (codes "out of memory")) Memory
 
 -- What is written of a timeline's text: the report of its events; or why there are none.
-pub data TimelineReport (Report : List Event → List ℕ → Status → Type 0) (timeline : List ℕ) : List ℕ → Status → Type 0 where
-  read : {out : List ℕ} {status : Status} (events : List Event) → TimeText (lines_of timeline) events → Report events out status → TimelineReport Report timeline out status
-  no_timeline : {out : List ℕ} {status : Status} → NoTimeline timeline out status → TimelineReport Report timeline out status
+pub data TimelineReport (Report : List Event → List ℕ → Status → Type 0) (timeline : List ℕ) : List ℕ → Status
+    → Type 0 where
+  read : {out : List ℕ} {status : Status} (events : List Event) → TimeText (lines_of timeline) events
+      → Report events out status → TimelineReport Report timeline out status
+  no_timeline : {out : List ℕ} {status : Status} → NoTimeline timeline out status
+      → TimelineReport Report timeline out status
 
 -- ---- what the parts write
 

@@ -21,12 +21,13 @@ Said old new text status answered = ((answered ≡ status) × Appends old new te
 
 -- What the report asks for was written, and its status answered; or the writer failed.
 abbrev pub Reported : (List ℕ → Status → Type 0) → Option (List ℕ) → Option (List ℕ) → Status → Type 0
-Reported Report old new answered = (text : List ℕ) × (status : Status) × Report text status × Said old new text status answered
+Reported Report old new answered = (text : List ℕ) × (status : Status) × Report text status
+    × Said old new text status answered
 
 -- ---- what was read
 
--- The reader gave a text up to its end, turn by turn, of which the fact holds. Where it is known what the reader had left, that is
--- the text.
+-- The reader gave a text up to its end, turn by turn, of which the fact holds. Where it is known what the reader
+-- had left, that is the text.
 pub record OfReader (S : Type 0) (left : S → Option (List ℕ)) (old new : S) (P : List ℕ → Type 0) : Type 0 where
   pub text : List ℕ
   pub ended : Ends S (ReadTurn left) TURNS old text new
@@ -37,19 +38,24 @@ pub record OfReader (S : Type 0) (left : S → Option (List ℕ)) (old new : S) 
 abbrev pub IsUnread : (S : Type 0) → (S → Option (List ℕ)) → S → S → Type 0
 IsUnread S left old new = Fails S (ReadTurn left) TURNS old new ⊎ Passes S (ReadTurn left) TURNS old new
 
--- What is written of a reader: the report of the text that it gave; or that it failed, where it did; or that memory ran out.
-pub data ReaderReport (S : Type 0) (left : S → Option (List ℕ)) (old new : S) (Report : List ℕ → List ℕ → Status → Type 0) : List ℕ → Status → Type 0 where
-  of_text : {out : List ℕ} {status : Status} → OfReader S left old new (λ text. Report text out status) → ReaderReport S left old new Report out status
+-- What is written of a reader: the report of the text that it gave; or that it failed, where it did; or that memory
+-- ran out.
+pub data ReaderReport (S : Type 0) (left : S → Option (List ℕ)) (old new : S)
+    (Report : List ℕ → List ℕ → Status → Type 0) : List ℕ → Status → Type 0 where
+  of_text : {out : List ℕ} {status : Status} → OfReader S left old new (λ text. Report text out status)
+      → ReaderReport S left old new Report out status
   no_text : IsUnread S left old new → ReaderReport S left old new Report (with_feed (codes "file fault")) File
   no_memory : ReaderReport S left old new Report (with_feed (codes "out of memory")) Memory
 
 -- Why there is no job: the text has a first fault.
 pub data NoJob (text : List ℕ) : List ℕ → Status → Type 0 where
-  refused : (fault : JobFault) → FirstFault (lines_of text) fault → NoJob text (with_feed (job_refusal fault)) JobRefused
+  refused : (fault : JobFault) → FirstFault (lines_of text) fault
+      → NoJob text (with_feed (job_refusal fault)) JobRefused
 
 -- What is written of a text: the report of its job; or why there is none.
 pub data JobTextReport (Report : JobValue → List ℕ → Status → Type 0) (text : List ℕ) : List ℕ → Status → Type 0 where
-  of_job : {out : List ℕ} {status : Status} (job : JobValue) → JobText (lines_of text) job → Report job out status → JobTextReport Report text out status
+  of_job : {out : List ℕ} {status : Status} (job : JobValue) → JobText (lines_of text) job → Report job out status
+      → JobTextReport Report text out status
   no_job : {out : List ℕ} {status : Status} → NoJob text out status → JobTextReport Report text out status
 
 -- ---- what the parts write
@@ -59,4 +65,5 @@ abbrev pub SaysNoJob : JobFault → Option (List ℕ) → Option (List ℕ) → 
 SaysNoJob fault old new answered =
     ((fault.reason ≡ reason.Memory) × Said old new (with_feed (codes "out of memory")) Memory answered)
     ⊎ (((fault.reason ≡ reason.Read) × Said old new (with_feed (codes "file fault")) File answered)
-    ⊎ ((¬ (fault.reason ≡ reason.Memory)) × (¬ (fault.reason ≡ reason.Read)) × Said old new (with_feed (job_refusal fault)) JobRefused answered))
+    ⊎ ((¬ (fault.reason ≡ reason.Memory)) × (¬ (fault.reason ≡ reason.Read))
+    × Said old new (with_feed (job_refusal fault)) JobRefused answered))

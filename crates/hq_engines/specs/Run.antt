@@ -29,9 +29,9 @@ fault_text found = codes "run fault " ++ fault_name found
 
 -- ---- the report
 
--- What is written of a job to the timeline's writer and as the answer. A run that completes all: its timeline, and the buffers as
--- every order of one packet at a time leaves them which keeps the job's order. Else no timeline, and why the job isn't ordered, or what
--- fault the run met.
+-- What is written of a job to the timeline's writer and as the answer. A run that completes all: its timeline, and
+-- the buffers as every order of one packet at a time leaves them which keeps the job's order. Else no timeline, and
+-- why the job isn't ordered, or what fault the run met.
 pub data RunReport (job : JobValue) : List ℕ → List ℕ → Status → Type 0 where
   ran : (events : List Event) (memory : List ℕ) → IsWhole (plan job) events memory → IsOneByOne (plan job) memory
       → RunReport job (text_of events) (buffers_text job.buffers memory) Done
@@ -44,10 +44,14 @@ contents_in contents None = None
 contents_in contents (Some writer) = contents writer
 
 -- Both texts were written behind what the writers held, and the status answered; or a writer failed.
-abbrev pub BothSaid : Option (List ℕ) → Option (List ℕ) → List ℕ → Option (List ℕ) → Option (List ℕ) → List ℕ → Status → Status → Type 0
-BothSaid begun recorded events old new text status answered = ((answered ≡ status) × Appends begun recorded events × Appends old new text) ⊎ (answered ≡ File)
+abbrev pub BothSaid : Option (List ℕ) → Option (List ℕ) → List ℕ → Option (List ℕ) → Option (List ℕ) → List ℕ → Status
+    → Status → Type 0
+BothSaid begun recorded events old new text status answered = ((answered ≡ status) × Appends begun recorded events
+    × Appends old new text) ⊎ (answered ≡ File)
 
 -- What the report asks for was written, and its status answered; or a writer failed.
-abbrev pub Recorded : (List ℕ → List ℕ → Status → Type 0) → Option (List ℕ) → Option (List ℕ) → Option (List ℕ) → Option (List ℕ) → Status → Type 0
+abbrev pub Recorded : (List ℕ → List ℕ → Status → Type 0) → Option (List ℕ) → Option (List ℕ) → Option (List ℕ)
+    → Option (List ℕ) → Status → Type 0
 Recorded Report begun recorded old new answered =
-    (events : List ℕ) × (text : List ℕ) × (status : Status) × Report events text status × BothSaid begun recorded events old new text status answered
+    (events : List ℕ) × (text : List ℕ) × (status : Status) × Report events text status
+    × BothSaid begun recorded events old new text status answered

@@ -1,7 +1,8 @@
 -- The program's exit statuses.
 use Rattle.std.specs.Prelude.{ℕ}
 use Rattle.hq_engines.specs.declared.status.Status.{Status}
-use Rattle.hq_engines.specs.declared.status.Status.TheVariants.{Done, Words, JobRefused, Conflict, Stuck, CertificateRefused, RunRefused, Memory, File}
+use Rattle.hq_engines.specs.declared.status.Status.TheVariants.{Done, Words, JobRefused, Conflict, Stuck}
+use Rattle.hq_engines.specs.declared.status.Status.TheVariants.{CertificateRefused, RunRefused, Memory, File}
 
 abbrev pub code_of : Status → ℕ
 code_of Done = 0

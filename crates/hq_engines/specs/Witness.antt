@@ -56,8 +56,9 @@ witness_text job w = lines_text w.p w.r w.kind w.place (spot_at job w.place) w.g
 
 -- ---- the report
 
--- What is written of a job to the writers of the two timelines and as the answer. Where there is a witness, its two timelines and what it
--- shows; else no timeline, and that the job is ordered, or why it isn't. Where memory runs out there may be a timeline of the good run.
+-- What is written of a job to the writers of the two timelines and as the answer. Where there is a witness, its two
+-- timelines and what it shows; else no timeline, and that the job is ordered, or why it isn't. Where memory runs
+-- out there may be a timeline of the good run.
 pub data WitnessReport (job : JobValue) : List ℕ → List ℕ → List ℕ → Status → Type 0 where
   shown : (w : WitnessValue) → IsWitness (plan job) w
       → WitnessReport job (text_of w.good) (text_of w.bad) (with_feed (witness_text job w)) Conflict
@@ -75,7 +76,8 @@ pub record Held : Type 0 where
 -- The three texts were written behind what the writers held, and the status answered; or a writer failed.
 abbrev pub AllSaid : Held → Held → List ℕ → List ℕ → List ℕ → Status → Status → Type 0
 AllSaid old new good bad text status answered =
-    ((answered ≡ status) × Appends old.good new.good good × Appends old.bad new.bad bad × Appends old.answer new.answer text)
+    ((answered ≡ status) × Appends old.good new.good good × Appends old.bad new.bad bad
+    × Appends old.answer new.answer text)
     ⊎ (answered ≡ File)
 
 -- What the report asks for was written, and its status answered; or a writer failed.

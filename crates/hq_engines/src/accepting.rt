@@ -24,8 +24,8 @@ fn no_memory(no: CheckNo) -> AuditNo
     }
 }
 
-/// The job, accepted by the certificate that its audit gives, as `check_wide` checks it: the checker accepts each one that an audit
-/// gives, want of memory aside.
+/// The job, accepted by the certificate that its audit gives, as `check_wide` checks it: the checker accepts each
+/// one that an audit gives, want of memory aside.
 ///
 /// # Errors
 ///

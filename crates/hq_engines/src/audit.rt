@@ -45,7 +45,8 @@ impl fmt::Display for ConflictLine {
 /// Writes a certificate.
 fn say_certificate<W: Write>(alloc: Global, writer: &mut W, certificate: &Certificate) -> Status
     ensures { Said (W.contents writer.old) (W.contents writer.new) (text_of certificate.now) Status.Done result
-        ⊎ Said (W.contents writer.old) (W.contents writer.new) (with_feed (codes "out of memory")) Status.Memory result }
+        ⊎ Said (W.contents writer.old) (W.contents writer.new)
+        (with_feed (codes "out of memory")) Status.Memory result }
 {
     match print(alloc, certificate, writer) {
         Ok(()) => Status::Done,
@@ -81,10 +82,11 @@ fn audit_found<W: Write>(alloc: Global, writer: &mut W, job: &Job) -> Status
     }
 }
 
-/// Reads a job and writes its certificate, or the packets that can never complete, or the conflict that nothing orders. Nothing
-/// is written before the last growth of memory.
+/// Reads a job and writes its certificate, or the packets that can never complete, or the conflict that nothing
+/// orders. Nothing is written before the last growth of memory.
 pub fn audit_engine<R: Read, W: Write>(alloc: Global, reader: &mut R, writer: &mut W) -> Status
-    ensures { Reported (ReaderReport R R.remaining reader.old reader.new (JobTextReport (λ job. JobReport (plan job)))) (W.contents writer.old) (W.contents writer.new) result }
+    ensures { Reported (ReaderReport R R.remaining reader.old reader.new (JobTextReport (λ job. JobReport (plan job))))
+        (W.contents writer.old) (W.contents writer.new) result }
 {
     match take_job(alloc, reader, writer) {
         Ok(job) => {

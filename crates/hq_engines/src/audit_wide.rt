@@ -26,7 +26,8 @@ fn say_certificate<R: Threads + Sync, W: Write>(
     certificate: &Certificate,
 ) -> Status
     ensures { Said (W.contents writer.old) (W.contents writer.new) (text_of certificate.now) Status.Done result
-        ⊎ Said (W.contents writer.old) (W.contents writer.new) (with_feed (codes "out of memory")) Status.Memory result }
+        ⊎ Said (W.contents writer.old) (W.contents writer.new)
+        (with_feed (codes "out of memory")) Status.Memory result }
 {
     match print_wide(rt, alloc, certificate, writer) {
         Ok(()) => Status::Done,
@@ -59,7 +60,8 @@ pub fn audit_wide_engine<T: Threads + Sync, R: Read, W: Write>(
     reader: &mut R,
     writer: &mut W,
 ) -> Status
-    ensures { Reported (ReaderReport R R.remaining reader.old reader.new (JobTextReport (λ job. JobReport (plan job)))) (W.contents writer.old) (W.contents writer.new) result }
+    ensures { Reported (ReaderReport R R.remaining reader.old reader.new (JobTextReport (λ job. JobReport (plan job))))
+        (W.contents writer.old) (W.contents writer.new) result }
 {
     match take_job(alloc, reader, writer) {
         Ok(job) => audit_found(rt, alloc, writer, &job),

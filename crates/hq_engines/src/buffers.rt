@@ -61,12 +61,14 @@ pub fn buffers_text_of(alloc: Global, job: &Job, memory: &[u8]) -> Result<Vec<u8
     Ok(text)
 }
 
-/// Writes the buffers of a job, one line each in file order, with these bytes. Nothing is written before the last growth of
-/// memory.
+/// Writes the buffers of a job, one line each in file order, with these bytes. Nothing is written before the last
+/// growth of memory.
 pub fn say_buffers<W: Write>(alloc: Global, writer: &mut W, job: &Job, memory: &[u8]) -> Status
     requires { length memory.now ≡ length (plan job.now).memory }
-    ensures { Said (W.contents writer.old) (W.contents writer.new) (buffers_text job.now.buffers memory.now) Status.Done result
-        ⊎ Said (W.contents writer.old) (W.contents writer.new) (with_feed (codes "out of memory")) Status.Memory result }
+    ensures { Said (W.contents writer.old) (W.contents writer.new)
+        (buffers_text job.now.buffers memory.now) Status.Done result
+        ⊎ Said (W.contents writer.old) (W.contents writer.new)
+        (with_feed (codes "out of memory")) Status.Memory result }
 {
     match buffers_text_of(alloc, job, memory) {
         Ok(text) => say_text(writer, &text),

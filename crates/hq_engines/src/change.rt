@@ -121,7 +121,8 @@ fn change_found<W: Write>(
     watch: &dyn Watch,
 ) -> (Status, Option<Changed>)
     requires { JobText (lines_of text.now) job.now }
-    ensures report { Reported (ChangeReport aim text.now job.now) (W.contents writer.old) (W.contents writer.new) result.0 }
+    ensures report { Reported (ChangeReport aim text.now job.now) (W.contents writer.old)
+        (W.contents writer.new) result.0 }
     ensures told { IfSome result.1 (λ it. TellsChange aim job.now it) }
 {
     job.valid();
@@ -132,9 +133,10 @@ fn change_found<W: Write>(
     }
 }
 
-/// Reads a job, and writes its text with other heads: with what it lacks, or without what it doesn't need. Nothing else of the text is
-/// other. Answers the status and, where that text was written, the job that it is and the heads that the packets had. Nothing is written
-/// before the last growth of memory. The watch hears how far the change has come.
+/// Reads a job, and writes its text with other heads: with what it lacks, or without what it doesn't need. Nothing
+/// else of the text is other. Answers the status and, where that text was written, the job that it is and the heads
+/// that the packets had. Nothing is written before the last growth of memory. The watch hears how far the change
+/// has come.
 pub fn change_engine<R: Read, W: Write>(
     alloc: Global,
     reader: &mut R,
@@ -142,7 +144,9 @@ pub fn change_engine<R: Read, W: Write>(
     aim: Aim,
     watch: &dyn Watch,
 ) -> (Status, Option<Changed>)
-    ensures report { Reported (ReaderReport R R.remaining reader.old reader.new (λ text. JobTextReport (ChangeReport aim text) text)) (W.contents writer.old) (W.contents writer.new) result.0 }
+    ensures report { Reported
+        (ReaderReport R R.remaining reader.old reader.new (λ text. JobTextReport (ChangeReport aim text) text))
+        (W.contents writer.old) (W.contents writer.new) result.0 }
     ensures told { IfSome result.1 (λ it. OfReader R R.remaining reader.old reader.new (TellsText aim it)) }
 {
     match take_job_text(alloc, reader, writer) {

@@ -29,8 +29,10 @@ fn say_chart<W: Write>(
     is_refused: bool,
     status: Status,
 ) -> Status
-    ensures { Said (W.contents writer.old) (W.contents writer.new) (chart_text job.now copies events.now is_refused) status result
-        ⊎ Said (W.contents writer.old) (W.contents writer.new) (with_feed (codes "out of memory")) Status.Memory result }
+    ensures { Said (W.contents writer.old) (W.contents writer.new)
+        (chart_text job.now copies events.now is_refused) status result
+        ⊎ Said (W.contents writer.old) (W.contents writer.new)
+        (with_feed (codes "out of memory")) Status.Memory result }
 {
     match chart(alloc, writer, job, copies, events, is_refused) {
         Ok(()) => status,
@@ -103,7 +105,9 @@ fn chart_read<S: Read, W: Write>(
     job: &Job,
     copies: bool,
 ) -> Status
-    ensures { Reported (ReaderReport S S.remaining timeline.old timeline.new (TimelineReport (ChartReport job.now copies))) (W.contents writer.old) (W.contents writer.new) result }
+    ensures { Reported
+        (ReaderReport S S.remaining timeline.old timeline.new (TimelineReport (ChartReport job.now copies)))
+        (W.contents writer.old) (W.contents writer.new) result }
 {
     match take_journal(alloc, timeline, writer) {
         Ok(journal) => chart_found(alloc, writer, job, copies, &journal),
@@ -111,8 +115,9 @@ fn chart_read<S: Read, W: Write>(
     }
 }
 
-/// Reads a job and then a timeline, and writes a picture of the timeline's events in SVG, those of copies only where they are asked for, up to
-/// the first that isn't enabled. A fault of the job is written first. Nothing is written before the last growth of memory.
+/// Reads a job and then a timeline, and writes a picture of the timeline's events in SVG, those of copies only
+/// where they are asked for, up to the first that isn't enabled. A fault of the job is written first. Nothing is
+/// written before the last growth of memory.
 pub fn chart_engine<R: Read, S: Read, W: Write>(
     alloc: Global,
     reader: &mut R,
@@ -120,7 +125,11 @@ pub fn chart_engine<R: Read, S: Read, W: Write>(
     copies: bool,
     writer: &mut W,
 ) -> Status
-    ensures { Reported (ReaderReport R R.remaining reader.old reader.new (JobTextReport (λ job. ReaderReport S S.remaining timeline.old timeline.new (TimelineReport (ChartReport job copies))))) (W.contents writer.old) (W.contents writer.new) result }
+    ensures { Reported
+        (ReaderReport R R.remaining reader.old reader.new
+        (JobTextReport
+        (λ job. ReaderReport S S.remaining timeline.old timeline.new (TimelineReport (ChartReport job copies)))))
+        (W.contents writer.old) (W.contents writer.new) result }
 {
     match take_job(alloc, reader, writer) {
         Ok(job) => {

@@ -5,7 +5,9 @@ ghost use Rattle.hq_text.specs.Lines.{lines_of};
 ghost use Rattle.hq_job.specs.Plan.{plan};
 ghost use Rattle.hq_model.specs.Machine.{bound};
 ghost use Rattle.hq_cert.specs.Grammar.{CertText};
-ghost use Rattle.hq_engines.specs.Check.{NoCertificate, SaysNoCertificate, Checked, CheckedReport, CertReport, NoSaid, accepted_text, cert_refusal, bad_line_text, pair_missing_text, bad_pair_text};
+ghost use Rattle.hq_engines.specs.Check.{NoCertificate, SaysNoCertificate, Checked, CheckedReport, CertReport};
+ghost use Rattle.hq_engines.specs.Check.{NoSaid, accepted_text, cert_refusal, bad_line_text, pair_missing_text};
+ghost use Rattle.hq_engines.specs.Check.{bad_pair_text};
 ghost use Rattle.hq_engines.specs.Reports.{JobTextReport, OfReader, ReaderReport, Reported, Said, with_feed};
 
 use crate::saying::{say, say_file, say_memory};
@@ -105,9 +107,12 @@ pub fn take_certificate<R: Read, W: Write>(
     reader: &mut R,
     writer: &mut W,
 ) -> Result<Certificate, Status>
-    ensures found { IfOk result (λ c. OfReader R R.remaining reader.old reader.new (λ text. CertText (lines_of text) c)) }
+    ensures found { IfOk result
+        (λ c. OfReader R R.remaining reader.old reader.new (λ text. CertText (lines_of text) c)) }
     ensures unwritten { OnOk result (writer.new ≡ writer.old) }
-    ensures refused { IfErr result (Reported (ReaderReport R R.remaining reader.old reader.new NoCertificate) (W.contents writer.old) (W.contents writer.new)) }
+    ensures refused { IfErr result
+        (Reported (ReaderReport R R.remaining reader.old reader.new NoCertificate) (W.contents writer.old)
+        (W.contents writer.new)) }
 {
     match read(alloc, reader) {
         Ok(certificate) => Ok(certificate),
@@ -118,7 +123,9 @@ pub fn take_certificate<R: Read, W: Write>(
 
 /// Writes that a job is accepted.
 fn say_accepted<W: Write>(writer: &mut W, accepted: &Accepted) -> Status
-    ensures { Said (W.contents writer.old) (W.contents writer.new) (with_feed (accepted_text (length accepted.now.job.packets) (bound (plan accepted.now.job)))) Status.Done result }
+    ensures { Said (W.contents writer.old) (W.contents writer.new)
+        (with_feed (accepted_text (length accepted.now.job.packets)
+        (bound (plan accepted.now.job)))) Status.Done result }
 {
     let packets = accepted.job().packets().len();
     let bound = accepted.bound();
@@ -180,7 +187,8 @@ fn check_read<S: Read, W: Write>(
     writer: &mut W,
     job: Job,
 ) -> Status
-    ensures { Reported (ReaderReport S S.remaining certificate.old certificate.new (CertReport job)) (W.contents writer.old) (W.contents writer.new) result }
+    ensures { Reported (ReaderReport S S.remaining certificate.old certificate.new (CertReport job))
+        (W.contents writer.old) (W.contents writer.new) result }
 {
     match take_certificate(alloc, certificate, writer) {
         Ok(certificate) => check_found(rt, alloc, writer, job, &certificate),
@@ -191,8 +199,8 @@ fn check_read<S: Read, W: Write>(
     }
 }
 
-/// Reads a job and then a certificate, and writes whether the certificate holds for the job, as `check_wide` answers it. A fault
-/// of the job is written first. Nothing is written before the last growth of memory.
+/// Reads a job and then a certificate, and writes whether the certificate holds for the job, as `check_wide`
+/// answers it. A fault of the job is written first. Nothing is written before the last growth of memory.
 pub fn check_engine<R: Read, S: Read, W: Write>(
     rt: &(impl Threads + Sync),
     alloc: Global,
@@ -200,7 +208,10 @@ pub fn check_engine<R: Read, S: Read, W: Write>(
     certificate: &mut S,
     writer: &mut W,
 ) -> Status
-    ensures { Reported (ReaderReport R R.remaining reader.old reader.new (JobTextReport (λ job. ReaderReport S S.remaining certificate.old certificate.new (CertReport job)))) (W.contents writer.old) (W.contents writer.new) result }
+    ensures { Reported
+        (ReaderReport R R.remaining reader.old reader.new
+        (JobTextReport (λ job. ReaderReport S S.remaining certificate.old certificate.new (CertReport job))))
+        (W.contents writer.old) (W.contents writer.new) result }
 {
     match take_job(alloc, reader, writer) {
         Ok(job) => check_read(rt, alloc, certificate, writer, job),

@@ -33,7 +33,8 @@ fn check_read<S: Read, W: Write>(
     writer: &mut W,
     job: Job,
 ) -> Status
-    ensures { Reported (ReaderReport S S.remaining certificate.old certificate.new (CertReport job)) (W.contents writer.old) (W.contents writer.new) result }
+    ensures { Reported (ReaderReport S S.remaining certificate.old certificate.new (CertReport job))
+        (W.contents writer.old) (W.contents writer.new) result }
 {
     match take_certificate(alloc, certificate, writer) {
         Ok(certificate) => check_found(alloc, writer, job, &certificate),
@@ -44,15 +45,18 @@ fn check_read<S: Read, W: Write>(
     }
 }
 
-/// Reads a job and then a certificate, and writes whether the certificate holds for the job, as `check_engine` does, but checks it on the
-/// caller's thread, by `check`.
+/// Reads a job and then a certificate, and writes whether the certificate holds for the job, as `check_engine`
+/// does, but checks it on the caller's thread, by `check`.
 pub fn check_alone_engine<R: Read, S: Read, W: Write>(
     alloc: Global,
     reader: &mut R,
     certificate: &mut S,
     writer: &mut W,
 ) -> Status
-    ensures { Reported (ReaderReport R R.remaining reader.old reader.new (JobTextReport (λ job. ReaderReport S S.remaining certificate.old certificate.new (CertReport job)))) (W.contents writer.old) (W.contents writer.new) result }
+    ensures { Reported
+        (ReaderReport R R.remaining reader.old reader.new
+        (JobTextReport (λ job. ReaderReport S S.remaining certificate.old certificate.new (CertReport job))))
+        (W.contents writer.old) (W.contents writer.new) result }
 {
     match take_job(alloc, reader, writer) {
         Ok(job) => check_read(alloc, certificate, writer, job),

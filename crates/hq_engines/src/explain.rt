@@ -23,15 +23,16 @@ fn explain_found<W: Write>(alloc: Global, writer: &mut W, job: &Job, which: Whic
     }
 }
 
-/// Reads a job and writes why the pairs that are asked for are ordered or aren't, and which single changes would order those; or what packets
-/// that can never complete wait for.
+/// Reads a job and writes why the pairs that are asked for are ordered or aren't, and which single changes would
+/// order those; or what packets that can never complete wait for.
 pub fn explain_engine<R: Read, W: Write>(
     alloc: Global,
     reader: &mut R,
     which: Which,
     writer: &mut W,
 ) -> Status
-    ensures { Reported (ReaderReport R R.remaining reader.old reader.new (JobTextReport (ExplainReport which))) (W.contents writer.old) (W.contents writer.new) result }
+    ensures { Reported (ReaderReport R R.remaining reader.old reader.new (JobTextReport (ExplainReport which)))
+        (W.contents writer.old) (W.contents writer.new) result }
 {
     match take_job(alloc, reader, writer) {
         Ok(job) => {

@@ -42,7 +42,8 @@ fn push_number(bytes: &mut Vec<u8>, width: Width, number: u64) -> Result<bool, A
 
 /// Appends the bytes of the number that a word is; false where it is none or doesn't fit so many.
 fn push_word(bytes: &mut Vec<u8>, width: Width, word: &str) -> Result<bool, AllocError>
-    ensures { IfOk result (λ whole. Pushes whole bytes.old.items bytes.new.items (word_bytes width (number_of word.now))) }
+    ensures { IfOk result
+        (λ whole. Pushes whole bytes.old.items bytes.new.items (word_bytes width (number_of word.now))) }
 {
     match number_of(word.as_bytes()) {
         Some(number) => push_number(bytes, width, number),
@@ -57,14 +58,15 @@ fn push_zeros(bytes: &mut Vec<u8>, width: Width) -> Result<bool, AllocError>
     push_number(bytes, width, 0)
 }
 
-/// Appends the bytes of fields in turn, of which each that is a number takes a word; false where that can't be, or where words
-/// are left.
+/// Appends the bytes of fields in turn, of which each that is a number takes a word; false where that can't be, or
+/// where words are left.
 pub fn push_fields(
     bytes: &mut Vec<u8>,
     fields: &[Field],
     words: &[&str],
 ) -> Result<bool, AllocError>
-    ensures { IfOk result (λ whole. Pushes whole bytes.old.items bytes.new.items (fields_bytes fields.now (map (λ w. w.now) words.now))) }
+    ensures { IfOk result
+        (λ whole. Pushes whole bytes.old.items bytes.new.items (fields_bytes fields.now (map (λ w. w.now) words.now))) }
 {
     let Some((field, fields)) = fields.split_first() else {
         return Ok(words.is_empty());

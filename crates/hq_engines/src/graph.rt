@@ -34,10 +34,11 @@ fn graph_found<W: Write>(alloc: Global, writer: &mut W, job: &Job) -> Status
     }
 }
 
-/// Reads a job and writes a picture of its order in DOT, with its conflicts, and the packets that can never complete. Nothing is written
-/// before the last growth of memory.
+/// Reads a job and writes a picture of its order in DOT, with its conflicts, and the packets that can never
+/// complete. Nothing is written before the last growth of memory.
 pub fn graph_engine<R: Read, W: Write>(alloc: Global, reader: &mut R, writer: &mut W) -> Status
-    ensures { Reported (ReaderReport R R.remaining reader.old reader.new (JobTextReport GraphReport)) (W.contents writer.old) (W.contents writer.new) result }
+    ensures { Reported (ReaderReport R R.remaining reader.old reader.new (JobTextReport GraphReport))
+        (W.contents writer.old) (W.contents writer.new) result }
 {
     match take_job(alloc, reader, writer) {
         Ok(job) => {

@@ -1,7 +1,8 @@
 //! The program's commands, each over any reader and any writer.
 //!
-//! An engine reads its input, writes the report of it, and answers the status that the program ends with. The report is of the text that
-//! the reader gave, turn by turn and up to its end, whatever reader it is; or of the reader's failure, where it failed.
+//! An engine reads its input, writes the report of it, and answers the status that the program ends with. The
+//! report is of the text that the reader gave, turn by turn and up to its end, whatever reader it is; or of the
+//! reader's failure, where it failed.
 #![tactic(auto)]
 
 mod accepting;

@@ -92,7 +92,8 @@ fn scope(word: &str) -> Option<u16>
 /// The header's two bytes as a number.
 fn header(format: u16, bit_word: &str, acquire: &str, release: &str) -> Option<u16>
     requires { format ≤ 255 }
-    ensures { result ≡ header_number format (bit_number bit_word.now) (scope_number acquire.now) (scope_number release.now) }
+    ensures { result ≡ header_number format (bit_number bit_word.now) (scope_number acquire.now)
+        (scope_number release.now) }
 {
     let bit = bit(bit_word)?;
     let acquire = scope(acquire)?;
@@ -108,7 +109,9 @@ fn push_packet(
     words: &[&str],
 ) -> Result<bool, AllocError>
     requires { format ≤ 255 }
-    ensures { IfOk result (λ whole. Pushes whole bytes.old.items bytes.new.items (packet_bytes format fields.now (map (λ w. w.now) words.now))) }
+    ensures { IfOk result
+        (λ whole. Pushes whole bytes.old.items bytes.new.items
+        (packet_bytes format fields.now (map (λ w. w.now) words.now))) }
 {
     let [bit, acquire, release, words @ ..] = words else {
         return Ok(false);
@@ -122,7 +125,8 @@ fn push_packet(
 
 /// Appends the bytes of the packet that words are; false where they are none.
 fn push_packed(bytes: &mut Vec<u8>, words: &[&str]) -> Result<bool, AllocError>
-    ensures { IfOk result (λ whole. Pushes whole bytes.old.items bytes.new.items (packed_of (map (λ w. w.now) words.now))) }
+    ensures { IfOk result
+        (λ whole. Pushes whole bytes.old.items bytes.new.items (packed_of (map (λ w. w.now) words.now))) }
 {
     let Some((kind, words)) = words.split_first() else {
         return Ok(false);
@@ -158,8 +162,10 @@ fn packed(alloc: Global, words: &[&str]) -> Result<Option<[u8; 64]>, AllocError>
 
 /// Writes bytes as hexadecimal digits.
 fn say_digits<W: Write>(alloc: Global, writer: &mut W, bytes: &[u8]) -> Status
-    ensures { Said (W.contents writer.old) (W.contents writer.new) (with_feed (encode_lower bytes.now)) Status.Done result
-        ⊎ Said (W.contents writer.old) (W.contents writer.new) (with_feed (codes "out of memory")) Status.Memory result }
+    ensures { Said (W.contents writer.old) (W.contents writer.new)
+        (with_feed (encode_lower bytes.now)) Status.Done result
+        ⊎ Said (W.contents writer.old) (W.contents writer.new)
+        (with_feed (codes "out of memory")) Status.Memory result }
 {
     match hex::encode(alloc, bytes) {
         Ok(digits) => say(writer, digits, Status::Done),
@@ -177,10 +183,11 @@ fn say_packet<W: Write>(alloc: Global, writer: &mut W, bytes: &[u8; 64]) -> Stat
     }
 }
 
-/// Writes the 64 bytes of the packet that words are, as hexadecimal digits; or the first fault of these bytes. Words that are no
-/// packet's fields are `Words`, and nothing is written.
+/// Writes the 64 bytes of the packet that words are, as hexadecimal digits; or the first fault of these bytes.
+/// Words that are no packet's fields are `Words`, and nothing is written.
 pub fn pack_engine<W: Write>(alloc: Global, words: &[&str], writer: &mut W) -> Status
-    ensures { Reported (PackReport (map (λ w. w.now) words.now)) (W.contents writer.old) (W.contents writer.new) result }
+    ensures { Reported (PackReport (map (λ w. w.now) words.now)) (W.contents writer.old)
+        (W.contents writer.new) result }
 {
     match packed(alloc, words) {
         Ok(Some(bytes)) => say_packet(alloc, writer, &bytes),

@@ -3,7 +3,8 @@
 ghost use Rattle.std.specs.Prelude.{◌≡◌, Some, IfOk, IfErr, OnOk};
 ghost use Rattle.hq_text.specs.Lines.{lines_of};
 ghost use Rattle.hq_timeline.specs.Grammar.{TimeText};
-ghost use Rattle.hq_engines.specs.Replay.{NoTimeline, SaysNoTimeline, StopSaid, RunReport, TimelineReport, time_refusal, event_refusal};
+ghost use Rattle.hq_engines.specs.Replay.{NoTimeline, SaysNoTimeline, StopSaid, RunReport, TimelineReport};
+ghost use Rattle.hq_engines.specs.Replay.{time_refusal, event_refusal};
 ghost use Rattle.hq_engines.specs.Reports.{JobTextReport, OfReader, ReaderReport, Reported};
 
 use crate::buffers::say_buffers;
@@ -63,9 +64,12 @@ pub fn take_journal<R: Read, W: Write>(
     reader: &mut R,
     writer: &mut W,
 ) -> Result<Journal, Status>
-    ensures found { IfOk result (λ journal. OfReader R R.remaining reader.old reader.new (λ text. TimeText (lines_of text) journal)) }
+    ensures found { IfOk result
+        (λ journal. OfReader R R.remaining reader.old reader.new (λ text. TimeText (lines_of text) journal)) }
     ensures unwritten { OnOk result (writer.new ≡ writer.old) }
-    ensures refused { IfErr result (Reported (ReaderReport R R.remaining reader.old reader.new NoTimeline) (W.contents writer.old) (W.contents writer.new)) }
+    ensures refused { IfErr result
+        (Reported (ReaderReport R R.remaining reader.old reader.new NoTimeline) (W.contents writer.old)
+        (W.contents writer.new)) }
 {
     match read(alloc, reader) {
         Ok(journal) => Ok(journal),
@@ -101,7 +105,8 @@ fn replay_read<S: Read, W: Write>(
     writer: &mut W,
     job: &Job,
 ) -> Status
-    ensures { Reported (ReaderReport S S.remaining timeline.old timeline.new (TimelineReport (RunReport job.now))) (W.contents writer.old) (W.contents writer.new) result }
+    ensures { Reported (ReaderReport S S.remaining timeline.old timeline.new (TimelineReport (RunReport job.now)))
+        (W.contents writer.old) (W.contents writer.new) result }
 {
     match take_journal(alloc, timeline, writer) {
         Ok(journal) => replay_found(alloc, writer, job, &journal),
@@ -109,15 +114,19 @@ fn replay_read<S: Read, W: Write>(
     }
 }
 
-/// Reads a job and then a timeline, and writes the job's buffers as the timeline's events leave them, one line each, or the first
-/// event that isn't enabled. A fault of the job is written first. Nothing is written before the last growth of memory.
+/// Reads a job and then a timeline, and writes the job's buffers as the timeline's events leave them, one line
+/// each, or the first event that isn't enabled. A fault of the job is written first. Nothing is written before the
+/// last growth of memory.
 pub fn replay_engine<R: Read, S: Read, W: Write>(
     alloc: Global,
     reader: &mut R,
     timeline: &mut S,
     writer: &mut W,
 ) -> Status
-    ensures { Reported (ReaderReport R R.remaining reader.old reader.new (JobTextReport (λ job. ReaderReport S S.remaining timeline.old timeline.new (TimelineReport (RunReport job))))) (W.contents writer.old) (W.contents writer.new) result }
+    ensures { Reported
+        (ReaderReport R R.remaining reader.old reader.new
+        (JobTextReport (λ job. ReaderReport S S.remaining timeline.old timeline.new (TimelineReport (RunReport job)))))
+        (W.contents writer.old) (W.contents writer.new) result }
 {
     match take_job(alloc, reader, writer) {
         Ok(job) => {

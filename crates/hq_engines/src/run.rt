@@ -47,8 +47,10 @@ impl<'a> fmt::Display for FaultLine<'a> {
 
 /// Writes the fault that a run met.
 fn say_fault<W: Write>(writer: &mut W, fault: &RunFault) -> Status
-    ensures { Said (W.contents writer.old) (W.contents writer.new) (with_feed (fault_text fault.now)) Status.RunRefused result
-        ⊎ Said (W.contents writer.old) (W.contents writer.new) (with_feed (codes "out of memory")) Status.Memory result }
+    ensures { Said (W.contents writer.old) (W.contents writer.new)
+        (with_feed (fault_text fault.now)) Status.RunRefused result
+        ⊎ Said (W.contents writer.old) (W.contents writer.new)
+        (with_feed (codes "out of memory")) Status.Memory result }
 {
     match fault {
         RunFault::Memory => say_memory(writer),
@@ -62,7 +64,8 @@ pub fn write_timeline<T: Write>(
     timeline: &mut Option<T>,
     journal: &Journal,
 ) -> Result<(), PrintFault>
-    ensures written { OnOk result (Appends (contents_in T.contents timeline.old) (contents_in T.contents timeline.new) (text_of journal.now)) }
+    ensures written { OnOk result
+        (Appends (contents_in T.contents timeline.old) (contents_in T.contents timeline.new) (text_of journal.now)) }
     ensures unwritten { result ≡ Err PrintFault.Memory → timeline.new ≡ timeline.old }
 {
     match timeline {
@@ -81,8 +84,10 @@ fn say_ran<T: Write, W: Write>(
     memory: &[u8],
 ) -> Status
     requires { length memory.now ≡ length (plan job.now).memory }
-    ensures { BothSaid (contents_in T.contents timeline.old) (contents_in T.contents timeline.new) (text_of journal.now) (W.contents writer.old) (W.contents writer.new) (buffers_text job.now.buffers memory.now) Status.Done result
-        ⊎ BothSaid (contents_in T.contents timeline.old) (contents_in T.contents timeline.new) [] (W.contents writer.old) (W.contents writer.new) (with_feed (codes "out of memory")) Status.Memory result }
+    ensures { BothSaid (contents_in T.contents timeline.old) (contents_in T.contents timeline.new) (text_of journal.now)
+        (W.contents writer.old) (W.contents writer.new) (buffers_text job.now.buffers memory.now) Status.Done result
+        ⊎ BothSaid (contents_in T.contents timeline.old) (contents_in T.contents timeline.new) []
+        (W.contents writer.old) (W.contents writer.new) (with_feed (codes "out of memory")) Status.Memory result }
 {
     let Ok(text) = buffers_text_of(alloc, job, memory) else {
         return say_memory(writer);
@@ -104,8 +109,10 @@ fn run_accepted<R: Threads + Wait + Sync, G: Gate, T: Write, W: Write>(
     timeline: &mut Option<T>,
     writer: &mut W,
 ) -> Status
-    requires { KitsFit accepted.now.job (bodies_of (λ b. kernel (b.vtable, b.value)) (λ b. service (b.vtable, b.value)) kits.items) }
-    ensures { Recorded (RunReport accepted.now.job) (contents_in T.contents timeline.old) (contents_in T.contents timeline.new) (W.contents writer.old) (W.contents writer.new) result }
+    requires { KitsFit accepted.now.job
+        (bodies_of (λ b. kernel (b.vtable, b.value)) (λ b. service (b.vtable, b.value)) kits.items) }
+    ensures { Recorded (RunReport accepted.now.job) (contents_in T.contents timeline.old)
+        (contents_in T.contents timeline.new) (W.contents writer.old) (W.contents writer.new) result }
 {
     match run(rt, alloc, accepted, kits, gate) {
         Ok(outcome) => say_ran(
@@ -120,9 +127,10 @@ fn run_accepted<R: Threads + Wait + Sync, G: Gate, T: Write, W: Write>(
     }
 }
 
-/// Audits a job, checks the certificate, and runs the job with these kits, a thread for each queue. Writes the run's timeline, where there
-/// is a writer for it, and then the job's buffers, one line each; or the packets that can never complete, the conflict that nothing
-/// orders, or the fault that the run met. The gate is told of each packet's fetch and completion.
+/// Audits a job, checks the certificate, and runs the job with these kits, a thread for each queue. Writes the
+/// run's timeline, where there is a writer for it, and then the job's buffers, one line each; or the packets that
+/// can never complete, the conflict that nothing orders, or the fault that the run met. The gate is told of each
+/// packet's fetch and completion.
 pub fn run_engine<R: Threads + Wait + Sync, G: Gate, T: Write, W: Write>(
     rt: &R,
     alloc: Global,
@@ -133,7 +141,8 @@ pub fn run_engine<R: Threads + Wait + Sync, G: Gate, T: Write, W: Write>(
     writer: &mut W,
 ) -> Status
     requires { KitsFit job (bodies_of (λ b. kernel (b.vtable, b.value)) (λ b. service (b.vtable, b.value)) kits.items) }
-    ensures { Recorded (RunReport job) (contents_in T.contents timeline.old) (contents_in T.contents timeline.new) (W.contents writer.old) (W.contents writer.new) result }
+    ensures { Recorded (RunReport job) (contents_in T.contents timeline.old) (contents_in T.contents timeline.new)
+        (W.contents writer.old) (W.contents writer.new) result }
 {
     job.valid();
     stuck_law();

@@ -9,7 +9,8 @@ use std::io::Write;
 
 /// Writes a line, and answers the status; where the writer fails that is `File`. It takes no memory.
 pub fn say<W: Write, D: Display + Drop>(writer: &mut W, line: D, status: Status) -> Status
-    ensures { IfSome (D.output line) (λ text. Said (W.contents writer.old) (W.contents writer.new) (with_feed text) status result) }
+    ensures { IfSome (D.output line)
+        (λ text. Said (W.contents writer.old) (W.contents writer.new) (with_feed text) status result) }
 {
     match writeln!(writer, "{line}") {
         Ok(()) => status,
@@ -19,7 +20,8 @@ pub fn say<W: Write, D: Display + Drop>(writer: &mut W, line: D, status: Status)
 
 /// Writes that memory ran out.
 pub fn say_memory<W: Write>(writer: &mut W) -> Status
-    ensures { Said (W.contents writer.old) (W.contents writer.new) (with_feed (codes "out of memory")) Status.Memory result }
+    ensures { Said (W.contents writer.old) (W.contents writer.new)
+        (with_feed (codes "out of memory")) Status.Memory result }
 {
     say(writer, "out of memory", Status::Memory)
 }

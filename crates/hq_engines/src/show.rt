@@ -21,7 +21,8 @@ fn show_packet<W: Write>(
     placed: &Placed,
 ) -> io::Result<()>
     requires { placed.now.queue < length queues.now }
-    ensures { OnOk result (Appends (W.contents writer.old) (W.contents writer.new) (packet_line queues.now number placed.now)) }
+    ensures { OnOk result
+        (Appends (W.contents writer.old) (W.contents writer.new) (packet_line queues.now number placed.now)) }
 {
     let queue = queues[placed.queue as usize].name;
     let shown = ShownPacket {
@@ -35,7 +36,8 @@ fn show_packet<W: Write>(
 /// Writes the packets' lines.
 fn show_packets<W: Write>(writer: &mut W, queues: &[Queue], packets: &[Placed]) -> io::Result<()>
     requires { All (λ p. p.queue < length queues.now) packets.now }
-    ensures { OnOk result (Appends (W.contents writer.old) (W.contents writer.new) (packets_text queues.now 0 packets.now)) }
+    ensures { OnOk result
+        (Appends (W.contents writer.old) (W.contents writer.new) (packets_text queues.now 0 packets.now)) }
 {
     for (number, placed) in packets.iter().enumerate() {
         show_packet(writer, queues, number, placed)?;
@@ -66,7 +68,8 @@ fn show_found<W: Write>(writer: &mut W, job: &Job) -> Status
 
 /// Reads a job and writes its packets, one line each, and how many there are. It takes no memory once the job is read.
 pub fn show_engine<R: Read, W: Write>(alloc: Global, reader: &mut R, writer: &mut W) -> Status
-    ensures { Reported (ReaderReport R R.remaining reader.old reader.new (JobTextReport ShowReport)) (W.contents writer.old) (W.contents writer.new) result }
+    ensures { Reported (ReaderReport R R.remaining reader.old reader.new (JobTextReport ShowReport))
+        (W.contents writer.old) (W.contents writer.new) result }
 {
     match take_job(alloc, reader, writer) {
         Ok(job) => {

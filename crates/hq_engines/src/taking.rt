@@ -32,9 +32,12 @@ pub fn take_job<R: Read, W: Write>(
     reader: &mut R,
     writer: &mut W,
 ) -> Result<Job, Status>
-    ensures found { IfOk result (λ job. OfReader R R.remaining reader.old reader.new (λ text. JobText (lines_of text) job)) }
+    ensures found { IfOk result
+        (λ job. OfReader R R.remaining reader.old reader.new (λ text. JobText (lines_of text) job)) }
     ensures unwritten { OnOk result (writer.new ≡ writer.old) }
-    ensures refused { IfErr result (Reported (ReaderReport R R.remaining reader.old reader.new NoJob) (W.contents writer.old) (W.contents writer.new)) }
+    ensures refused { IfErr result
+        (Reported (ReaderReport R R.remaining reader.old reader.new NoJob) (W.contents writer.old)
+        (W.contents writer.new)) }
 {
     match read(alloc, reader) {
         Ok(job) => Ok(job),
@@ -42,17 +45,21 @@ pub fn take_job<R: Read, W: Write>(
     }
 }
 
-/// A text, and the job that it is, of a reader; or, where that gives no job, the status of the refusal, which is written. The whole text
-/// is held.
+/// A text, and the job that it is, of a reader; or, where that gives no job, the status of the refusal, which is
+/// written. The whole text is held.
 pub fn take_job_text<R: Read, W: Write>(
     alloc: Global,
     reader: &mut R,
     writer: &mut W,
 ) -> Result<(Vec<u8>, Job), Status>
-    ensures found { IfOk result (λ it. OfReader R R.remaining reader.old reader.new (λ text. (text ≡ it.0.items) × JobText (lines_of text) it.1)) }
+    ensures found { IfOk result
+        (λ it. OfReader R R.remaining reader.old reader.new
+        (λ text. (text ≡ it.0.items) × JobText (lines_of text) it.1)) }
     ensures job { IfOk result (λ it. JobText (lines_of it.0.items) it.1) }
     ensures unwritten { OnOk result (writer.new ≡ writer.old) }
-    ensures refused { IfErr result (Reported (ReaderReport R R.remaining reader.old reader.new NoJob) (W.contents writer.old) (W.contents writer.new)) }
+    ensures refused { IfErr result
+        (Reported (ReaderReport R R.remaining reader.old reader.new NoJob) (W.contents writer.old)
+        (W.contents writer.new)) }
 {
     let text = match take_text(alloc, reader) {
         Ok(text) => text,

@@ -7,7 +7,8 @@ ghost use Rattle.hq_witness.specs.Witness.{IsWitness, no_of};
 ghost use Rattle.hq_witness.specs.declared.fault.WitnessNo.TheVariants.{Ordered};
 ghost use Rattle.hq_engines.specs.Reports.{with_feed};
 ghost use Rattle.hq_engines.specs.Run.{BothSaid, contents_in};
-ghost use Rattle.hq_engines.specs.Witness.{Witnessed, WitnessReport, byte_text, differs_text, lines_text, origin_text, pair_text, place_text, spot_at, witness_text};
+ghost use Rattle.hq_engines.specs.Witness.{Witnessed, WitnessReport, byte_text, differs_text, lines_text};
+ghost use Rattle.hq_engines.specs.Witness.{origin_text, pair_text, place_text, spot_at, witness_text};
 
 use crate::audit::say_no_certificate;
 use crate::run::write_timeline;
@@ -116,7 +117,9 @@ struct WitnessLines {
 }
 
 impl fmt::Display for WitnessLines {
-    ghost output = { λ w. Some (lines_text w.pair.p w.pair.r w.pair.kind w.differs.place.place w.differs.place.spot w.differs.good.0 w.differs.bad.0) };
+    ghost output = { λ w. Some
+        (lines_text w.pair.p w.pair.r w.pair.kind w.differs.place.place w.differs.place.spot w.differs.good.0
+        w.differs.bad.0) };
 
     fn fmt<W: fmt::Write>(&self, f: &mut fmt::Formatter<W>) -> fmt::Result {
         write!(f, "{}\n{}", self.pair, self.differs)
@@ -138,7 +141,8 @@ fn spot_at(job: &Job, place: Place) -> Option<Spot>
 
 /// What a witness of a job shows.
 fn lines_of(job: &Job, witness: &Witness) -> WitnessLines
-    ensures { lines_text result.pair.p result.pair.r result.pair.kind result.differs.place.place result.differs.place.spot result.differs.good.0 result.differs.bad.0 ≡ witness_text job.now witness.now }
+    ensures { lines_text result.pair.p result.pair.r result.pair.kind result.differs.place.place
+        result.differs.place.spot result.differs.good.0 result.differs.bad.0 ≡ witness_text job.now witness.now }
 {
     let (p, r) = witness.pair();
     let place = witness.place();
@@ -167,8 +171,11 @@ fn say_rest<T: Write, W: Write>(
     job: &Job,
     witness: &Witness,
 ) -> Status
-    ensures { BothSaid (contents_in T.contents bad.old) (contents_in T.contents bad.new) (text_of witness.now.bad) (W.contents writer.old) (W.contents writer.new) (with_feed (witness_text job.now witness.now)) Status.Conflict result
-        ⊎ BothSaid (contents_in T.contents bad.old) (contents_in T.contents bad.new) [] (W.contents writer.old) (W.contents writer.new) (with_feed (codes "out of memory")) Status.Memory result }
+    ensures { BothSaid (contents_in T.contents bad.old) (contents_in T.contents bad.new) (text_of witness.now.bad)
+        (W.contents writer.old) (W.contents writer.new)
+        (with_feed (witness_text job.now witness.now)) Status.Conflict result
+        ⊎ BothSaid (contents_in T.contents bad.old) (contents_in T.contents bad.new) [] (W.contents writer.old)
+        (W.contents writer.new) (with_feed (codes "out of memory")) Status.Memory result }
 {
     match write_timeline(alloc, bad, witness.bad()) {
         Ok(()) => say(writer, lines_of(job, witness), Status::Conflict),
@@ -187,7 +194,17 @@ fn say_witness<T: Write, W: Write>(
     witness: &Witness,
 ) -> Status
     requires { IsWitness (plan job.now) witness.now }
-    ensures { Witnessed (WitnessReport job.now) (record { good = contents_in T.contents good.old; bad = contents_in T.contents bad.old; answer = W.contents writer.old }) (record { good = contents_in T.contents good.new; bad = contents_in T.contents bad.new; answer = W.contents writer.new }) result }
+    ensures { Witnessed (WitnessReport job.now)
+        (record {
+          good = contents_in T.contents good.old;
+          bad = contents_in T.contents bad.old;
+          answer = W.contents writer.old;
+        })
+        (record {
+          good = contents_in T.contents good.new;
+          bad = contents_in T.contents bad.new;
+          answer = W.contents writer.new;
+        }) result }
 {
     match write_timeline(alloc, good, witness.good()) {
         Ok(()) => say_rest(alloc, bad, writer, job, witness),
@@ -208,9 +225,10 @@ fn refusal_of(fault: WitnessNo) -> Option<AuditNo>
     }
 }
 
-/// Looks for two runs of a job that show why an audit refuses it. Writes their timelines, where there are writers for them, and what they show: the
-/// pair that isn't ordered and the place in which the runs differ, with its origin in each, that of the good run first; or that the job is ordered,
-/// the packets that can never complete, or the conflict that nothing orders, where no two runs were found.
+/// Looks for two runs of a job that show why an audit refuses it. Writes their timelines, where there are writers
+/// for them, and what they show: the pair that isn't ordered and the place in which the runs differ, with its
+/// origin in each, that of the good run first; or that the job is ordered, the packets that can never complete, or
+/// the conflict that nothing orders, where no two runs were found.
 pub fn witness_engine<T: Write, W: Write>(
     alloc: Global,
     job: &Job,
@@ -218,7 +236,17 @@ pub fn witness_engine<T: Write, W: Write>(
     bad: &mut Option<T>,
     writer: &mut W,
 ) -> Status
-    ensures { Witnessed (WitnessReport job.now) (record { good = contents_in T.contents good.old; bad = contents_in T.contents bad.old; answer = W.contents writer.old }) (record { good = contents_in T.contents good.new; bad = contents_in T.contents bad.new; answer = W.contents writer.new }) result }
+    ensures { Witnessed (WitnessReport job.now)
+        (record {
+          good = contents_in T.contents good.old;
+          bad = contents_in T.contents bad.old;
+          answer = W.contents writer.old;
+        })
+        (record {
+          good = contents_in T.contents good.new;
+          bad = contents_in T.contents bad.new;
+          answer = W.contents writer.new;
+        }) result }
 {
     job.valid();
     stuck_law();

@@ -12,7 +12,8 @@ abbrev pub IsLeast : (Scope → Type 0) → Option Scope → Type 0
 IsLeast Holds None = (scope : Scope) → ¬ Holds scope
 IsLeast Holds (Some scope) = Holds scope × ((less : Scope) → IsTrue (is_wider scope less) → ¬ Holds less)
 
--- What is said of packet p: whether its barrier bit, once it is set, orders a and b; and for each of its fences the least scope that does.
+-- What is said of packet p: whether its barrier bit, once it is set, orders a and b; and for each of its fences the
+-- least scope that does.
 pub record IsAdvice (job : Job) (a b p : ℕ) (advice : Advice) : Type 0 where
   pub bit : IsTrue advice.bit ↔ Orders job a b p change.Bit
   pub acquire : IsLeast (λ scope. Orders job a b p (change.Scope fence.Acquire scope)) advice.acquire

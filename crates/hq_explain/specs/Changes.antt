@@ -1,4 +1,5 @@
--- Single changes of a job: the barrier bit of one packet is set, or one of its fences gets a scope that reaches farther.
+-- Single changes of a job: the barrier bit of one packet is set, or one of its fences gets a scope that reaches
+-- farther.
 use Rattle.std.specs.Prelude.{◌≡◌, ℕ, Bool, true, false, not, IsTrue}
 use Rattle.hq_packet.specs.declared.packet.Head.{Head}
 use Rattle.hq_packet.specs.declared.packet.Scope.{Scope}

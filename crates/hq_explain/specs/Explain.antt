@@ -1,5 +1,5 @@
--- What an explanation says of a job, as a relation between the job and a text: which of several paths, fences or waits a text tells of is open,
--- and nothing else.
+-- What an explanation says of a job, as a relation between the job and a text: which of several paths, fences or
+-- waits a text tells of is open, and nothing else.
 use Rattle.std.specs.Prelude.{ℕ, Bool, true, false, List, ◌++◌, length, slice_get, if◌then◌else◌}
 use Rattle.std.specs.List.{list_any}
 use Rattle.hq_job.specs.Value.{JobValue}
@@ -52,11 +52,13 @@ abbrev pub WayText : JobValue → Job → ℕ → ℕ → List ℕ → Type 0
 WayText job order p r text = Where (Before order p r) (PathText job order p r) text
 
 abbrev pub OrderedText : JobValue → Job → ℕ → ℕ → Directed → List ℕ → Type 0
-OrderedText job order a b d text = Then (ConflictText job a b true d.first d.second (hows_of d.shown)) (WayText job order d.first d.second) text
+OrderedText job order a b d text = Then (ConflictText job a b true d.first d.second (hows_of d.shown))
+    (WayText job order d.first d.second) text
 
 -- the bytes; why p comes before r, if it does; and what lacks
 abbrev pub LackText : JobValue → Job → ℕ → ℕ → Unshown → List ℕ → Type 0
-LackText job order a b u text = Then (Then (ConflictText job a b false u.p u.r no_hows) (WayText job order u.p u.r)) (Is (why_line u.fault.why u.p u.r)) text
+LackText job order a b u text = Then (Then (ConflictText job a b false u.p u.r no_hows) (WayText job order u.p u.r))
+    (Is (why_line u.fault.why u.p u.r)) text
 
 abbrev pub OpenText : JobValue → Job → ℕ → ℕ → Unshown → List ℕ → Type 0
 OpenText job order a b u text = Then (LackText job order a b u) (WouldOrder order a b) text

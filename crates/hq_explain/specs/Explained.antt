@@ -23,7 +23,8 @@ AwaitsNone order r = (p : ℕ) (by : Wait) → IsPacket order p → ¬ Awaits or
 
 -- which such packet r waits for, and how; or that it is one
 abbrev pub StuckLine : JobValue → Job → ℕ → List ℕ → Type 0
-StuckLine job order r text = ((p : ℕ) × (by : Wait) × Awaits order p r by × Is (waits_line job p r by) text) ⊎ (AwaitsNone order r × Is (stuck_line r) text)
+StuckLine job order r text = ((p : ℕ) × (by : Wait) × Awaits order p r by × Is (waits_line job p r by) text)
+    ⊎ (AwaitsNone order r × Is (stuck_line r) text)
 
 -- a line for r, if it can never complete
 abbrev pub StuckPart : JobValue → Job → ℕ → List ℕ → Type 0
@@ -44,9 +45,12 @@ found_if ordered = if ordered then found.Ordered else found.Conflict
 
 -- They are no packets of the job, or they don't conflict, which is no fault; or it is said how they conflict.
 pub data PairSaid (job : JobValue) (order : Job) (p r : ℕ) : Found → List ℕ → Type 0 where
-  beyond : ¬ (IsPacket order p × IsPacket order r) → PairSaid job order p r found.Ordered (beyond_line p r (length order.packets))
-  apart : IsPacket order p → IsPacket order r → ¬ AreTwo order p r → PairSaid job order p r found.Ordered (apart_line p r)
-  said : {text : List ℕ} (ordered : Bool) → AreTwo order p r → PairText job order p r ordered text → PairSaid job order p r (found_if ordered) text
+  beyond : ¬ (IsPacket order p × IsPacket order r)
+      → PairSaid job order p r found.Ordered (beyond_line p r (length order.packets))
+  apart : IsPacket order p → IsPacket order r → ¬ AreTwo order p r
+      → PairSaid job order p r found.Ordered (apart_line p r)
+  said : {text : List ℕ} (ordered : Bool) → AreTwo order p r → PairText job order p r ordered text
+      → PairSaid job order p r (found_if ordered) text
 
 -- ---- the whole
 
@@ -55,7 +59,8 @@ HasOrder order = (list : List ℕ) × OrderList order list
 
 -- Of a job with packets that can never complete it tells of these alone; of any other, of the pairs that are asked for.
 pub data Explained (job : JobValue) (order : Job) : Which → Found → List ℕ → Type 0 where
-  stuck : {which : Which} {text : List ℕ} → IsFound order found.Stuck → StuckText job order text → Explained job order which found.Stuck text
+  stuck : {which : Which} {text : List ℕ} → IsFound order found.Stuck → StuckText job order text
+      → Explained job order which found.Stuck text
   first : {found : Found} {text : List ℕ} → IsFound order found → HasOrder order → AllText job order false text
       → Explained job order which.First found text
   all : {found : Found} {text : List ℕ} → IsFound order found → HasOrder order → AllText job order true text

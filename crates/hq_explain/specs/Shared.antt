@@ -12,15 +12,16 @@ use Rattle.hq_explain.specs.declared.sharing.Spot.{Spot}
 
 -- what two ranges have in common: from where the later begins to where the first of them ends
 abbrev pub common : Range → Range → Range
-common x y = if nat_lt x.at y.at then range y.at (min (x.len - (y.at - x.at)) y.len) else range x.at (min x.len (y.len - (x.at - y.at)))
+common x y = if nat_lt x.at y.at then range y.at (min (x.len - (y.at - x.at)) y.len) else range x.at
+    (min x.len (y.len - (x.at - y.at)))
 
 -- of the first of these ranges that has bytes in common with another one, these
 abbrev pub first_common : List Range → Range → Option Range
 first_common [] y = None
 first_common (x ∷ xs) y = if nat_lt 0 (common x y).len then Some (common x y) else first_common xs y
 
--- the first run of bytes by which two footprints conflict in this way: which the first writes and the second reads; which both write; which the
--- first reads and the second writes
+-- the first run of bytes by which two footprints conflict in this way: which the first writes and the second reads;
+-- which both write; which the first reads and the second writes
 abbrev pub run_of : Kind → Footprint → Footprint → Option Range
 run_of kind.WriteRead p r = first_common r.reads p.write
 run_of kind.WriteWrite p r = first_common (p.write ∷ []) r.write
@@ -29,7 +30,8 @@ run_of kind.ReadWrite p r = first_common p.reads r.write
 -- where the byte of a number lies, when the buffers are laid end to end
 abbrev pub spot_of : List Bytes → ℕ → Option Spot
 spot_of [] n = None
-spot_of (b ∷ bs) n = if nat_lt n (length b.bytes) then Some (record { name = b.name; at = b.at; offset = n }) else spot_of bs (n - length b.bytes)
+spot_of (b ∷ bs) n = if nat_lt n (length b.bytes) then Some
+    (record { name = b.name; at = b.at; offset = n }) else spot_of bs (n - length b.bytes)
 
 abbrev pub run_at : JobValue → Option Range → Option Run
 run_at job None = None

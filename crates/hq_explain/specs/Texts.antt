@@ -1,5 +1,6 @@
 -- The lines of an explanation, as texts of values.
-use Rattle.std.specs.Prelude.{ℕ, ◌+◌, Bool, ◌||◌, if◌then◌else◌, List, [], ◌++◌, Option, Some, None, is_some, codes, slice_get}
+use Rattle.std.specs.Prelude.{ℕ, ◌+◌, Bool, ◌||◌, if◌then◌else◌, List, [], ◌++◌, Option, Some, None, is_some, codes}
+use Rattle.std.specs.Prelude.{slice_get}
 use Rattle.std.specs.Fmt.{decimal}
 use Rattle.hq_packet.specs.declared.packet.Scope.{Scope}
 use Rattle.hq_job.specs.Value.{JobValue}
@@ -98,7 +99,8 @@ abbrev pub kind_text : Kind → ℕ → ℕ → Option Run → List ℕ
 kind_text kind p r None = []
 kind_text kind p r (Some run) = kind_words kind p r ++ bytes_text run.len run.spot ++ codes "\n"
 
--- the line of this kind of conflict of p with r, p first, where there is such a conflict: the first run of bytes that both touch so
+-- the line of this kind of conflict of p with r, p first, where there is such a conflict: the first run of bytes
+-- that both touch so
 abbrev pub kind_line : JobValue → Kind → ℕ → ℕ → List ℕ
 kind_line job kind p r = kind_text kind p r (run_between job kind p r)
 

@@ -19,8 +19,8 @@ use hq_order::bits::{WORDS, empty, has};
 use hq_packet::Scope;
 use std::alloc::Global;
 
-/// What of a packet would order two packets, by itself: its barrier bit, once it is set; the least scope of its acquire fence; and that of
-/// its release fence.
+/// What of a packet would order two packets, by itself: its barrier bit, once it is set; the least scope of its
+/// acquire fence; and that of its release fence.
 #[derive(Clone, Copy, Debug, PartialEq, Eq)]
 pub struct Advice {
     pub bit: bool,
@@ -70,7 +70,8 @@ fn push(list: &mut Vec<Advice>, advice: Advice) -> Result<(), ExplainFault>
     Ok(())
 }
 
-/// Puts behind an empty list what of each packet would order a and b by itself, where `bits` has the packets whose bit would.
+/// Puts behind an empty list what of each packet would order a and b by itself, where `bits` has the packets whose
+/// bit would.
 fn advise(
     mut trial: Trial,
     job: &Job,

@@ -1,6 +1,7 @@
 //! Which barrier bits order two packets.
 
-ghost use Rattle.std.specs.Prelude.{◌≡◌, ◌↔◌, ◌&&◌, ◌||◌, ◌==◌, not, ℕ, ◌+◌, ◌-◌, ◌/◌, ◌<◌, ◌≤◌, IsTrue, IfOk, IfErr, OnOk, length};
+ghost use Rattle.std.specs.Prelude.{◌≡◌, ◌↔◌, ◌&&◌, ◌||◌, ◌==◌, not, ℕ, ◌+◌, ◌-◌, ◌/◌, ◌<◌, ◌≤◌, IsTrue, IfOk};
+ghost use Rattle.std.specs.Prelude.{IfErr, OnOk, length};
 ghost use Rattle.hq_job.specs.Plan.{plan};
 ghost use Rattle.hq_model.specs.Job.{Job as Plan, IsPacket};
 ghost use Rattle.hq_model.specs.Settings.{head_at};
@@ -54,7 +55,8 @@ fn bits_order(
     requires rising { lo ≤ hi }
     requires few { hi ≤ length job.now.packets }
     ensures memory { IfErr result (λ e. e ≡ Memory) }
-    ensures ordered { IfOk result (λ yes. (k : Plan) × HasBits (plan job.now) k lo hi × (IsTrue yes ↔ ShownOneWay k a b)) }
+    ensures ordered { IfOk result
+        (λ yes. (k : Plan) × HasBits (plan job.now) k lo hi × (IsTrue yes ↔ ShownOneWay k a b)) }
 {
     let mut copy = job.copy(alloc)?;
     set_bits(&mut copy, lo, hi);
@@ -74,8 +76,8 @@ fn note(job: &Job, p: usize, set: &mut [u64])
     }
 }
 
-/// Notes the packets from `lo` up to `hi` whose barrier bit alone, once it is set, orders a and b. Where all these bits together don't,
-/// none does.
+/// Notes the packets from `lo` up to `hi` whose barrier bit alone, once it is set, orders a and b. Where all these
+/// bits together don't, none does.
 pub fn note_bits(
     alloc: Global,
     job: &Job,

@@ -5,7 +5,8 @@ ghost use Rattle.std.specs.List.{list_any};
 ghost use Rattle.std.specs.Io.KnownBytes.{Appends};
 ghost use Rattle.hq_graph.specs.Graph.{Each, Is, Wrote};
 ghost use Rattle.hq_explain.specs.Explain.{AdviceText};
-ghost use Rattle.hq_explain.specs.Texts.{acquire_line, advice_lines, advice_there, bit_line, changes_title, is_some_advice, no_change, release_line};
+ghost use Rattle.hq_explain.specs.Texts.{acquire_line, advice_lines, advice_there, bit_line, changes_title};
+ghost use Rattle.hq_explain.specs.Texts.{is_some_advice, no_change, release_line};
 
 use crate::advice::Advice;
 use hq_packet::Scope;
@@ -112,7 +113,8 @@ fn write_lines<W: Write>(writer: &mut W, p: usize, advice: Advice) -> io::Result
 
 /// Writes what of packet p would order them, if that is said.
 fn write_one<W: Write>(writer: &mut W, list: &[Advice], p: usize) -> io::Result<()>
-    ensures { OnOk result (Appends (W.contents writer.old) (W.contents writer.new) (advice_there p (slice_get list.now p))) }
+    ensures { OnOk result
+        (Appends (W.contents writer.old) (W.contents writer.new) (advice_there p (slice_get list.now p))) }
 {
     match list.get(p) {
         Some(advice) => write_lines(writer, p, *advice),
@@ -122,7 +124,9 @@ fn write_one<W: Write>(writer: &mut W, list: &[Advice], p: usize) -> io::Result<
 
 /// Writes what of each packet would order them.
 fn write_each<W: Write>(writer: &mut W, list: &[Advice]) -> io::Result<()>
-    ensures { OnOk result (Wrote (W.contents writer.old) (W.contents writer.new) (Each (λ p. Is (advice_there p (slice_get list.now p))) (length list.now))) }
+    ensures { OnOk result
+        (Wrote (W.contents writer.old) (W.contents writer.new)
+        (Each (λ p. Is (advice_there p (slice_get list.now p))) (length list.now))) }
 {
     for p in 0..list.len() {
         write_one(writer, list, p)?;
@@ -132,7 +136,8 @@ fn write_each<W: Write>(writer: &mut W, list: &[Advice]) -> io::Result<()>
 
 /// Writes what opens the changes, or that there are none.
 fn write_title<W: Write>(writer: &mut W, any: bool) -> io::Result<()>
-    ensures { OnOk result (Appends (W.contents writer.old) (W.contents writer.new) (if any then changes_title else no_change)) }
+    ensures { OnOk result
+        (Appends (W.contents writer.old) (W.contents writer.new) (if any then changes_title else no_change)) }
 {
     if any {
         writer.write_all(b"  any one of these would order them:\n")

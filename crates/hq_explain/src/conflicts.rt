@@ -2,8 +2,10 @@
 
 ghost use Rattle.std.specs.Prelude.{◌≡◌, OnOk, Some};
 ghost use Rattle.std.specs.Io.KnownBytes.{Appends};
-ghost use Rattle.hq_explain.specs.Texts.{acquire_text, bytes_text, hows_of, how_text, kind_line, kind_text, kind_words, kinds_text};
-ghost use Rattle.hq_explain.specs.Texts.{no_hows, offset_text, part_text, release_text, rw_how, spot_text, two_acquires, two_releases, ww_how, wr_how};
+ghost use Rattle.hq_explain.specs.Texts.{acquire_text, bytes_text, hows_of, how_text, kind_line, kind_text};
+ghost use Rattle.hq_explain.specs.Texts.{kind_words, kinds_text};
+ghost use Rattle.hq_explain.specs.Texts.{no_hows, offset_text, part_text, release_text, rw_how, spot_text};
+ghost use Rattle.hq_explain.specs.Texts.{two_acquires, two_releases, ww_how, wr_how};
 
 use crate::sharing::{Run, Spot, run_between};
 use hq_fence::{Acquire, Kind, Release, Shown};
@@ -164,7 +166,8 @@ impl fmt::Display for AcquireText {
     }
 }
 
-/// How a kind of conflict is ordered: by fences that release and acquire, by fences that release, without a fence; or that isn't told.
+/// How a kind of conflict is ordered: by fences that release and acquire, by fences that release, without a fence;
+/// or that isn't told.
 #[derive(Clone, Copy, Debug)]
 pub enum How {
     Acquired(Release, Acquire),

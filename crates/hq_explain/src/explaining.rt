@@ -60,7 +60,9 @@ fn explain_stuck<W: Write>(
 ) -> Result<Found, ExplainFault>
     requires tells { TellsStuck (plan job.now) stuck.now }
     requires some { IsTrue stuck.now.some }
-    ensures explained { IfOk result (λ found. Wrote (W.contents writer.old) (W.contents writer.new) (Explained job.now (plan job.now) which found)) }
+    ensures explained { IfOk result
+        (λ found. Wrote (W.contents writer.old) (W.contents writer.new)
+        (Explained job.now (plan job.now) which found)) }
     ensures writer { IfErr result (λ e. e ≢ Memory) }
 {
     write_stuck(writer, job, stuck)?;
@@ -75,9 +77,11 @@ fn explain_pairs<W: Write>(
     all: bool,
 ) -> Result<Found, ExplainFault>
     requires order { HasOrder (plan job.now) }
-    ensures explained { IfOk result (λ found. Wrote (W.contents writer.old) (W.contents writer.new) (AllText job.now (plan job.now) all)) }
+    ensures explained { IfOk result
+        (λ found. Wrote (W.contents writer.old) (W.contents writer.new) (AllText job.now (plan job.now) all)) }
     ensures found { IfOk result (IsFound (plan job.now)) }
-    ensures broken { IfErr result (λ e. e ≡ Memory → Wrote (W.contents writer.old) (W.contents writer.new) (Broken job.now (plan job.now))) }
+    ensures broken { IfErr result
+        (λ e. e ≡ Memory → Wrote (W.contents writer.old) (W.contents writer.new) (Broken job.now (plan job.now))) }
 {
     let before = Before::build(alloc, job)?;
     let parts = Parts::build(alloc, job)?;
@@ -126,7 +130,8 @@ fn explain_pair<W: Write>(
     p: usize,
     r: usize,
 ) -> Result<Found, ExplainFault>
-    ensures said { IfOk result (λ found. Wrote (W.contents writer.old) (W.contents writer.new) (PairSaid job.now (plan job.now) p r found)) }
+    ensures said { IfOk result
+        (λ found. Wrote (W.contents writer.old) (W.contents writer.new) (PairSaid job.now (plan job.now) p r found)) }
     ensures unwritten { IfErr result (λ e. e ≡ Memory → writer.new ≡ writer.old) }
 {
     let before = Before::build(alloc, job)?;
@@ -150,8 +155,11 @@ fn explain_which<W: Write>(
     which: Which,
 ) -> Result<Found, ExplainFault>
     requires order { HasOrder (plan job.now) }
-    ensures explained { IfOk result (λ found. Wrote (W.contents writer.old) (W.contents writer.new) (Explained job.now (plan job.now) which found)) }
-    ensures broken { IfErr result (λ e. e ≡ Memory → Wrote (W.contents writer.old) (W.contents writer.new) (Broken job.now (plan job.now))) }
+    ensures explained { IfOk result
+        (λ found. Wrote (W.contents writer.old) (W.contents writer.new)
+        (Explained job.now (plan job.now) which found)) }
+    ensures broken { IfErr result
+        (λ e. e ≡ Memory → Wrote (W.contents writer.old) (W.contents writer.new) (Broken job.now (plan job.now))) }
 {
     match which {
         Which::First => explain_pairs(alloc, writer, job, false),
@@ -160,8 +168,8 @@ fn explain_which<W: Write>(
     }
 }
 
-/// Writes why the conflicts of a job are ordered, or aren't, and which single changes would order those; answers what an audit would find,
-/// of a single pair what it would find of that.
+/// Writes why the conflicts of a job are ordered, or aren't, and which single changes would order those; answers
+/// what an audit would find, of a single pair what it would find of that.
 ///
 /// # Errors
 ///
@@ -172,8 +180,11 @@ pub fn explain<W: Write>(
     job: &Job,
     which: Which,
 ) -> Result<Found, ExplainFault>
-    ensures explained { IfOk result (λ found. Wrote (W.contents writer.old) (W.contents writer.new) (Explained job.now (plan job.now) which found)) }
-    ensures broken { IfErr result (λ e. e ≡ Memory → Wrote (W.contents writer.old) (W.contents writer.new) (Broken job.now (plan job.now))) }
+    ensures explained { IfOk result
+        (λ found. Wrote (W.contents writer.old) (W.contents writer.new)
+        (Explained job.now (plan job.now) which found)) }
+    ensures broken { IfErr result
+        (λ e. e ≡ Memory → Wrote (W.contents writer.old) (W.contents writer.new) (Broken job.now (plan job.now))) }
 {
     let stuck = stuck_in(alloc, job)?;
     if stuck.some {

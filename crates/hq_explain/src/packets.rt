@@ -2,7 +2,8 @@
 
 ghost use Rattle.std.specs.Prelude.{◌≡◌, OnOk, Some, slice_get};
 ghost use Rattle.std.specs.Io.KnownBytes.{Appends};
-ghost use Rattle.hq_explain.specs.Texts.{head_text, ordered_text, packet_line, packet_text, place_text, standing_of, standing_text, title};
+ghost use Rattle.hq_explain.specs.Texts.{head_text, ordered_text, packet_line, packet_text, place_text};
+ghost use Rattle.hq_explain.specs.Texts.{standing_of, standing_text, title};
 
 use hq_graph::{Work, place_of, work_of};
 use hq_job::{Job, Queue};

@@ -62,8 +62,8 @@ fn write_why<W: Write>(writer: &mut W, why: Why, p: usize, r: usize) -> io::Resu
     write!(writer, "{line}")
 }
 
-/// Writes of two packets that are ordered how they conflict, by which fences each kind of conflict is ordered, and why the first comes before
-/// the second.
+/// Writes of two packets that are ordered how they conflict, by which fences each kind of conflict is ordered, and
+/// why the first comes before the second.
 fn write_ordered<W: Write>(
     writer: &mut W,
     job: &Job,
@@ -72,7 +72,8 @@ fn write_ordered<W: Write>(
     b: usize,
     directed: Directed,
 ) -> io::Result<()>
-    ensures { OnOk result (Wrote (W.contents writer.old) (W.contents writer.new) (OrderedText job.now before.now a b directed)) }
+    ensures { OnOk result
+        (Wrote (W.contents writer.old) (W.contents writer.new) (OrderedText job.now before.now a b directed)) }
 {
     write_head(writer, job, a, b, true)?;
     write_kinds(
@@ -85,7 +86,8 @@ fn write_ordered<W: Write>(
     write_path(writer, job, before, directed.first, directed.second)
 }
 
-/// Writes of two packets that aren't ordered how they conflict, why the first comes before the second, if it does, and what lacks.
+/// Writes of two packets that aren't ordered how they conflict, why the first comes before the second, if it does,
+/// and what lacks.
 fn write_lack<W: Write>(
     writer: &mut W,
     job: &Job,
@@ -94,7 +96,8 @@ fn write_lack<W: Write>(
     b: usize,
     unshown: Unshown,
 ) -> io::Result<()>
-    ensures { OnOk result (Wrote (W.contents writer.old) (W.contents writer.new) (LackText job.now before.now a b unshown)) }
+    ensures { OnOk result
+        (Wrote (W.contents writer.old) (W.contents writer.new) (LackText job.now before.now a b unshown)) }
 {
     let p = unshown.p as usize;
     let r = unshown.r as usize;
@@ -115,7 +118,8 @@ fn write_open<W: Write>(
     list: &[Advice],
 ) -> io::Result<()>
     requires { AreAdvice before.now a b list.now }
-    ensures { OnOk result (Wrote (W.contents writer.old) (W.contents writer.new) (OpenText job.now before.now a b unshown)) }
+    ensures { OnOk result
+        (Wrote (W.contents writer.old) (W.contents writer.new) (OpenText job.now before.now a b unshown)) }
 {
     write_lack(writer, job, before, a, b, unshown)?;
     write_changes(writer, list)
@@ -134,7 +138,8 @@ fn write_unordered<W: Write>(
     requires same { before.now ≡ plan job.now }
     requires a_is { a < length before.now.packets }
     requires b_is { b < length before.now.packets }
-    ensures open { OnOk result (Wrote (W.contents writer.old) (W.contents writer.new) (OpenText job.now before.now a b unshown)) }
+    ensures open { OnOk result
+        (Wrote (W.contents writer.old) (W.contents writer.new) (OpenText job.now before.now a b unshown)) }
     ensures unwritten { IfErr result (λ e. e ≡ Memory → writer.new ≡ writer.old) }
 {
     let list = advice_on(alloc, job, a, b)?;
@@ -142,7 +147,8 @@ fn write_unordered<W: Write>(
     Ok(())
 }
 
-/// Writes what is to be said of two packets, and answers whether they are ordered. Where there is no memory nothing was written.
+/// Writes what is to be said of two packets, and answers whether they are ordered. Where there is no memory nothing
+/// was written.
 pub fn write_pair<W: Write>(
     alloc: Global,
     writer: &mut W,
@@ -154,7 +160,8 @@ pub fn write_pair<W: Write>(
     requires same { before.now ≡ plan job.now }
     requires a_is { a < length before.now.packets }
     requires b_is { b < length before.now.packets }
-    ensures said { IfOk result (λ ordered. Wrote (W.contents writer.old) (W.contents writer.new) (PairText job.now before.now a b ordered)) }
+    ensures said { IfOk result
+        (λ ordered. Wrote (W.contents writer.old) (W.contents writer.new) (PairText job.now before.now a b ordered)) }
     ensures unwritten { IfErr result (λ e. e ≡ Memory → writer.new ≡ writer.old) }
 {
     match direct(before, a, b) {

@@ -161,7 +161,9 @@ pub fn write_path<W: Write>(
     p: usize,
     r: usize,
 ) -> io::Result<()>
-    ensures { OnOk result (Wrote (W.contents writer.old) (W.contents writer.new) (Where (order.Before before.now p r) (PathText job.now before.now p r))) }
+    ensures { OnOk result
+        (Wrote (W.contents writer.old) (W.contents writer.new)
+        (Where (order.Before before.now p r) (PathText job.now before.now p r))) }
 {
     if before.holds(p, r) {
         write_there(writer, job, before, p, r)

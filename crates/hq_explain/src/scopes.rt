@@ -67,7 +67,8 @@ impl Trial {
         }
     }
 
-    /// Whether all conflicts of a and b are ordered, in one direction, once packet p has this head, which has the bit as it was.
+    /// Whether all conflicts of a and b are ordered, in one direction, once packet p has this head, which has the
+    /// bit as it was.
     fn is_ordered(self, job: &Job, a: usize, b: usize, p: usize, head: Head) -> (bool, Trial)
         requires trial { IsTrial (plan job.now) self }
         requires a_is { IsPacket (plan job.now) a }
@@ -86,7 +87,8 @@ impl Trial {
         (ordered, Trial { copy, rounds })
     }
 
-    /// Whether this scope of this fence of packet p reaches farther than the one that is there, and alone orders a and b.
+    /// Whether this scope of this fence of packet p reaches farther than the one that is there, and alone orders a
+    /// and b.
     fn orders(
         self,
         job: &Job,

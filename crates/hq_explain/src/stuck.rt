@@ -63,7 +63,8 @@ fn wait_of(job: &Job, stuck: &Stuck, r: usize) -> Option<(usize, Wait)>
     requires some { IsTrue stuck.now.some }
     requires r_is { IsPacket (plan job.now) r }
     requires stuck { order.Stuck (plan job.now) r }
-    ensures { MatchOption result ((p : ℕ) (by : By) → p < length job.now.packets → ¬ Awaits (plan job.now) p r by) (λ w. Awaits (plan job.now) w.0 r w.1) }
+    ensures { MatchOption result ((p : ℕ) (by : By) → p < length job.now.packets → ¬ Awaits (plan job.now) p r by)
+        (λ w. Awaits (plan job.now) w.0 r w.1) }
 {
     for p in 0..job.packets().len() {
         if let Some(by) = wait_at(job, stuck, p, r) {

@@ -5,7 +5,8 @@ ghost use Rattle.std.specs.Io.KnownBytes.{Appends};
 ghost use Rattle.hq_job.specs.Plan.{plan};
 ghost use Rattle.hq_model.specs.Job.{IsPacket};
 ghost use Rattle.hq_graph.specs.Graph.{Wrote};
-ghost use Rattle.hq_explain.specs.Told.{AllText, Broken, IsPair, PairTold, RowBroken, RowTold, Told, closing_text, is_told};
+ghost use Rattle.hq_explain.specs.Told.{AllText, Broken, IsPair, PairTold, RowBroken, RowTold, Told, closing_text};
+ghost use Rattle.hq_explain.specs.Told.{is_told};
 ghost use Rattle.hq_explain.specs.declared.fault.ExplainFault.TheVariants.{Memory};
 
 use crate::fault::ExplainFault;
@@ -51,7 +52,9 @@ fn tell_if<W: Write>(
     requires a_is { IsPacket before.now a }
     requires b_is { IsPacket before.now b }
     requires pair { IsPair before.now a b }
-    ensures told { OnOk result (Wrote (W.contents writer.old) (W.contents writer.new) (PairTold job.now before.now all a b count (count + 1))) }
+    ensures told { OnOk result
+        (Wrote (W.contents writer.old) (W.contents writer.new)
+        (PairTold job.now before.now all a b count (count + 1))) }
     ensures unwritten { IfErr result (λ e. e ≡ Memory → writer.new ≡ writer.old) }
 {
     if !is_told(all, count) {
@@ -77,7 +80,8 @@ fn tell_pair<W: Write>(
     requires b_is { IsPacket before.now b }
     requires few { count < 1048576 }
     ensures more { IfOk result (λ n. n ≤ count + 1) }
-    ensures told { IfOk result (λ n. Wrote (W.contents writer.old) (W.contents writer.new) (PairTold job.now before.now all a b count n)) }
+    ensures told { IfOk result
+        (λ n. Wrote (W.contents writer.old) (W.contents writer.new) (PairTold job.now before.now all a b count n)) }
     ensures unwritten { IfErr result (λ e. e ≡ Memory → writer.new ≡ writer.old) }
 {
     if !is_pair(before, a, b) {
@@ -101,8 +105,12 @@ fn tell_row<W: Write>(
     requires a_is { IsPacket before.now a }
     requires few { count ≤ a * 1024 }
     ensures more { IfOk result (λ n. n ≤ count + 1024) }
-    ensures told { IfOk result (λ n. Wrote (W.contents writer.old) (W.contents writer.new) (RowTold job.now before.now all a count (length before.now.packets) n)) }
-    ensures broken { IfErr result (λ e. e ≡ Memory → Wrote (W.contents writer.old) (W.contents writer.new) (RowBroken job.now before.now all a count)) }
+    ensures told { IfOk result
+        (λ n. Wrote (W.contents writer.old) (W.contents writer.new)
+        (RowTold job.now before.now all a count (length before.now.packets) n)) }
+    ensures broken { IfErr result
+        (λ e. e ≡ Memory
+        → Wrote (W.contents writer.old) (W.contents writer.new) (RowBroken job.now before.now all a count)) }
 {
     job.valid();
     before.job().valid();
@@ -122,8 +130,11 @@ fn tell_rows<W: Write>(
     all: bool,
 ) -> Result<usize, ExplainFault>
     requires { before.now ≡ plan job.now }
-    ensures told { IfOk result (λ n. Wrote (W.contents writer.old) (W.contents writer.new) (Told job.now before.now all (length before.now.packets) 0 n)) }
-    ensures broken { IfErr result (λ e. e ≡ Memory → Wrote (W.contents writer.old) (W.contents writer.new) (Broken job.now before.now)) }
+    ensures told { IfOk result
+        (λ n. Wrote (W.contents writer.old) (W.contents writer.new)
+        (Told job.now before.now all (length before.now.packets) 0 n)) }
+    ensures broken { IfErr result
+        (λ e. e ≡ Memory → Wrote (W.contents writer.old) (W.contents writer.new) (Broken job.now before.now)) }
 {
     let mut count = 0;
     for a in 0..before.len() {
@@ -158,8 +169,10 @@ pub fn tell_all<W: Write>(
     all: bool,
 ) -> Result<(), ExplainFault>
     requires { before.now ≡ plan job.now }
-    ensures told { OnOk result (Wrote (W.contents writer.old) (W.contents writer.new) (AllText job.now before.now all)) }
-    ensures broken { IfErr result (λ e. e ≡ Memory → Wrote (W.contents writer.old) (W.contents writer.new) (Broken job.now before.now)) }
+    ensures told { OnOk result
+        (Wrote (W.contents writer.old) (W.contents writer.new) (AllText job.now before.now all)) }
+    ensures broken { IfErr result
+        (λ e. e ≡ Memory → Wrote (W.contents writer.old) (W.contents writer.new) (Broken job.now before.now)) }
 {
     let count = tell_rows(alloc, writer, job, before, all)?;
     write_closing(writer, all, count)?;

@@ -36,18 +36,20 @@ abbrev pub first_of : Acquire → ℕ
 first_of (acquire.Alone y) = y
 first_of (acquire.Chained y2 y) = y2
 
--- These fences release p to r: one alone that reaches as far as is needed; or, where that is to the system, one that releases
--- to the agent, and a later one on p's agent that releases to the system.
+-- These fences release p to r: one alone that reaches as far as is needed; or, where that is to the system, one
+-- that releases to the agent, and a later one on p's agent that releases to the system.
 abbrev pub IsRelease : Job → ℕ → ℕ → Release → Type 0
 IsRelease job p r (release.Alone x) = Releases job p x (need job p r)
 IsRelease job p r (release.Chained x x2) =
-    (need job p r ≡ scope.System) × Releases job p x scope.Agent × Before job x x2 × Forwards job p x2 (packet job x2).release
+    (need job p r ≡ scope.System) × Releases job p x scope.Agent × Before job x x2
+    × Forwards job p x2 (packet job x2).release
 
 -- These fences acquire for r from p, in the same way.
 abbrev pub IsAcquire : Job → ℕ → ℕ → Acquire → Type 0
 IsAcquire job p r (acquire.Alone y) = Acquires job r y (need job p r)
 IsAcquire job p r (acquire.Chained y2 y) =
-    (need job p r ≡ scope.System) × Forwards job r y2 (packet job y2).acquire × Before job y2 y × Acquires job r y scope.Agent
+    (need job p r ≡ scope.System) × Forwards job r y2 (packet job y2).acquire × Before job y2 y
+    × Acquires job r y scope.Agent
 
 -- These fences release p, and the last of them is before r.
 pub record ReleasesBefore (job : Job) (p r : ℕ) (fences : Release) : Type 0 where
@@ -87,13 +89,14 @@ rank kind.WriteRead = 0
 rank kind.WriteWrite = 1
 rank kind.ReadWrite = 2
 
--- This kind of conflict of p with r is there and isn't shown, for the reason given, and each kind ahead of it that is there is
--- shown.
+-- This kind of conflict of p with r is there and isn't shown, for the reason given, and each kind ahead of it that
+-- is there is shown.
 pub record IsNotShown (job : Job) (p r : ℕ) (not : NotShown) : Type 0 where
   pub conflicts : Conflicts job (conflict_of not.kind) p r
   pub not_shown : ¬ ShownFor job (conflict_of not.kind) p r
   pub reason : Reason job p r (why_of not.why)
-  pub ahead : (kind : Kind) → rank kind < rank not.kind → Conflicts job (conflict_of kind) p r → ShownFor job (conflict_of kind) p r
+  pub ahead : (kind : Kind) → rank kind < rank not.kind → Conflicts job (conflict_of kind) p r
+      → ShownFor job (conflict_of kind) p r
 
 -- whether a kind of conflict is among these
 abbrev pub flag_of : Kinds → Kind → Bool

@@ -11,10 +11,12 @@ pub record IsSpan (span : Span) : Type 0 where
 
 -- the number that comes in a turn, from 0
 abbrev pub number_at : Span → ℕ → ℕ
-number_at span turn = if nat_lt (span.first + turn) span.end then span.first + turn else span.first + turn - (span.end - span.start)
+number_at span turn = if nat_lt
+    (span.first + turn) span.end then span.first + turn else span.first + turn - (span.end - span.start)
 
 -- The numbers are those of the packets of p's queue.
 pub record IsQueueOf (job : Job) (p : ℕ) (span : Span) : Type 0 where
   pub is_span : IsSpan span
-  pub packets : (x : ℕ) → IsPacket job x → (packet job x).queue ≡ (packet job p).queue → (span.start ≤ x) × (x < span.end)
+  pub packets : (x : ℕ) → IsPacket job x → (packet job x).queue ≡ (packet job p).queue
+      → (span.start ≤ x) × (x < span.end)
   pub only : (x : ℕ) → span.start ≤ x → x < span.end → IsPacket job x × ((packet job x).queue ≡ (packet job p).queue)

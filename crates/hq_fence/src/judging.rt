@@ -1,10 +1,12 @@
 //! The judgement of two packets.
 
-ghost use Rattle.std.specs.Prelude.{◌≡◌, false, ◌<◌, ◌↔◌, IsTrue, IsOk, IsSome, IfOk, IfErr, IfSome, MatchOption, length};
+ghost use Rattle.std.specs.Prelude.{◌≡◌, false, ◌<◌, ◌↔◌, IsTrue, IsOk, IsSome, IfOk, IfErr, IfSome, MatchOption};
+ghost use Rattle.std.specs.Prelude.{length};
 ghost use Rattle.hq_model.specs.Job.{IsPacket};
 ghost use Rattle.hq_model.specs.Order as order;
 ghost use Rattle.hq_model.specs.Fence as model;
-ghost use Rattle.hq_fence.specs.Judgement.{HaveConflict, ReleasesBefore, ReleasesToAcquire, Shows, IsNotShown, flag_of, IsFirstKind};
+ghost use Rattle.hq_fence.specs.Judgement.{HaveConflict, ReleasesBefore, ReleasesToAcquire, Shows, IsNotShown};
+ghost use Rattle.hq_fence.specs.Judgement.{flag_of, IsFirstKind};
 ghost use Rattle.hq_fence.specs.declared.shown.Kind as shown;
 
 use crate::fences::{need, releases};
@@ -102,7 +104,8 @@ fn judge_wr(
     })
 }
 
-/// Whether the conflict by two writes is shown, where p is before r, there is such a conflict, and that ahead of it is shown.
+/// Whether the conflict by two writes is shown, where p is before r, there is such a conflict, and that ahead of it
+/// is shown.
 #[inline(always)]
 fn judge_ww(before: &Before, p: usize, r: usize, there: bool) -> Result<Option<Release>, NotShown>
     requires p_is { IsPacket before.now p }
@@ -126,8 +129,8 @@ fn judge_ww(before: &Before, p: usize, r: usize, there: bool) -> Result<Option<R
     }
 }
 
-/// Judges the conflicts of packet `p` with packet `r`, `p` first: answers the fences that order each kind of conflict that there
-/// is, or the first kind that isn't ordered, in the order of `Kind`, and why. Takes no memory.
+/// Judges the conflicts of packet `p` with packet `r`, `p` first: answers the fences that order each kind of
+/// conflict that there is, or the first kind that isn't ordered, in the order of `Kind`, and why. Takes no memory.
 pub fn judge(before: &Before, p: usize, r: usize) -> Result<Shown, NotShown>
     requires p_is { p < length before.now.packets }
     requires r_is { r < length before.now.packets }

@@ -1,9 +1,10 @@
 //! Whether the conflicts of two packets are ordered, and by which fences.
 //!
-//! `judge` answers for two packets, the first before the second. It takes the first release and the first acquire by one packet
-//! each that serve. Where there are none, and system scope is needed, chains serve too: then it takes the first packet that
-//! releases, in its queue from the first of the two on, and of the packets that end that chain, begin the other and end that, in
-//! this order, the ones of the least numbers. `have_conflict` says whether two packets conflict at all.
+//! `judge` answers for two packets, the first before the second. It takes the first release and the first acquire
+//! by one packet each that serve. Where there are none, and system scope is needed, chains serve too: then it takes
+//! the first packet that releases, in its queue from the first of the two on, and of the packets that end that
+//! chain, begin the other and end that, in this order, the ones of the least numbers. `have_conflict` says whether
+//! two packets conflict at all.
 #![tactic(auto)]
 
 mod fences;

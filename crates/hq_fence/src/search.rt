@@ -111,7 +111,8 @@ impl<'b, 'a> Search<'b, 'a> {
     #[inline(always)]
     fn acquire_alone(&self, needed: Scope, other: usize) -> Option<usize>
         requires { IsAsked self.now }
-        ensures exact { MatchOption result ((y : ℕ) → ¬ FenceAfter self.now needed other y) (FenceAfter self.now needed other) }
+        ensures exact { MatchOption result ((y : ℕ) → ¬ FenceAfter self.now needed other y)
+            (FenceAfter self.now needed other) }
         ensures small { IfSome result (λ y. y < 1024) }
     {
         let span = self.queue_of_r.behind(other);
@@ -129,7 +130,9 @@ impl<'b, 'a> Search<'b, 'a> {
         requires asked { IsAsked self.now }
         requires m_is { IsPacket self.now.before.now m }
         requires system { self.now.needed ≡ scope.System }
-        ensures { MatchOption result ((fences : shown.Acquire) → first_of fences ≡ m → ¬ Follows self.now form.Any other fences) (Follows self.now form.Any other) }
+        ensures { MatchOption result
+            ((fences : shown.Acquire) → first_of fences ≡ m → ¬ Follows self.now form.Any other fences)
+            (Follows self.now form.Any other) }
     {
         if !forwards_acquire(self.before, self.r, m) || !self.before.holds(other, m) {
             return None;
@@ -149,7 +152,8 @@ impl<'b, 'a> Search<'b, 'a> {
     fn any_acquire(&self, other: usize) -> Option<Acquire>
         requires asked { IsAsked self.now }
         requires system { self.now.needed ≡ scope.System }
-        ensures { MatchOption result ((fences : shown.Acquire) → ¬ Follows self.now form.Any other fences) (Follows self.now form.Any other) }
+        ensures { MatchOption result ((fences : shown.Acquire) → ¬ Follows self.now form.Any other fences)
+            (Follows self.now form.Any other) }
     {
         for y2 in 0..self.before.len() {
             if let Some(fences) = self.acquire_at(other, y2) {
@@ -171,7 +175,8 @@ impl<'b, 'a> Search<'b, 'a> {
     #[inline(always)]
     fn acquire(&self, other: usize) -> Option<Acquire>
         requires { IsAsked self.now }
-        ensures { MatchOption result ((fences : shown.Acquire) → ¬ Follows self.now self.now.form other fences) (Follows self.now self.now.form other) }
+        ensures { MatchOption result ((fences : shown.Acquire) → ¬ Follows self.now self.now.form other fences)
+            (Follows self.now self.now.form other) }
     {
         if self.allows_chains() {
             return self.any_acquire(other);
@@ -211,7 +216,9 @@ impl<'b, 'a> Search<'b, 'a> {
         requires system { self.now.needed ≡ scope.System }
         requires any { self.now.form ≡ form.Any }
         requires releases { Releases self.now.before.now self.now.p x scope.Agent }
-        ensures { MatchOption result ((fences : released.Release) (end : search.Ending) → begin_of fences ≡ x → end_of fences ≡ x2 → ¬ Finds self.now self.now.form fences end) (λ a. Finds self.now self.now.form a.0 a.1) }
+        ensures { MatchOption result
+            ((fences : released.Release) (end : search.Ending) → begin_of fences ≡ x → end_of fences ≡ x2
+            → ¬ Finds self.now self.now.form fences end) (λ a. Finds self.now self.now.form a.0 a.1) }
     {
         if !forwards_release(self.before, self.p, x2) || !self.can_follow(x, x2) {
             return None;
@@ -234,7 +241,9 @@ impl<'b, 'a> Search<'b, 'a> {
         requires system { self.now.needed ≡ scope.System }
         requires any { self.now.form ≡ form.Any }
         requires releases { Releases self.now.before.now self.now.p x scope.Agent }
-        ensures { MatchOption result ((fences : released.Release) (end : search.Ending) → begin_of fences ≡ x → ¬ Finds self.now self.now.form fences end) (λ a. Finds self.now self.now.form a.0 a.1) }
+        ensures { MatchOption result
+            ((fences : released.Release) (end : search.Ending) → begin_of fences ≡ x
+            → ¬ Finds self.now self.now.form fences end) (λ a. Finds self.now self.now.form a.0 a.1) }
     {
         for x2 in 0..self.before.len() {
             if let Some(found) = self.release_at(x, x2) {
@@ -249,7 +258,8 @@ impl<'b, 'a> Search<'b, 'a> {
     fn alone_from(&self, x: usize) -> Option<Ending>
         requires asked { IsAsked self.now }
         requires x_is { IsPacket self.now.before.now x }
-        ensures { MatchOption result ((end : search.Ending) → ¬ Finds self.now self.now.form (release.Alone x) end) (Finds self.now self.now.form (release.Alone x)) }
+        ensures { MatchOption result ((end : search.Ending) → ¬ Finds self.now self.now.form (release.Alone x) end)
+            (Finds self.now self.now.form (release.Alone x)) }
     {
         if releases(self.before, self.p, x, self.needed) {
             self.ending(x)
@@ -263,7 +273,9 @@ impl<'b, 'a> Search<'b, 'a> {
     fn release_from(&self, x: usize) -> Option<(Release, Ending)>
         requires asked { IsAsked self.now }
         requires x_is { IsPacket self.now.before.now x }
-        ensures { MatchOption result ((fences : released.Release) (end : search.Ending) → begin_of fences ≡ x → ¬ Finds self.now self.now.form fences end) (λ a. Finds self.now self.now.form a.0 a.1) }
+        ensures { MatchOption result
+            ((fences : released.Release) (end : search.Ending) → begin_of fences ≡ x
+            → ¬ Finds self.now self.now.form fences end) (λ a. Finds self.now self.now.form a.0 a.1) }
     {
         if !self.allows_chains() {
             return match self.alone_from(x) {
@@ -278,11 +290,14 @@ impl<'b, 'a> Search<'b, 'a> {
         }
     }
 
-    /// The first release after which comes what is asked for, and that. There is none where that doesn't come after p itself.
+    /// The first release after which comes what is asked for, and that. There is none where that doesn't come after
+    /// p itself.
     #[inline(always)]
     fn release(&self) -> Option<(Release, Ending)>
         requires { IsAsked self.now }
-        ensures { MatchOption result ((fences : released.Release) (end : search.Ending) → ¬ Finds self.now self.now.form fences end) (λ a. Finds self.now self.now.form a.0 a.1) }
+        ensures { MatchOption result
+            ((fences : released.Release) (end : search.Ending) → ¬ Finds self.now self.now.form fences end)
+            (λ a. Finds self.now self.now.form a.0 a.1) }
     {
         if let Some(found) = self.release_from(self.p) {
             return Some(found);
@@ -304,7 +319,9 @@ impl<'b, 'a> Search<'b, 'a> {
     pub fn find(&self) -> Option<(Release, Ending)>
         requires asked { IsAsked self.now }
         requires plain { self.now.form ≡ form.Plain }
-        ensures { MatchOption result ((fences : released.Release) (end : search.Ending) → ¬ Finds self.now form.Any fences end) (λ a. Finds self.now form.Any a.0 a.1) }
+        ensures { MatchOption result
+            ((fences : released.Release) (end : search.Ending) → ¬ Finds self.now form.Any fences end)
+            (λ a. Finds self.now form.Any a.0 a.1) }
     {
         if let Some(found) = self.release() {
             return Some(found);

@@ -4,16 +4,16 @@ ghost use Rattle.std.specs.Prelude.{Some};
 
 use std::fmt;
 
-/// The packets whose release fences release `p`, by number: one alone; or one that releases to its agent, and a later one on
-/// that agent that releases to the system.
+/// The packets whose release fences release `p`, by number: one alone; or one that releases to its agent, and a
+/// later one on that agent that releases to the system.
 #[derive(Clone, Copy, Debug, PartialEq, Eq)]
 pub enum Release {
     Alone(u16),
     Chained(u16, u16),
 }
 
-/// The packets whose acquire fences acquire for `r`, by number: one alone; or one that acquires from the system, and a later one
-/// on the same agent that acquires from its agent.
+/// The packets whose acquire fences acquire for `r`, by number: one alone; or one that acquires from the system,
+/// and a later one on the same agent that acquires from its agent.
 #[derive(Clone, Copy, Debug, PartialEq, Eq)]
 pub enum Acquire {
     Alone(u16),
@@ -53,8 +53,8 @@ impl fmt::Display for Kind {
     }
 }
 
-/// Why a conflict isn't ordered: `p` isn't before `r`, `p` isn't released before `r`, or `r` acquires nothing after such a
-/// release.
+/// Why a conflict isn't ordered: `p` isn't before `r`, `p` isn't released before `r`, or `r` acquires nothing after
+/// such a release.
 #[derive(Clone, Copy, Debug, PartialEq, Eq)]
 pub enum Why {
     Unordered,

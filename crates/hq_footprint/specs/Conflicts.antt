@@ -7,9 +7,11 @@ use Rattle.hq_footprint.specs.Bytes.{read_entries, written_bytes, Share}
 
 -- One footprint writes a byte that the other reads or writes.
 abbrev pub Conflict : Footprint → Footprint → Type 0
-Conflict first second = Share (written_bytes first) (read_entries second) ⊎ (Share (written_bytes first) (written_bytes second) ⊎ Share (read_entries first) (written_bytes second))
+Conflict first second = Share (written_bytes first) (read_entries second)
+    ⊎ (Share (written_bytes first) (written_bytes second) ⊎ Share (read_entries first) (written_bytes second))
 
--- Each flag tells whether the footprints, in this order, share a byte that way: write then read, write then write, read then write.
+-- Each flag tells whether the footprints, in this order, share a byte that way: write then read, write then write,
+-- read then write.
 pub record HasKinds (first second : Footprint) (kinds : Kinds) : Type 0 where
   pub wr : IsTrue kinds.wr ↔ Share (written_bytes first) (read_entries second)
   pub ww : IsTrue kinds.ww ↔ Share (written_bytes first) (written_bytes second)

@@ -1,5 +1,6 @@
 -- Laws of ranges, conflicts and tasks, for the layers above.
-use Rattle.std.specs.Prelude.{◌≡◌, ◌≢◌, ℕ, ◌+◌, ◌<◌, ◌≤◌, ◌↔◌, ◌⊎◌, List, [], ◌∷◌, length, map, sum_by, slice_index_or, Some, All, Any, AllPairs, Contains}
+use Rattle.std.specs.Prelude.{◌≡◌, ◌≢◌, ℕ, ◌+◌, ◌<◌, ◌≤◌, ◌↔◌, ◌⊎◌, List, [], ◌∷◌, length, map, sum_by}
+use Rattle.std.specs.Prelude.{slice_index_or, Some, All, Any, AllPairs, Contains}
 use Rattle.hq_footprint.specs.declared.footprint.Range.{Range}
 use Rattle.hq_footprint.specs.declared.footprint.Footprint.{Footprint}
 use Rattle.hq_footprint.specs.declared.footprint.Work.{Work}
@@ -39,12 +40,14 @@ EntriesCounted = (foot : Footprint) → length (read_entries foot) ≡ sum_by (�
 
 -- a range with a byte lies within another exactly where the other has all its bytes
 abbrev pub WithinHasBytes : Type 0
-WithinHasBytes = (r outer : Range) → 0 < r.len → IsWithin r outer ↔ ((b : ℕ) → Contains (bytes_of r) b → Contains (bytes_of outer) b)
+WithinHasBytes = (r outer : Range) → 0 < r.len → IsWithin r outer
+    ↔ ((b : ℕ) → Contains (bytes_of r) b → Contains (bytes_of outer) b)
 
 -- each byte of a footprint whose ranges are inside some buffers is a byte of one of these
 abbrev pub InsideHasBytes : Type 0
 InsideHasBytes = (foot : Footprint) (buffers : List Range) → All (IsInside buffers) (ranges_of foot)
-    → (b : ℕ) → Contains (read_entries foot) b ⊎ Contains (written_bytes foot) b → Any (λ buffer. Contains (bytes_of buffer) b) buffers
+    → (b : ℕ) → Contains (read_entries foot) b ⊎ Contains (written_bytes foot) b
+    → Any (λ buffer. Contains (bytes_of buffer) b) buffers
 
 -- ---- conflicts
 
@@ -69,12 +72,14 @@ ResultsCounted = (t : Task) (n : ℕ) (bytes : List ℕ) → Suits t (length byt
 
 -- what it writes are bytes, where what it reads are
 abbrev pub ResultsAreBytes : Type 0
-ResultsAreBytes = (t : Task) (n : ℕ) (bytes : List ℕ) → ((b : ℕ) → t ≡ task.Fill b → b < 256) → All (λ b. b < 256) bytes → All (λ b. b < 256) (result_of t n bytes)
+ResultsAreBytes = (t : Task) (n : ℕ) (bytes : List ℕ) → ((b : ℕ) → t ≡ task.Fill b → b < 256) → All (λ b. b < 256) bytes
+    → All (λ b. b < 256) (result_of t n bytes)
 
 -- the lengths of a work's ranges are those that its task wants, of both read ranges together and of each
 pub record LengthsSuit (w : Work) : Type 0 where
   pub together : Suits w.task (length (read_entries w.foot)) (length (written_bytes w.foot))
-  pub each : (first second : Range) → w.foot.reads ≡ first ∷ second ∷ [] → SuitsTwo w.task first.len second.len w.foot.write.len
+  pub each : (first second : Range) → w.foot.reads ≡ first ∷ second ∷ []
+      → SuitsTwo w.task first.len second.len w.foot.write.len
 
 abbrev pub KernelsSuit : Type 0
 KernelsSuit = (code : Code) (n a b c : ℕ) → LengthsSuit (kernel_work code n a b c)

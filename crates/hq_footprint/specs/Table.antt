@@ -1,5 +1,6 @@
 -- The table of kernels and services: what each reads, writes and does.
-use Rattle.std.specs.Prelude.{ℕ, zero, suc, ◌+◌, ◌*◌, ◌%◌, List, [], ◌∷◌, slice_index, Option, Some, None, Bool, ◌||◌, ◌==◌, if◌then◌else◌}
+use Rattle.std.specs.Prelude.{ℕ, zero, suc, ◌+◌, ◌*◌, ◌%◌, List, [], ◌∷◌, slice_index, Option, Some, None, Bool}
+use Rattle.std.specs.Prelude.{◌||◌, ◌==◌, if◌then◌else◌}
 use Rattle.hq_footprint.specs.declared.footprint.Range.{Range}
 use Rattle.hq_footprint.specs.declared.footprint.Work.{Work}
 use Rattle.hq_footprint.specs.declared.task.Task.{Task}
@@ -58,7 +59,8 @@ store_work word ret = work nowhere nowhere (range ret 8) (task.Store64 word)
 
 -- how many of so many bytes equal one, written at the return address; with no bytes that is the word 0
 abbrev pub count_work : ℕ → ℕ → ℕ → ℕ → Work
-count_work at len byte ret = if len == 0 then store_work 0 ret else work (range at len) nowhere (range ret 8) (task.Count (byte % 256))
+count_work at len byte ret = if len == 0 then store_work 0 ret else work (range at len) nowhere (range ret 8)
+    (task.Count (byte % 256))
 
 -- the types of store64, count and nop
 abbrev pub is_service : ℕ → Bool
@@ -66,10 +68,13 @@ is_service kind = kind == 0x8000 || kind == 0x8001 || kind == 0x8002
 
 -- what each does, with its first three arguments
 abbrev pub service_work : ℕ → ℕ → ℕ → ℕ → ℕ → Work
-service_work kind a b c ret = if kind == 0x8000 then store_work a ret else (if kind == 0x8001 then count_work a b c ret else no_work)
+service_work kind a b c ret = if kind == 0x8000 then store_work a ret else
+    (if kind == 0x8001 then count_work a b c ret else no_work)
 
 -- a service with its four arguments; with a return address of 0 it does nothing. None where no service has the type
 abbrev pub service_call : ℕ → List ℕ → ℕ → Option Work
 service_call kind args ret =
-    if is_service kind then Some (if ret == 0 then no_work else service_work kind (slice_index args 0) (slice_index args 1) (slice_index args 2) ret)
+    if is_service kind then Some
+    (if ret == 0 then no_work else service_work kind (slice_index args 0) (slice_index args 1)
+    (slice_index args 2) ret)
     else None

@@ -1,5 +1,6 @@
 -- What a task writes of the bytes that were read.
-use Rattle.std.specs.Prelude.{◌≡◌, ℕ, zero, suc, ◌+◌, ◌/◌, ◌%◌, ◌^◌, List, [], ◌∷◌, take, drop, reverse, replicate, sum, count_by, ◌==◌, bit_xor}
+use Rattle.std.specs.Prelude.{◌≡◌, ℕ, zero, suc, ◌+◌, ◌/◌, ◌%◌, ◌^◌, List, [], ◌∷◌, take, drop, reverse, replicate}
+use Rattle.std.specs.Prelude.{sum, count_by, ◌==◌, bit_xor}
 use Rattle.hq_footprint.specs.declared.task.Task.{Task}
 use Rattle.hq_footprint.specs.declared.task.Task.TheVariants as task
 

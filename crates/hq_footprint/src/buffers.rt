@@ -15,7 +15,8 @@ fn all_fit(foot: &Footprint) -> bool
 
 /// Overflow where a range of the footprint passes the last address.
 pub(crate) fn check_fits(foot: &Footprint) -> Result<(), FootFault>
-    ensures { MatchResult result (λ _. All Fits (ranges_of foot.now)) (λ e. (e ≡ FootFault.Overflow) × Any Passes (ranges_of foot.now)) }
+    ensures { MatchResult result (λ _. All Fits (ranges_of foot.now))
+        (λ e. (e ≡ FootFault.Overflow) × Any Passes (ranges_of foot.now)) }
 {
     if all_fit(foot) {
         Ok(())
@@ -44,7 +45,8 @@ fn all_inside(foot: &Footprint, buffers: &[Range]) -> bool
 pub fn inside(foot: &Footprint, ranges: &[Range]) -> Result<(), FootFault>
     ensures ok { IsOk result ↔ (All Fits (ranges_of foot.now) × All (IsInside ranges.now) (ranges_of foot.now)) }
     ensures overflow { (result ≡ Err FootFault.Overflow) ↔ Any Passes (ranges_of foot.now) }
-    ensures outside { (result ≡ Err FootFault.OutsideBuffer) ↔ (All Fits (ranges_of foot.now) × Any (IsOutside ranges.now) (ranges_of foot.now)) }
+    ensures outside { (result ≡ Err FootFault.OutsideBuffer)
+        ↔ (All Fits (ranges_of foot.now) × Any (IsOutside ranges.now) (ranges_of foot.now)) }
 {
     check_fits(foot)?;
     if !all_inside(foot, ranges) {

@@ -67,7 +67,8 @@ fn count_of(bytes: &[u8], byte: u8) -> u64
     count
 }
 
-/// Writes what a task makes of the bytes of its read ranges: `first`, and for xor and add `second`, which is else empty.
+/// Writes what a task makes of the bytes of its read ranges: `first`, and for xor and add `second`, which is else
+/// empty.
 pub fn evaluate_ranges(task: &Task, first: &[u8], second: &[u8], out: &mut [u8])
     requires { SuitsTwo task.now (length first.now) (length second.now) (length out.old) }
     ensures { out.new ≡ result_of task.now (length out.old) (first.now ++ second.now) }

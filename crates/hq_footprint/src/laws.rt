@@ -1,6 +1,9 @@
 //! Laws for the layers above: calls without effect, whose contracts are the laws.
 
-ghost use Rattle.hq_footprint.specs.Laws.{BytesCounted, BytesPlaced, BytesBounded, BytesApart, BytesShifted, EntriesCounted, WithinHasBytes, InsideHasBytes, OverlapsShare, ShareRenumbered, ConflictTurns, ResultsCounted, ResultsAreBytes, KernelsSuit, ServicesSuit};
+ghost use Rattle.hq_footprint.specs.Laws.{BytesCounted, BytesPlaced, BytesBounded, BytesApart, BytesShifted};
+ghost use Rattle.hq_footprint.specs.Laws.{EntriesCounted, WithinHasBytes, InsideHasBytes, OverlapsShare};
+ghost use Rattle.hq_footprint.specs.Laws.{ShareRenumbered, ConflictTurns, ResultsCounted, ResultsAreBytes};
+ghost use Rattle.hq_footprint.specs.Laws.{KernelsSuit, ServicesSuit};
 
 /// A range has as many bytes as its length says.
 pub fn bytes_counted()

@@ -1,8 +1,10 @@
 //! What kernels and services read, write and do.
 
-ghost use Rattle.std.specs.Prelude.{◌≡◌, ◌+◌, ◌*◌, ◌<◌, ◌≤◌, ◌↔◌, length, All, Any, IsOk, IfOk, Ok, Err, Some, None, IsSomeAnd};
+ghost use Rattle.std.specs.Prelude.{◌≡◌, ◌+◌, ◌*◌, ◌<◌, ◌≤◌, ◌↔◌, length, All, Any, IsOk, IfOk, Ok, Err, Some};
+ghost use Rattle.std.specs.Prelude.{None, IsSomeAnd};
 ghost use Rattle.hq_footprint.specs.Bytes.{ranges_of, Fits, Passes};
-ghost use Rattle.hq_footprint.specs.Table.{argument_count, kernel_call, number_at, service_call, count_work, store_work, no_work};
+ghost use Rattle.hq_footprint.specs.Table.{argument_count, kernel_call, number_at, service_call, count_work};
+ghost use Rattle.hq_footprint.specs.Table.{store_work, no_work};
 
 use crate::buffers::check_fits;
 use crate::fault::FootFault;
@@ -93,11 +95,13 @@ fn unchecked_kernel(code: Code, items: u64, args: &[u8]) -> Work
 /// ArgsShort comes before Overflow.
 pub fn of_kernel(code: Code, items: u64, args: &[u8]) -> Result<Work, FootFault>
     ensures found { IfOk result (λ work. work ≡ kernel_call code items args.now) }
-    ensures ok { IsOk result ↔ ((8 * argument_count code ≤ length args.now) × All Fits (ranges_of (kernel_call code items args.now).foot)) }
+    ensures ok { IsOk result
+        ↔ ((8 * argument_count code ≤ length args.now) × All Fits (ranges_of (kernel_call code items args.now).foot)) }
 
     ensures short { (result ≡ Err FootFault.ArgsShort) ↔ (length args.now < 8 * argument_count code) }
     ensures overflow { (result ≡ Err FootFault.Overflow)
-        ↔ ((8 * argument_count code ≤ length args.now) × Any Passes (ranges_of (kernel_call code items args.now).foot)) }
+        ↔ ((8 * argument_count code ≤ length args.now)
+        × Any Passes (ranges_of (kernel_call code items args.now).foot)) }
 {
     if args.len() < 8 * argument_number(code) {
         return Err(FootFault::ArgsShort);
@@ -157,7 +161,8 @@ pub fn of_service(kind: u16, args: [u64; 4], ret: u64) -> Result<Work, FootFault
     ensures ok { IsOk result ↔ IsSomeAnd (service_call kind args ret) (λ work. All Fits (ranges_of work.foot)) }
 
     ensures service { (result ≡ Err FootFault.Service) ↔ (service_call kind args ret ≡ None) }
-    ensures overflow { (result ≡ Err FootFault.Overflow) ↔ IsSomeAnd (service_call kind args ret) (λ work. Any Passes (ranges_of work.foot)) }
+    ensures overflow { (result ≡ Err FootFault.Overflow)
+        ↔ IsSomeAnd (service_call kind args ret) (λ work. Any Passes (ranges_of work.foot)) }
 {
     let work = unchecked_service(kind, args, ret).ok_or(FootFault::Service)?;
     check_fits(&work.foot)?;

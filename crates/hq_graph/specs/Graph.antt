@@ -1,5 +1,7 @@
--- The text of a graph, as a relation between a job and a text: which packets are before which, and which are stuck, are relations too.
-use Rattle.std.specs.Prelude.{◌≡◌, ℕ, zero, suc, ◌<◌, ◌↔◌, ◌⊎◌, Bool, ◌||◌, ◌==◌, if◌then◌else◌, IsTrue, List, [], ◌++◌, Option, Some, None, is_some, length, codes, slice_get}
+-- The text of a graph, as a relation between a job and a text: which packets are before which, and which are stuck,
+-- are relations too.
+use Rattle.std.specs.Prelude.{◌≡◌, ℕ, zero, suc, ◌<◌, ◌↔◌, ◌⊎◌, Bool, ◌||◌, ◌==◌, if◌then◌else◌, IsTrue, List, []}
+use Rattle.std.specs.Prelude.{◌++◌, Option, Some, None, is_some, length, codes, slice_get}
 use Rattle.std.specs.List.{position}
 use Rattle.std.specs.Fmt.{decimal}
 use Rattle.std.specs.Io.KnownBytes.{Appends}
@@ -112,7 +114,8 @@ bit_text bit = if bit then codes "bit " else []
 abbrev pub head_text : Head → List ℕ
 head_text head = bit_text head.barrier ++ codes "acquire " ++ scope_word head.acquire ++ codes " release " ++ scope_word head.release
 
--- a packet's number, kind and work, and below them its barrier bit and fences; what parts the lines are the two characters \ and n
+-- a packet's number, kind and work, and below them its barrier bit and fences; what parts the lines are the two
+-- characters \ and n
 abbrev pub label_text : Node → List ℕ
 label_text node = decimal node.number ++ codes " " ++ kind_word node.packet ++ work_text node.work ++ codes "\\n" ++ head_text (head_of node.packet)
 
@@ -124,7 +127,8 @@ node_text node stuck = codes "p" ++ decimal node.number ++ codes " [label=\"" ++
 
 -- the node of a packet of this queue
 abbrev pub node_in : JobValue → ℕ → ℕ → Placed → Option Node
-node_in job queue p placed = if placed.queue == queue then Some (record { number = p; packet = placed.packet; work = work_of job placed.packet }) else None
+node_in job queue p placed = if placed.queue == queue then Some
+    (record { number = p; packet = placed.packet; work = work_of job placed.packet }) else None
 
 abbrev pub node_at : JobValue → ℕ → ℕ → Option Placed → Option Node
 node_at job queue p None = None
@@ -139,7 +143,8 @@ node_there (Some node) stuck = node_text node stuck
 
 -- the line of packet p, where it is of this queue: red where the packet can never complete
 abbrev pub NodeText : JobValue → Job → ℕ → ℕ → List ℕ → Type 0
-NodeText job order queue p text = (stuck : Bool) × (IsTrue stuck ↔ Stuck order p) × Is (node_there (node_of job queue p) stuck) text
+NodeText job order queue p text = (stuck : Bool) × (IsTrue stuck ↔ Stuck order p)
+    × Is (node_there (node_of job queue p) stuck) text
 
 -- ---- queues
 
@@ -164,7 +169,8 @@ queue_line job number = queue_there job number (slice_get job.queues number)
 
 -- a queue's packets, with its name, its agent and how many slots it has
 abbrev pub ClusterText : JobValue → Job → ℕ → List ℕ → Type 0
-ClusterText job order queue text = Then (Then (Is (queue_line job queue)) (Each (NodeText job order queue) (length job.packets))) (Is (codes "}\n")) text
+ClusterText job order queue text = Then
+    (Then (Is (queue_line job queue)) (Each (NodeText job order queue) (length job.packets))) (Is (codes "}\n")) text
 
 -- ---- steps of the order
 
@@ -215,7 +221,8 @@ rw_text behind there = if there then break_text behind ++ codes "rw" else []
 
 -- the kinds that there are, with the fences that order each
 abbrev pub kinds_text : Shown → List ℕ
-kinds_text shown = wr_text shown.wr ++ ww_text (is_some shown.wr) shown.ww ++ rw_text (is_some shown.wr || is_some shown.ww) shown.rw
+kinds_text shown = wr_text shown.wr ++ ww_text (is_some shown.wr) shown.ww ++ rw_text
+    (is_some shown.wr || is_some shown.ww) shown.rw
 
 abbrev pub ordered_text : Directed → List ℕ
 ordered_text d = arrow_text d.first d.second ++ codes "color=gray penwidth=0.5 fontcolor=gray label=\"" ++ kinds_text d.shown ++ codes "\"];\n"
@@ -228,7 +235,8 @@ open_text u = arrow_text u.p u.r ++ codes "color=red fontcolor=red label=\"" ++ 
 
 -- the two in the direction in which they are ordered, or in red where they aren't
 abbrev pub ConflictText : Job → ℕ → ℕ → List ℕ → Type 0
-ConflictText order a b text = ((d : Directed) × IsDirected order a b d × Is (ordered_text d) text) ⊎ ((u : Unshown) × IsUnshown order a b u × Is (open_text u) text)
+ConflictText order a b text = ((d : Directed) × IsDirected order a b d × Is (ordered_text d) text)
+    ⊎ ((u : Unshown) × IsUnshown order a b u × Is (open_text u) text)
 
 -- ---- what stuck packets wait for
 
@@ -278,7 +286,8 @@ ClustersText job order text = Each (ClusterText job order) (length job.queues) t
 -- the queues with their packets; the steps; the conflicts; and what stuck packets wait for
 abbrev pub DrawnText : JobValue → Job → List ℕ → Type 0
 DrawnText job order text =
-    Then (Then (Then (Then (Then (Is opening) (ClustersText job order)) (PairsText job order part.Steps)) (PairsText job order part.Conflicts)) (PairsText job order part.Waits)) (Is (codes "}\n")) text
+    Then (Then (Then (Then (Then (Is opening) (ClustersText job order)) (PairsText job order part.Steps))
+    (PairsText job order part.Conflicts)) (PairsText job order part.Waits)) (Is (codes "}\n")) text
 
 -- The text is a picture of the job's order.
 abbrev pub GraphText : JobValue → List ℕ → Type 0

@@ -22,8 +22,8 @@ pub record AreSteps (job : Job) (rows : List (Vec ℕ)) : Type 0 where
 abbrev pub HasNoSlot : Job → List ℕ → ℕ → Type 0
 HasNoSlot job set r = (q : ℕ) × IsTrue (has set q) × Frees job q r
 
--- When each packet is submitted, and the first turn at which a packet of the set has the slot: none from there on is submitted. Where there is no
--- such turn it is the number of turns.
+-- When each packet is submitted, and the first turn at which a packet of the set has the slot: none from there on
+-- is submitted. Where there is no such turn it is the number of turns.
 pub record AreTurns (job : Job) (set turns : List ℕ) (barred : ℕ) : Type 0 where
   pub count : length turns ≡ length job.packets
   pub are : AllAre (λ p turn. turn ≡ place job.submissions p) turns
@@ -31,7 +31,8 @@ pub record AreTurns (job : Job) (set turns : List ℕ) (barred : ℕ) : Type 0 w
   pub there : barred < length job.submissions → HasNoSlot job set (slice_index job.submissions barred)
   pub first : (k : ℕ) → k < barred → ¬ HasNoSlot job set (slice_index job.submissions k)
 
--- the set is that of the packets that can never complete; it is told whether there are such, and if so which packets are never submitted
+-- the set is that of the packets that can never complete; it is told whether there are such, and if so which
+-- packets are never submitted
 pub record TellsStuck (job : Job) (stuck : Stuck) : Type 0 where
   pub each : (p : ℕ) → IsTrue (has stuck.row.items p) ↔ order.Stuck job p
   pub some : IsTrue stuck.some → (p : ℕ) × order.Stuck job p

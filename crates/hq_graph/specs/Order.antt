@@ -1,7 +1,8 @@
 -- What a graph shows: steps of the order, conflicts, and what stuck packets wait for.
 use Rattle.std.specs.Prelude.{◌≡◌, ℕ, suc, List}
 use Rattle.hq_model.specs.Job.{Job, Earlier, IsBarrier, Dependency, Decrements, Frees}
-use Rattle.hq_model.specs.Order.{ByBit, ByQueue, ByAnd, AwaitsAny, Whichever, Before, Branch, FreesFor, OrderList, Stuck, place}
+use Rattle.hq_model.specs.Order.{ByBit, ByQueue, ByAnd, AwaitsAny, Whichever, Before, Branch, FreesFor, OrderList}
+use Rattle.hq_model.specs.Order.{Stuck, place}
 use Rattle.hq_model.specs.Fence.{Ordered}
 use Rattle.hq_graph.specs.declared.rule.Rule.{Rule}
 use Rattle.hq_graph.specs.declared.rule.Rule.TheVariants as rule
@@ -10,14 +11,16 @@ use Rattle.hq_graph.specs.declared.wait.Wait.TheVariants as wait
 use Rattle.hq_graph.specs.declared.found.Found.{Found}
 use Rattle.hq_graph.specs.declared.found.Found.TheVariants as found
 
--- p is before r, and no packet is between them: a pair of the order's transitive reduction. A packet of a circle, which no job with an order
--- list has, is before itself and so between itself and any other: no step begins or ends there.
+-- p is before r, and no packet is between them: a pair of the order's transitive reduction. A packet of a circle,
+-- which no job with an order list has, is before itself and so between itself and any other: no step begins or ends
+-- there.
 pub record IsStep (job : Job) (p r : ℕ) : Type 0 where
   pub before : Before job p r
   pub none_between : (m : ℕ) → Before job p m → Before job m r → ⊥
 
--- This rule alone puts p before r: the barrier bit of j, which is r or stands ahead of it; a barrier packet that stands ahead in r's queue; a
--- dependency of a barrier-AND; or the dependencies of a barrier-OR, all of which have p complete.
+-- This rule alone puts p before r: the barrier bit of j, which is r or stands ahead of it; a barrier packet that
+-- stands ahead in r's queue; a dependency of a barrier-AND; or the dependencies of a barrier-OR, all of which have
+-- p complete.
 abbrev pub IsRule : Job → ℕ → ℕ → Rule → Type 0
 IsRule job p r (rule.Bit j) = ByBit job p r j
 IsRule job p r rule.Queue = ByQueue job p r
@@ -28,12 +31,14 @@ IsRule job p r rule.Or = AwaitsAny job r × Whichever job r (Branch job p)
 abbrev pub HasRule : Job → ℕ → ℕ → Type 0
 HasRule job p r = (by : Rule) × IsRule job p r by
 
--- p is never submitted: a packet that can never complete has its slot, or the slot of a packet that is submitted before it.
+-- p is never submitted: a packet that can never complete has its slot, or the slot of a packet that is submitted
+-- before it.
 abbrev pub NeverSubmitted : Job → ℕ → Type 0
 NeverSubmitted job p = (q : ℕ) × Stuck job q × FreesFor job q p
 
--- What r can't do without p, which stands in its way: p stands right ahead of it in its queue, has its slot of the ring, completes on a signal
--- that it waits for, or comes right ahead of it in the order of submission and is never submitted.
+-- What r can't do without p, which stands in its way: p stands right ahead of it in its queue, has its slot of the
+-- ring, completes on a signal that it waits for, or comes right ahead of it in the order of submission and is never
+-- submitted.
 abbrev pub WaitsBy : Job → ℕ → ℕ → Wait → Type 0
 WaitsBy job p r wait.Ahead = Earlier job p r × (suc p ≡ r)
 WaitsBy job p r wait.Slot = Frees job p r

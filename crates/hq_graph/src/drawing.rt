@@ -38,7 +38,8 @@ fn write_opening<W: Write>(writer: &mut W) -> io::Result<()>
 /// Writes the graph of a job whose order is worked out.
 fn write_all<W: Write>(writer: &mut W, job: &Job, sight: &Sight) -> io::Result<()>
     requires { Sees sight.now }
-    ensures { OnOk result (Wrote (W.contents writer.old) (W.contents writer.new) (DrawnText job.now sight.now.before.now)) }
+    ensures { OnOk result
+        (Wrote (W.contents writer.old) (W.contents writer.new) (DrawnText job.now sight.now.before.now)) }
 {
     write_opening(writer)?;
     write_clusters(writer, job, sight)?;
@@ -48,13 +49,15 @@ fn write_all<W: Write>(writer: &mut W, job: &Job, sight: &Sight) -> io::Result<(
     write_close(writer)
 }
 
-/// Writes the picture of a job's order, and answers what an audit of the job would find. Nothing is written before the last growth of memory.
+/// Writes the picture of a job's order, and answers what an audit of the job would find. Nothing is written before
+/// the last growth of memory.
 ///
 /// # Errors
 ///
 /// There is no memory, and then nothing was written; or the writer failed.
 pub fn graph<W: Write>(alloc: Global, writer: &mut W, job: &Job) -> Result<Found, GraphFault>
-    ensures drawn { OnOk result ((text : List ℕ) × GraphText job.now text × Appends (W.contents writer.old) (W.contents writer.new) text) }
+    ensures drawn { OnOk result
+        ((text : List ℕ) × GraphText job.now text × Appends (W.contents writer.old) (W.contents writer.new) text) }
     ensures found { IfOk result (IsFound (plan job.now)) }
     ensures unwritten { IfErr result (λ e. e ≡ Memory → writer.new ≡ writer.old) }
 {

@@ -4,7 +4,10 @@ ghost use Rattle.std.specs.Prelude.{◌≡◌, ◌<◌, ◌↔◌, IsTrue, OnOk,
 ghost use Rattle.std.specs.Io.KnownBytes.{Appends};
 ghost use Rattle.hq_model.specs.Job.{IsPacket};
 ghost use Rattle.hq_model.specs.Order as order;
-ghost use Rattle.hq_graph.specs.Graph.{ConflictText, PairText, Wrote, acquire_text, awaited_by, awaited_text, break_text, fault_text, kinds_text, named_by, name_of, open_text, ordered_text, release_text, rule_text, rw_text, step_text, wait_line, wait_text, wr_text, ww_text};
+ghost use Rattle.hq_graph.specs.Graph.{ConflictText, PairText, Wrote, acquire_text, awaited_by, awaited_text};
+ghost use Rattle.hq_graph.specs.Graph.{break_text, fault_text, kinds_text, named_by, name_of, open_text};
+ghost use Rattle.hq_graph.specs.Graph.{ordered_text, release_text, rule_text, rw_text, step_text, wait_line};
+ghost use Rattle.hq_graph.specs.Graph.{wait_text, wr_text, ww_text};
 ghost use Rattle.hq_graph.specs.Known.{Sees};
 ghost use Rattle.hq_fence.specs.Judgement.{HaveConflict};
 ghost use Rattle.hq_graph.specs.Order.{IsStep};
@@ -86,7 +89,8 @@ pub fn write_step<W: Write>(
     requires r { IsPacket before.now r }
     requires p { IsPacket before.now p }
     requires step { IsStep before.now p r }
-    ensures { OnOk result (Wrote (W.contents writer.old) (W.contents writer.new) (PairText job.now before.now part.Steps r p)) }
+    ensures { OnOk result
+        (Wrote (W.contents writer.old) (W.contents writer.new) (PairText job.now before.now part.Steps r p)) }
 {
     let rule = rule_of(before, p, r);
     write_rule(writer, job, p, r, rule)
@@ -288,7 +292,8 @@ pub fn write_conflict<W: Write>(
 ) -> io::Result<()>
     requires a { IsPacket before.now a }
     requires b { IsPacket before.now b }
-    ensures { OnOk result (Wrote (W.contents writer.old) (W.contents writer.new) (PairText job.now before.now part.Conflicts a b)) }
+    ensures { OnOk result
+        (Wrote (W.contents writer.old) (W.contents writer.new) (PairText job.now before.now part.Conflicts a b)) }
 {
     if is_conflict(before, a, b) {
         write_judged(writer, before, a, b)
@@ -332,7 +337,8 @@ impl fmt::Display for AwaitedText {
 
 /// Writes that r waits for a packet, by what is told of that.
 fn write_awaited<W: Write>(writer: &mut W, r: usize, awaited: AwaitedText) -> io::Result<()>
-    ensures { OnOk result (Appends (W.contents writer.old) (W.contents writer.new) (wait_line awaited.p r awaited.wait awaited.name)) }
+    ensures { OnOk result
+        (Appends (W.contents writer.old) (W.contents writer.new) (wait_line awaited.p r awaited.wait awaited.name)) }
 {
     let arrow = Arrow {
         from: r,
@@ -368,7 +374,8 @@ pub fn write_wait<W: Write>(
     requires stuck { order.Stuck sight.now.before.now r }
     requires r { IsPacket sight.now.before.now r }
     requires p { IsPacket sight.now.before.now p }
-    ensures { OnOk result (Wrote (W.contents writer.old) (W.contents writer.new) (PairText job.now sight.now.before.now part.Waits r p)) }
+    ensures { OnOk result
+        (Wrote (W.contents writer.old) (W.contents writer.new) (PairText job.now sight.now.before.now part.Waits r p)) }
 {
     match wait_of(sight, p, r) {
         Some(wait) => write_way(writer, job, p, r, wait),

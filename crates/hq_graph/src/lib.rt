@@ -1,8 +1,8 @@
 //! Pictures of a job's order, as text of graphviz's language DOT.
 //!
-//! A node for each packet, queue by queue; an edge for each step of the order, which is a pair of packets with none between them; an edge
-//! for each two packets that conflict, grey where fences order them and red where they don't; and a red edge from a packet that can never
-//! complete to each such packet that it waits for.
+//! A node for each packet, queue by queue; an edge for each step of the order, which is a pair of packets with none
+//! between them; an edge for each two packets that conflict, grey where fences order them and red where they don't;
+//! and a red edge from a packet that can never complete to each such packet that it waits for.
 #![tactic(auto)]
 
 mod drawing;

@@ -2,7 +2,10 @@
 
 ghost use Rattle.std.specs.Prelude.{◌≡◌, OnOk, Some, codes, length, slice_get, if◌then◌else◌};
 ghost use Rattle.std.specs.Io.KnownBytes.{Appends};
-ghost use Rattle.hq_graph.specs.Graph.{ClusterText, ClustersText, Each, Is, NodeText, Then, Wrote, agent_name, bit_text, cluster_text, color_text, head_text, kernel_of, kernel_place, label_text, node_of, node_text, node_there, queue_label, queue_line, queue_text, work_of, work_of_kernel, work_text};
+ghost use Rattle.hq_graph.specs.Graph.{ClusterText, ClustersText, Each, Is, NodeText, Then, Wrote, agent_name};
+ghost use Rattle.hq_graph.specs.Graph.{bit_text, cluster_text, color_text, head_text, kernel_of, kernel_place};
+ghost use Rattle.hq_graph.specs.Graph.{label_text, node_of, node_text, node_there, queue_label, queue_line};
+ghost use Rattle.hq_graph.specs.Graph.{queue_text, work_of, work_of_kernel, work_text};
 ghost use Rattle.hq_graph.specs.Known.{Sees};
 
 use crate::sight::Sight;
@@ -186,7 +189,8 @@ fn write_node<W: Write>(
     p: usize,
 ) -> io::Result<()>
     requires sees { Sees sight.now }
-    ensures { OnOk result (Wrote (W.contents writer.old) (W.contents writer.new) (NodeText job.now sight.now.before.now queue p)) }
+    ensures { OnOk result
+        (Wrote (W.contents writer.old) (W.contents writer.new) (NodeText job.now sight.now.before.now queue p)) }
 {
     let stuck = is_stuck(sight, p);
     let node = node_of(job, queue, p);
@@ -196,7 +200,9 @@ fn write_node<W: Write>(
 /// Writes the nodes of a queue's packets.
 fn write_nodes<W: Write>(writer: &mut W, job: &Job, sight: &Sight, queue: usize) -> io::Result<()>
     requires sees { Sees sight.now }
-    ensures { OnOk result (Wrote (W.contents writer.old) (W.contents writer.new) (Each (NodeText job.now sight.now.before.now queue) (length job.now.packets))) }
+    ensures { OnOk result
+        (Wrote (W.contents writer.old) (W.contents writer.new)
+        (Each (NodeText job.now sight.now.before.now queue) (length job.now.packets))) }
 {
     for p in 0..job.packets().len() {
         write_node(writer, job, sight, queue, p)?;
@@ -232,14 +238,17 @@ impl fmt::Display for QueueLabel {
 
 /// Writes what opens a queue, with what is told of it.
 fn write_labelled<W: Write>(writer: &mut W, number: usize, label: &QueueLabel) -> io::Result<()>
-    ensures { OnOk result (Appends (W.contents writer.old) (W.contents writer.new) (cluster_text number label.now.queue label.now.agent)) }
+    ensures { OnOk result
+        (Appends (W.contents writer.old) (W.contents writer.new)
+        (cluster_text number label.now.queue label.now.agent)) }
 {
     write!(writer, "subgraph cluster_{number} {{\nlabel=\"{label}\";\n")
 }
 
 /// Writes what opens a queue that there is.
 fn write_queue<W: Write>(writer: &mut W, job: &Job, number: usize, queue: &Queue) -> io::Result<()>
-    ensures { OnOk result (Appends (W.contents writer.old) (W.contents writer.new) (queue_text job.now number queue.now)) }
+    ensures { OnOk result
+        (Appends (W.contents writer.old) (W.contents writer.new) (queue_text job.now number queue.now)) }
 {
     let label = QueueLabel {
         queue: *queue,
@@ -268,7 +277,8 @@ pub fn write_close<W: Write>(writer: &mut W) -> io::Result<()>
 /// Writes a queue and its packets.
 fn write_cluster<W: Write>(writer: &mut W, job: &Job, sight: &Sight, queue: usize) -> io::Result<()>
     requires sees { Sees sight.now }
-    ensures { OnOk result (Wrote (W.contents writer.old) (W.contents writer.new) (ClusterText job.now sight.now.before.now queue)) }
+    ensures { OnOk result
+        (Wrote (W.contents writer.old) (W.contents writer.new) (ClusterText job.now sight.now.before.now queue)) }
 {
     write_queue_line(writer, job, queue)?;
     write_nodes(writer, job, sight, queue)?;
@@ -278,7 +288,8 @@ fn write_cluster<W: Write>(writer: &mut W, job: &Job, sight: &Sight, queue: usiz
 /// Writes all queues and their packets.
 pub fn write_clusters<W: Write>(writer: &mut W, job: &Job, sight: &Sight) -> io::Result<()>
     requires sees { Sees sight.now }
-    ensures { OnOk result (Wrote (W.contents writer.old) (W.contents writer.new) (ClustersText job.now sight.now.before.now)) }
+    ensures { OnOk result
+        (Wrote (W.contents writer.old) (W.contents writer.new) (ClustersText job.now sight.now.before.now)) }
 {
     for queue in 0..job.queues().len() {
         write_cluster(writer, job, sight, queue)?;

@@ -20,7 +20,8 @@ use std::io::Write;
 fn write_steps<W: Write>(writer: &mut W, job: &Job, sight: &Sight, r: usize) -> io::Result<()>
     requires sees { Sees sight.now }
     requires r { IsPacket sight.now.before.now r }
-    ensures { OnOk result (Wrote (W.contents writer.old) (W.contents writer.new) (RowText job.now sight.now.before.now part.Steps r)) }
+    ensures { OnOk result
+        (Wrote (W.contents writer.old) (W.contents writer.new) (RowText job.now sight.now.before.now part.Steps r)) }
 {
     let mut p = next_step(sight, r, 0);
     'steps: while p < sight.before.len() {
@@ -34,7 +35,9 @@ fn write_steps<W: Write>(writer: &mut W, job: &Job, sight: &Sight, r: usize) -> 
 fn write_conflicts<W: Write>(writer: &mut W, job: &Job, sight: &Sight, a: usize) -> io::Result<()>
     requires sees { Sees sight.now }
     requires a { IsPacket sight.now.before.now a }
-    ensures { OnOk result (Wrote (W.contents writer.old) (W.contents writer.new) (RowText job.now sight.now.before.now part.Conflicts a)) }
+    ensures { OnOk result
+        (Wrote (W.contents writer.old) (W.contents writer.new)
+        (RowText job.now sight.now.before.now part.Conflicts a)) }
 {
     let others = sight.parts.others(sight.before, a);
     let mut b = others.next(sight.before, a + 1);
@@ -50,7 +53,8 @@ fn write_all_waits<W: Write>(writer: &mut W, job: &Job, sight: &Sight, r: usize)
     requires sees { Sees sight.now }
     requires stuck { order.Stuck sight.now.before.now r }
     requires r { IsPacket sight.now.before.now r }
-    ensures { OnOk result (Wrote (W.contents writer.old) (W.contents writer.new) (RowText job.now sight.now.before.now part.Waits r)) }
+    ensures { OnOk result
+        (Wrote (W.contents writer.old) (W.contents writer.new) (RowText job.now sight.now.before.now part.Waits r)) }
 {
     for p in 0..sight.before.len() {
         write_wait(writer, job, sight, r, p)?;
@@ -62,7 +66,8 @@ fn write_all_waits<W: Write>(writer: &mut W, job: &Job, sight: &Sight, r: usize)
 fn write_waits_of<W: Write>(writer: &mut W, job: &Job, sight: &Sight, r: usize) -> io::Result<()>
     requires sees { Sees sight.now }
     requires r { IsPacket sight.now.before.now r }
-    ensures { OnOk result (Wrote (W.contents writer.old) (W.contents writer.new) (RowText job.now sight.now.before.now part.Waits r)) }
+    ensures { OnOk result
+        (Wrote (W.contents writer.old) (W.contents writer.new) (RowText job.now sight.now.before.now part.Waits r)) }
 {
     if is_stuck(sight, r) {
         write_all_waits(writer, job, sight, r)
@@ -81,7 +86,8 @@ fn write_row<W: Write>(
 ) -> io::Result<()>
     requires sees { Sees sight.now }
     requires first { IsPacket sight.now.before.now first }
-    ensures { OnOk result (Wrote (W.contents writer.old) (W.contents writer.new) (RowText job.now sight.now.before.now part first)) }
+    ensures { OnOk result
+        (Wrote (W.contents writer.old) (W.contents writer.new) (RowText job.now sight.now.before.now part first)) }
 {
     match part {
         Part::Steps => write_steps(writer, job, sight, first),
@@ -93,7 +99,8 @@ fn write_row<W: Write>(
 /// Writes a part.
 pub fn write_pairs<W: Write>(writer: &mut W, job: &Job, sight: &Sight, part: Part) -> io::Result<()>
     requires { Sees sight.now }
-    ensures { OnOk result (Wrote (W.contents writer.old) (W.contents writer.new) (PairsText job.now sight.now.before.now part)) }
+    ensures { OnOk result
+        (Wrote (W.contents writer.old) (W.contents writer.new) (PairsText job.now sight.now.before.now part)) }
 {
     for first in 0..sight.before.len() {
         write_row(writer, job, sight, part, first)?;
@@ -104,7 +111,8 @@ pub fn write_pairs<W: Write>(writer: &mut W, job: &Job, sight: &Sight, part: Par
 /// Writes what stuck packets wait for, where there are such.
 pub fn write_waits<W: Write>(writer: &mut W, job: &Job, sight: &Sight) -> io::Result<()>
     requires { Sees sight.now }
-    ensures { OnOk result (Wrote (W.contents writer.old) (W.contents writer.new) (PairsText job.now sight.now.before.now part.Waits)) }
+    ensures { OnOk result
+        (Wrote (W.contents writer.old) (W.contents writer.new) (PairsText job.now sight.now.before.now part.Waits)) }
 {
     if sight.stuck.some {
         write_pairs(writer, job, sight, Part::Waits)

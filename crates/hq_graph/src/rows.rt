@@ -32,7 +32,8 @@ fn next_in(row: &[u64], from: usize, end: usize) -> usize
 /// Leaves of a set of packets those that are before no other of it.
 fn leave_last(row: &mut [u64], before: &Before)
     requires { length row.old ≡ words_for (length before.now.packets) }
-    ensures { (p : ℕ) → IsTrue (has row.new p) ↔ (IsTrue (has row.old p) × ((m : ℕ) → IsTrue (has row.old m) → order.Before before.now p m → ⊥)) }
+    ensures { (p : ℕ) → IsTrue (has row.new p)
+        ↔ (IsTrue (has row.old p) × ((m : ℕ) → IsTrue (has row.old m) → order.Before before.now p m → ⊥)) }
 {
     before.job().valid();
     let mut m = next_in(row, 0, before.len());

@@ -43,7 +43,8 @@ pub fn named(job: &Job, p: usize, r: usize) -> Option<u16>
 fn signal_of(job: &Job, p: usize, r: usize) -> Option<u16>
     requires p_is { IsPacket (plan job.now) p }
     requires r_is { IsPacket (plan job.now) r }
-    ensures { MatchOption result ((s : ℕ) → ¬ IsRule (plan job.now) p r (by.And s)) (λ s. IsRule (plan job.now) p r (by.And s)) }
+    ensures { MatchOption result ((s : ℕ) → ¬ IsRule (plan job.now) p r (by.And s))
+        (λ s. IsRule (plan job.now) p r (by.And s)) }
 {
     match job.packet(r).packet {
         Packet::And(_) => named(job, p, r),

@@ -4,8 +4,8 @@ use crate::stuck::Stuck;
 use hq_audit::Parts;
 use hq_order::Before;
 
-/// The order of a job's packets; its steps, where the row of a packet has those from which a step leads to it; the parts of memory that packets
-/// touch; and what is known of packets that can never complete.
+/// The order of a job's packets; its steps, where the row of a packet has those from which a step leads to it; the
+/// parts of memory that packets touch; and what is known of packets that can never complete.
 #[derive(Clone, Copy)]
 pub struct Sight<'b, 'a> {
     pub before: &'b Before<'a>,

@@ -15,8 +15,8 @@ use hq_order::laws::none_where_stuck;
 use hq_order::{OrderFault, schedule};
 use std::alloc::{AllocError, Global};
 
-/// The packets that can never complete, as a set, and whether there are such. If so, also when each packet is submitted, and the first turn at
-/// which one isn't: none from there on is.
+/// The packets that can never complete, as a set, and whether there are such. If so, also when each packet is
+/// submitted, and the first turn at which one isn't: none from there on is.
 #[derive(Drop)]
 pub struct Stuck {
     pub row: Vec<u64>,

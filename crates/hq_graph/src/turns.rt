@@ -1,4 +1,5 @@
-//! When packets are submitted, and which never are: a queue that is a ring has a slot for a packet only where earlier ones are complete.
+//! When packets are submitted, and which never are: a queue that is a ring has a slot for a packet only where
+//! earlier ones are complete.
 
 ghost use Rattle.std.specs.Prelude.{◌≡◌, ◌↔◌, ℕ, ◌<◌, ◌≤◌, IsTrue, IfOk, length, slice_index};
 ghost use Rattle.hq_job.specs.Plan.{plan};
@@ -71,7 +72,8 @@ fn has_no_slot(job: &Job, set: &[u64], r: usize) -> bool
 /// The first turn of a packet whose slot one of the set has, or the number of turns where there is none.
 pub fn first_barred(job: &Job, set: &[u64]) -> usize
     ensures upto { result ≤ length job.now.submissions }
-    ensures there { result < length job.now.submissions → HasNoSlot (plan job.now) set.now (slice_index job.now.submissions result) }
+    ensures there { result < length job.now.submissions
+        → HasNoSlot (plan job.now) set.now (slice_index job.now.submissions result) }
     ensures first { (k : ℕ) → k < result → ¬ HasNoSlot (plan job.now) set.now (slice_index job.now.submissions k) }
 {
     job.valid();

@@ -31,7 +31,8 @@ fn is_right_ahead(job: &Job, p: usize, r: usize) -> bool
 fn signal_between(job: &Job, p: usize, r: usize) -> Option<u16>
     requires p_is { IsPacket (plan job.now) p }
     requires r_is { IsPacket (plan job.now) r }
-    ensures { MatchOption result ((s : ℕ) → ¬ WaitsBy (plan job.now) p r (wait.Signal s)) (λ s. WaitsBy (plan job.now) p r (wait.Signal s)) }
+    ensures { MatchOption result ((s : ℕ) → ¬ WaitsBy (plan job.now) p r (wait.Signal s))
+        (λ s. WaitsBy (plan job.now) p r (wait.Signal s)) }
 {
     match job.packet(r).packet {
         Packet::And(_) | Packet::Or(_) => named(job, p, r),
@@ -100,7 +101,8 @@ pub fn wait_of(sight: &Sight, p: usize, r: usize) -> Option<Wait>
     requires stuck { order.Stuck sight.now.before.now r }
     requires p_is { IsPacket sight.now.before.now p }
     requires r_is { IsPacket sight.now.before.now r }
-    ensures { MatchOption result ((by : By) → ¬ Awaits sight.now.before.now p r by) (λ by. Awaits sight.now.before.now p r by) }
+    ensures { MatchOption result ((by : By) → ¬ Awaits sight.now.before.now p r by)
+        (λ by. Awaits sight.now.before.now p r by) }
 {
     if !is_stuck(sight, p) {
         return None;

@@ -29,13 +29,15 @@ piece p place range bytes = record { packet = p; place = place; at = range.at; b
 -- the pieces that it reads, of which these are the bytes, end to end
 abbrev pub read_pieces : ℕ → Work → List ℕ → List Part
 read_pieces p work read =
-    take (reads_of work.task) (piece p 0 (first_read work) (take (first_read work).len read) ∷ piece p 1 (second_read work) (drop (first_read work).len read) ∷ [])
+    take (reads_of work.task)
+    (piece p 0 (first_read work) (take (first_read work).len read) ∷ piece p 1 (second_read work)
+    (drop (first_read work).len read) ∷ [])
 
 -- and that which it writes, of which these are the bytes
 abbrev pub write_pieces : ℕ → Work → List ℕ → List Part
 write_pieces p work written = take (writes_of work.task) (piece p (reads_of work.task) work.foot.write written ∷ [])
 
--- The pieces of a packet with this work: those of the ranges that its task reads, with these bytes, end to end; and behind them that
--- of the range that it writes, with these.
+-- The pieces of a packet with this work: those of the ranges that its task reads, with these bytes, end to end; and
+-- behind them that of the range that it writes, with these.
 abbrev pub pieces_of : ℕ → Work → List ℕ → List ℕ → List Part
 pieces_of p work read written = read_pieces p work read ++ write_pieces p work written

@@ -30,7 +30,8 @@ pub record RunSoFar (job : Job) (events : List Event) (state : StateValue) : Typ
 pub record Moves (old : HistoryValue) (event : Event) (new : HistoryValue) : Type 0 where
   pub job : new.job ≡ old.job
   pub events : new.events ≡ old.events ++ event ∷ []
-  pub happens : Happens (plan_of old) (state_of (plan_of old) old.state) (coarse_of event) (state_of (plan_of old) new.state)
+  pub happens : Happens (plan_of old) (state_of (plan_of old) old.state) (coarse_of event)
+      (state_of (plan_of old) new.state)
 
 -- Why a call was refused that may be made where this holds: it doesn't hold, or there is no memory.
 abbrev pub Refused : Type 0 → HallFault → Type 0

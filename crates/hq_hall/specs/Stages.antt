@@ -17,4 +17,5 @@ delivers p other = false
 
 -- where p stands after these events
 abbrev pub stage_of : List Event → ℕ → Stage
-stage_of events p = if list_any (delivers p) events then stage.Delivered else (if list_any (fetches p) events then stage.Out else stage.Unfetched)
+stage_of events p = if list_any (delivers p) events then stage.Delivered else
+    (if list_any (fetches p) events then stage.Out else stage.Unfetched)

@@ -1,5 +1,6 @@
 -- A hall as its callers see it.
-use Rattle.std.specs.Prelude.{◌≡◌, ℕ, ◌+◌, ◌<◌, ◌↔◌, [], List, All, Some, false, length, take, slice_index, slice_index_or}
+use Rattle.std.specs.Prelude.{◌≡◌, ℕ, ◌+◌, ◌<◌, ◌↔◌, [], List, All, Some, false, length, take, slice_index}
+use Rattle.std.specs.Prelude.{slice_index_or}
 use Rattle.std.specs.List.{flat_map}
 use Rattle.hq_certcheck.specs.View.{AcceptedJob}
 use Rattle.hq_footprint.specs.Tasks.{result_of}
@@ -29,8 +30,8 @@ use Rattle.hq_hall.specs.Handing.{first_read, foot_of, second_read, work_of}
 use Rattle.hq_hall.specs.Histories.{HistoryValue, Moves, plan_of}
 use Rattle.hq_hall.specs.Stages.{stage_of}
 
--- the accepted job, the state that its run has come to, and the events that led there; the packets whose ranges are out; and what is
--- known of the pieces that came home by being dropped
+-- the accepted job, the state that its run has come to, and the events that led there; the packets whose ranges are
+-- out; and what is known of the pieces that came home by being dropped
 pub record HallValue : Type 0 where
   pub job : AcceptedJob
   pub state : StateValue
@@ -61,7 +62,8 @@ pub record IsAway (job : Job) (state : State) (p : ℕ) : Type 0 where
   pub read : AllRead job state p
 
 -- Exactly the packets that were fetched and not yet delivered are out, each with its own footprint.
-pub record Stands (packets : List Placed) (events : List Event) (state : State) (out : List Grant) (stages : List Stage) (job : Job) : Type 0 where
+pub record Stands (packets : List Placed) (events : List Event) (state : State) (out : List Grant) (stages : List Stage)
+    (job : Job) : Type 0 where
   pub count : length stages ≡ length packets
   pub stage_is : (p : ℕ) → p < length packets → slice_index_or stages p stage.Unfetched ≡ stage_of events p
   pub are_out : (p : ℕ) → IsOut out p ↔ ((p < length packets) × (stage_of events p ≡ stage.Out))
@@ -72,7 +74,8 @@ pub record Stands (packets : List Placed) (events : List Event) (state : State) 
 
 -- The same of a run, these grants and stages, and a tray for so many packets.
 abbrev pub Stood : HistoryValue → List Grant → List Stage → ℕ → Type 0
-Stood h out stages packets = Stands h.job.job.packets h.events (state_of (plan_of h) h.state) out stages (plan_of h) × (packets ≡ length h.job.job.packets)
+Stood h out stages packets = Stands h.job.job.packets h.events (state_of (plan_of h) h.state) out stages (plan_of h)
+    × (packets ≡ length h.job.job.packets)
 
 -- ---- what a call does
 
@@ -127,13 +130,15 @@ pub record IsReadPiece (state : State) (p k : ℕ) (range : Range) (first : ℕ)
   pub is : IsPieceOf p k range part
   pub bytes : (i : ℕ) → i < range.len → state.read p (first + i) ≡ Some (slice_index part.bytes i)
 
--- These are the pieces of packet p with this work, in order: those of the ranges that its task reads, which hold what it has read, and
--- behind them that of the range that it writes.
+-- These are the pieces of packet p with this work, in order: those of the ranges that its task reads, which hold
+-- what it has read, and behind them that of the range that it writes.
 pub record ArePieces (state : State) (p : ℕ) (work : WorkValue) (pieces : List Part) : Type 0 where
   pub count : length pieces ≡ reads_of work.task + writes_of work.task
   pub first : 0 < reads_of work.task → IsReadPiece state p 0 (first_read work) 0 (piece_at pieces 0)
-  pub second : 1 < reads_of work.task → IsReadPiece state p 1 (second_read work) (first_read work).len (piece_at pieces 1)
-  pub written : 0 < writes_of work.task → IsPieceOf p (reads_of work.task) work.foot.write (piece_at pieces (reads_of work.task))
+  pub second : 1 < reads_of work.task
+      → IsReadPiece state p 1 (second_read work) (first_read work).len (piece_at pieces 1)
+  pub written : 0 < writes_of work.task
+      → IsPieceOf p (reads_of work.task) work.foot.write (piece_at pieces (reads_of work.task))
 
 -- the bytes of the pieces that a task reads, end to end
 abbrev pub bytes_among : Task → List Part → List ℕ
@@ -142,10 +147,13 @@ bytes_among task pieces = flat_map (λ part. part.bytes) (take (reads_of task) p
 -- Where these are p's pieces, the one that is written holds what p's task makes of the bytes of those that are read.
 pub record AreDone (hall : HallValue) (p : ℕ) (pieces : List Part) : Type 0 where
   pub task : ArePieces (state_in hall) p (work_in hall p) pieces → 0 < writes_of (work_in hall p).task
-      → (piece_at pieces (reads_of (work_in hall p).task)).bytes ≡ result_of (work_in hall p).task (work_in hall p).foot.write.len (bytes_among (work_in hall p).task pieces)
+      → (piece_at pieces (reads_of (work_in hall p).task)).bytes ≡ result_of (work_in hall p).task
+      (work_in hall p).foot.write.len (bytes_among (work_in hall p).task pieces)
 
--- Why a delivery was refused: it may not come yet or any more, or these aren't the packet's pieces, or there is no memory.
+-- Why a delivery was refused: it may not come yet or any more, or these aren't the packet's pieces, or there is no
+-- memory.
 abbrev pub NotDelivered : HallValue → ℕ → List Part → HallFault → Type 0
 NotDelivered hall p pieces fault.NotEnabled = MayDeliver hall p → ⊥
-NotDelivered hall p pieces fault.WrongPieces = MayDeliver hall p × (ArePieces (state_in hall) p (work_in hall p) pieces → ⊥)
+NotDelivered hall p pieces fault.WrongPieces = MayDeliver hall p
+    × (ArePieces (state_in hall) p (work_in hall p) pieces → ⊥)
 NotDelivered hall p pieces fault.Memory = Unit {0}

@@ -1,12 +1,14 @@
 //! The hall.
 
-ghost use Rattle.std.specs.Prelude.{◌≡◌, ◌↔◌, ◌<◌, ◌+◌, ◌^◌, ◌++◌, ◌∷◌, [], ℕ, All, IsTrue, IfOk, IfErr, OnOk, OnErr, List, Some, length, map, replicate, slice_get};
+ghost use Rattle.std.specs.Prelude.{◌≡◌, ◌↔◌, ◌<◌, ◌+◌, ◌^◌, ◌++◌, ◌∷◌, [], ℕ, All, IsTrue, IfOk, IfErr, OnOk};
+ghost use Rattle.std.specs.Prelude.{OnErr, List, Some, length, map, replicate, slice_get};
 ghost use Rattle.hq_footprint.specs.declared.footprint.Range.{Range as ByteRange};
 ghost use Rattle.hq_footprint.specs.Counts.{reads_of, writes_of};
 ghost use Rattle.hq_hall.specs.Handing.{first_read, foot_of, pieces_of, second_read, work_of};
 ghost use Rattle.hq_hall.specs.Histories.{Refused, RunSoFar};
 ghost use Rattle.hq_hall.specs.Stages.{stage_of};
-ghost use Rattle.hq_hall.specs.View.{Adds, AddsAlone, ArePieces, AreDone, MayComplete, IsPieceOf, IsReadPiece, IsReady, MayDeliver, MayFetch, NotDelivered, job_of, piece_at, state_in, work_in};
+ghost use Rattle.hq_hall.specs.View.{Adds, AddsAlone, ArePieces, AreDone, MayComplete, IsPieceOf, IsReadPiece};
+ghost use Rattle.hq_hall.specs.View.{IsReady, MayDeliver, MayFetch, NotDelivered, job_of, piece_at, state_in, work_in};
 ghost use Rattle.hq_hall.specs.declared.fault.HallFault.TheVariants as fault;
 ghost use Rattle.hq_hall.specs.declared.stage.Stage.TheVariants as stage;
 ghost use Rattle.hq_job.specs.Plan.{plan, planned};
@@ -39,9 +41,10 @@ use std::marker::Model;
 
 /// A run of an accepted job, in which packets are handed the pieces of memory that they read and write.
 ///
-/// Contracts see it as the job, the state, the events, the packets that are out, and what is known of the pieces that came home.
-/// The type keeps that the events are a run of the job which leads to the state, and that exactly the packets that were fetched
-/// and not yet delivered are out, each with its own footprint, no two of them in conflict.
+/// Contracts see it as the job, the state, the events, the packets that are out, and what is known of the pieces
+/// that came home. The type keeps that the events are a run of the job which leads to the state, and that exactly
+/// the packets that were fetched and not yet delivered are out, each with its own footprint, no two of them in
+/// conflict.
 #[derive(Drop)]
 pub struct Hall<'a> {
     history: History<'a>,
@@ -60,7 +63,8 @@ impl<'a> Model for Hall<'a> {
 
     ghost coded = { Prim.hlevel (codes, state_code) };
 
-    ghost view = { λ h. record { job = h.history.job; state = h.history.state; events = h.history.events; out = h.grants; home = h.tray } };
+    ghost view = { λ h. record
+        { job = h.history.job; state = h.history.state; events = h.history.events; out = h.grants; home = h.tray } };
 
     ghost invariant = { λ h. Stood h.history h.grants h.stages.items h.tray.packets };
 }
@@ -91,11 +95,12 @@ impl<'a> Hall<'a> {
         })
     }
 
-    /// The journal is a run of the job that leads to the state; exactly the packets that were fetched and not yet delivered are
-    /// out, with their own footprints; no two of these conflict.
+    /// The journal is a run of the job that leads to the state; exactly the packets that were fetched and not yet
+    /// delivered are out, with their own footprints; no two of these conflict.
     pub fn run_so_far(&self)
         ensures run { RunSoFar (job_of self.now) self.now.events self.now.state }
-        ensures out { (p : ℕ) → IsOut self.now.out p ↔ ((p < length self.now.job.job.packets) × (stage_of self.now.events p ≡ stage.Out)) }
+        ensures out { (p : ℕ) → IsOut self.now.out p
+            ↔ ((p < length self.now.job.job.packets) × (stage_of self.now.events p ≡ stage.Out)) }
         ensures feet { All (λ grant. grant.foot ≡ foot_of self.now.job.job.packets grant.packet) self.now.out }
         ensures apart { AreApart self.now.out }
     {
@@ -131,14 +136,15 @@ impl<'a> Hall<'a> {
         self.history.state().memory()
     }
 
-    /// The pieces that came home by being dropped, by packet, then place. They stay in the tray, so that a later call answers the
-    /// same, and more where more came home.
+    /// The pieces that came home by being dropped, by packet, then place. They stay in the tray, so that a later
+    /// call answers the same, and more where more came home.
     ///
     /// # Errors
     ///
     /// `Memory` alone.
     pub fn gather(&mut self) -> Result<Vec<Home>, HallFault>
-        ensures same { (self.new.job ≡ self.old.job) × (self.new.state ≡ self.old.state) × (self.new.events ≡ self.old.events) × (self.new.out ≡ self.old.out) }
+        ensures same { (self.new.job ≡ self.old.job) × (self.new.state ≡ self.old.state)
+            × (self.new.events ≡ self.old.events) × (self.new.out ≡ self.old.out) }
         ensures learned { Learned self.old.home.known self.new.home.known }
         ensures homes { IfOk result (λ homes. map part_of homes.items ≡ homes_from 0 self.new.home.known) }
         ensures memory { IfErr result (λ e. e ≡ fault.Memory) }
@@ -149,7 +155,8 @@ impl<'a> Hall<'a> {
 
     /// Whether every packet is complete.
     pub fn all_complete(&self) -> bool
-        ensures { IsTrue result ↔ ((p : ℕ) → IsPacket (job_of self.now) p → (state_in self.now).phase p ≡ machine.Phase.Complete) }
+        ensures { IsTrue result
+            ↔ ((p : ℕ) → IsPacket (job_of self.now) p → (state_in self.now).phase p ≡ machine.Phase.Complete) }
     {
         self.history.run_so_far();
         let state = self.history.state();
@@ -193,7 +200,8 @@ impl<'a> Hall<'a> {
     pub fn submit(&mut self) -> Result<(), HallFault>
         ensures ok { OnOk result (AddsAlone self.old event.Submit self.new) }
         ensures err { OnErr result (self.new ≡ self.old) }
-        ensures fault { IfErr result (λ f. Refused (Possible (job_of self.old) self.old.state (One machine.Event.Submit)) f) }
+        ensures fault { IfErr result
+            (λ f. Refused (Possible (job_of self.old) self.old.state (One machine.Event.Submit)) f) }
     {
         self.history.take(Event::Submit)
     }
@@ -206,7 +214,8 @@ impl<'a> Hall<'a> {
     pub fn launch(&mut self, queue: u16) -> Result<(), HallFault>
         ensures ok { OnOk result (AddsAlone self.old (event.Launch queue) self.new) }
         ensures err { OnErr result (self.new ≡ self.old) }
-        ensures fault { IfErr result (λ f. Refused (Possible (job_of self.old) self.old.state (One (machine.Event.Launch queue))) f) }
+        ensures fault { IfErr result
+            (λ f. Refused (Possible (job_of self.old) self.old.state (One (machine.Event.Launch queue))) f) }
     {
         self.history.take(Event::Launch {
             queue: queue as u32,
@@ -221,7 +230,8 @@ impl<'a> Hall<'a> {
     pub fn observe(&mut self, packet: u16, slot: u16) -> Result<(), HallFault>
         ensures ok { OnOk result (AddsAlone self.old (event.Observe packet slot) self.new) }
         ensures err { OnErr result (self.new ≡ self.old) }
-        ensures fault { IfErr result (λ f. Refused (Possible (job_of self.old) self.old.state (One (machine.Event.Observe packet slot))) f) }
+        ensures fault { IfErr result
+            (λ f. Refused (Possible (job_of self.old) self.old.state (One (machine.Event.Observe packet slot))) f) }
     {
         self.history.take(Event::Observe {
             packet: packet as u32,
@@ -237,7 +247,8 @@ impl<'a> Hall<'a> {
     pub fn enter(&mut self, packet: u16) -> Result<(), HallFault>
         ensures ok { OnOk result (AddsAlone self.old (event.Enter packet) self.new) }
         ensures err { OnErr result (self.new ≡ self.old) }
-        ensures fault { IfErr result (λ f. Refused (Possible (job_of self.old) self.old.state (One (machine.Event.Enter packet))) f) }
+        ensures fault { IfErr result
+            (λ f. Refused (Possible (job_of self.old) self.old.state (One (machine.Event.Enter packet))) f) }
     {
         self.history.take(Event::Enter {
             packet: packet as u32,
@@ -259,7 +270,10 @@ impl<'a> Hall<'a> {
 
     /// Whether a packet may complete as far as its delivery goes.
     fn is_done(&self, packet: u16) -> bool
-        ensures { IsTrue result ↔ ((packet < length self.now.job.job.packets) × ((packet_of (job_of self.now) packet).kind ≡ Kind.Work → stage_of self.now.events packet ≡ stage.Delivered)) }
+        ensures { IsTrue result
+            ↔ ((packet < length self.now.job.job.packets)
+            × ((packet_of (job_of self.now) packet).kind ≡ Kind.Work
+            → stage_of self.now.events packet ≡ stage.Delivered)) }
     {
         self.is_packet(packet)
             && (self.job().is_barrier(packet as usize) || self.stage(packet) == Stage::Delivered)
@@ -269,7 +283,8 @@ impl<'a> Hall<'a> {
     ///
     /// # Errors
     ///
-    /// `NotEnabled` exactly where the packet may not complete, or is a kernel or agent packet that wasn't delivered; `Memory`.
+    /// `NotEnabled` exactly where the packet may not complete, or is a kernel or agent packet that wasn't
+    /// delivered; `Memory`.
     pub fn complete(&mut self, packet: u16) -> Result<(), HallFault>
         ensures ok { OnOk result (AddsAlone self.old (event.Complete packet) self.new) }
         ensures may { OnOk result (MayComplete self.old packet) }
@@ -306,7 +321,10 @@ impl<'a> Hall<'a> {
     /// The packet's pieces, with the bytes that are seen through its lane; and bytes of 0 in the one that it writes.
     fn hand_out(&self, packet: u16) -> Result<Vec<Piece>, HallFault>
         requires { packet < length self.now.job.job.packets }
-        ensures ok { IfOk result (λ pieces. pieces.items ≡ pieces_of packet (work_in self.now packet) (map (lane_sees (job_of self.now) (state_in self.now) packet) (packet_of (job_of self.now) packet).reads) (replicate (work_in self.now packet).foot.write.len 0)) }
+        ensures ok { IfOk result
+            (λ pieces. pieces.items ≡ pieces_of packet (work_in self.now packet)
+            (map (lane_sees (job_of self.now) (state_in self.now) packet) (packet_of (job_of self.now) packet).reads)
+            (replicate (work_in self.now packet).foot.write.len 0)) }
         ensures memory { IfErr result (λ e. e ≡ fault.Memory) }
     {
         self.history.run_so_far();
@@ -326,7 +344,9 @@ impl<'a> Hall<'a> {
     fn take_out(&mut self, packet: u16) -> Result<(), HallFault>
         requires { IsReady self.old packet }
         ensures ok { OnOk result (Adds self.old (event.Fetch packet) self.new) }
-        ensures out { OnOk result (self.new.out ≡ self.old.out ++ record { packet = packet; foot = foot_of self.old.job.job.packets packet } ∷ []) }
+        ensures out { OnOk result
+            (self.new.out ≡ self.old.out ++ record { packet = packet; foot = foot_of self.old.job.job.packets packet } ∷
+            []) }
         ensures err { OnErr result (self.new ≡ self.old) }
         ensures fault { IfErr result (λ f. Refused (Possible (job_of self.old) self.old.state (Fetch packet)) f) }
     {
@@ -349,20 +369,27 @@ impl<'a> Hall<'a> {
         }
     }
 
-    /// All reads of a kernel or agent packet: answers its pieces in order, first those that it reads, then the one that it
-    /// writes. The read pieces hold the bytes that every order of one packet at a time which keeps the job's order gives it, the
-    /// written one bytes of 0.
+    /// All reads of a kernel or agent packet: answers its pieces in order, first those that it reads, then the one
+    /// that it writes. The read pieces hold the bytes that every order of one packet at a time which keeps the
+    /// job's order gives it, the written one bytes of 0.
     ///
     /// # Errors
     ///
-    /// `NotEnabled` exactly where the packet is a barrier packet or none of the job's, isn't active, was fetched before, or the
-    /// event isn't enabled; `Memory`.
+    /// `NotEnabled` exactly where the packet is a barrier packet or none of the job's, isn't active, was fetched
+    /// before, or the event isn't enabled; `Memory`.
     pub fn fetch(&mut self, packet: u16) -> Result<Vec<Piece>, HallFault>
         ensures ok { OnOk result (Adds self.old (event.Fetch packet) self.new) }
-        ensures out { OnOk result (self.new.out ≡ self.old.out ++ record { packet = packet; foot = foot_of self.old.job.job.packets packet } ∷ []) }
+        ensures out { OnOk result
+            (self.new.out ≡ self.old.out ++ record { packet = packet; foot = foot_of self.old.job.job.packets packet } ∷
+            []) }
         ensures may { OnOk result (MayFetch self.old packet) }
-        ensures pieces { IfOk result (λ pieces. pieces.items ≡ pieces_of packet (work_in self.new packet) (bytes_read (job_of self.new) (state_in self.new) packet) (replicate (work_in self.new packet).foot.write.len 0)) }
-        ensures given { OnOk result ((list : List ℕ) → Extends (job_of self.old) list → bytes_read (job_of self.new) (state_in self.new) packet ≡ given (job_of self.old) list packet) }
+        ensures pieces { IfOk result
+            (λ pieces. pieces.items ≡ pieces_of packet (work_in self.new packet)
+            (bytes_read (job_of self.new) (state_in self.new) packet)
+            (replicate (work_in self.new packet).foot.write.len 0)) }
+        ensures given { OnOk result
+            ((list : List ℕ) → Extends (job_of self.old) list
+            → bytes_read (job_of self.new) (state_in self.new) packet ≡ given (job_of self.old) list packet) }
         ensures err { OnErr result (self.new ≡ self.old) }
         ensures fault { IfErr result (λ f. Refused (MayFetch self.old packet) f) }
     {
@@ -379,8 +406,8 @@ impl<'a> Hall<'a> {
         Ok(pieces)
     }
 
-    /// Whether the piece is one that a packet reads, of this range, and holds the bytes that it has read as its entries from
-    /// `first` on.
+    /// Whether the piece is one that a packet reads, of this range, and holds the bytes that it has read as its
+    /// entries from `first` on.
     fn is_read(&self, packet: u16, place: u8, range: Range, first: u64, piece: &Piece) -> bool
         requires packet { packet < length self.now.job.job.packets }
         requires entries { first + range.len < 2 ^ 64 }
@@ -398,7 +425,9 @@ impl<'a> Hall<'a> {
     fn is_first(&self, packet: u16, work: Work, pieces: &[Piece]) -> bool
         requires packet { packet < length self.now.job.job.packets }
         requires count { length pieces.now ≡ reads_of work.task + writes_of work.task }
-        ensures { IsTrue result ↔ (0 < reads_of work.task → IsReadPiece (state_in self.now) packet 0 (first_read work) 0 (piece_at pieces.now 0)) }
+        ensures { IsTrue result
+            ↔ (0 < reads_of work.task
+            → IsReadPiece (state_in self.now) packet 0 (first_read work) 0 (piece_at pieces.now 0)) }
     {
         let (first, _second) = both(work.foot.reads);
         work.task.reads() < 1 || self.is_read(packet, 0, first, 0, &pieces[0])
@@ -409,7 +438,10 @@ impl<'a> Hall<'a> {
         requires packet { packet < length self.now.job.job.packets }
         requires count { length pieces.now ≡ reads_of work.task + writes_of work.task }
         requires entries { (first_read work).len + (second_read work).len < 2 ^ 64 }
-        ensures { IsTrue result ↔ (1 < reads_of work.task → IsReadPiece (state_in self.now) packet 1 (second_read work) (first_read work).len (piece_at pieces.now 1)) }
+        ensures { IsTrue result
+            ↔ (1 < reads_of work.task
+            → IsReadPiece (state_in self.now) packet 1 (second_read work) (first_read work).len
+            (piece_at pieces.now 1)) }
     {
         let (first, second) = both(work.foot.reads);
         work.task.reads() < 2 || self.is_read(packet, 1, second, first.len, &pieces[1])
@@ -440,7 +472,8 @@ impl<'a> Hall<'a> {
     fn take_back(&mut self, packet: u16, written: &[u8]) -> Result<(), HallFault>
         requires packet { packet < length self.old.job.job.packets }
         requires out { stage_of self.old.events packet ≡ stage.Out }
-        requires bytes { Possible (job_of self.old) self.old.state (Deliver packet) → written.now ≡ bytes_stored (job_of self.old) (state_in self.old) packet }
+        requires bytes { Possible (job_of self.old) self.old.state (Deliver packet)
+            → written.now ≡ bytes_stored (job_of self.old) (state_in self.old) packet }
         ensures ok { OnOk result (Adds self.old (event.Deliver packet) self.new) }
         ensures out { OnOk result (self.new.out ≡ without packet self.old.out) }
         ensures err { OnErr result (self.new ≡ self.old) }
@@ -452,13 +485,14 @@ impl<'a> Hall<'a> {
         Ok(())
     }
 
-    /// All stores of a packet that was fetched, of the bytes in its pieces, which it brings back in the order in which it got them.
-    /// The piece that it writes has to hold what its task makes of those that it reads.
+    /// All stores of a packet that was fetched, of the bytes in its pieces, which it brings back in the order in
+    /// which it got them. The piece that it writes has to hold what its task makes of those that it reads.
     ///
     /// # Errors
     ///
-    /// `NotEnabled` exactly where the packet isn't out, or the event isn't enabled; else `WrongPieces` exactly where these aren't
-    /// its pieces in order, or a read piece doesn't hold what was handed out; `Memory`. The pieces are handed back.
+    /// `NotEnabled` exactly where the packet isn't out, or the event isn't enabled; else `WrongPieces` exactly
+    /// where these aren't its pieces in order, or a read piece doesn't hold what was handed out; `Memory`. The
+    /// pieces are handed back.
     pub fn deliver(
         &mut self,
         packet: u16,
@@ -467,7 +501,8 @@ impl<'a> Hall<'a> {
         requires done { AreDone self.old packet pieces.items }
         ensures ok { OnOk result (Adds self.old (event.Deliver packet) self.new) }
         ensures out { OnOk result (self.new.out ≡ without packet self.old.out) }
-        ensures may { OnOk result (MayDeliver self.old packet × ArePieces (state_in self.old) packet (work_in self.old packet) pieces.items) }
+        ensures may { OnOk result
+            (MayDeliver self.old packet × ArePieces (state_in self.old) packet (work_in self.old packet) pieces.items) }
         ensures err { OnErr result (self.new ≡ self.old) }
         ensures back { IfErr result (λ e. e.1 ≡ pieces) }
         ensures fault { IfErr result (λ e. NotDelivered self.old packet pieces.items e.0) }
@@ -529,7 +564,9 @@ fn let_out(grants: &mut Grants, packet: u16, foot: &Footprint) -> Result<(), Hal
 /// Whether the last piece is the one that a packet with this work writes, if it writes one.
 fn is_last(packet: u16, work: Work, pieces: &[Piece]) -> bool
     requires count { length pieces.now ≡ reads_of work.task + writes_of work.task }
-    ensures { IsTrue result ↔ (0 < writes_of work.task → IsPieceOf packet (reads_of work.task) work.foot.write (piece_at pieces.now (reads_of work.task))) }
+    ensures { IsTrue result
+        ↔ (0 < writes_of work.task
+        → IsPieceOf packet (reads_of work.task) work.foot.write (piece_at pieces.now (reads_of work.task))) }
 {
     let reads = work.task.reads();
     work.task.writes() < 1 || is_piece(&pieces[reads], packet, reads as u8, work.foot.write)

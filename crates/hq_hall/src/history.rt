@@ -64,7 +64,8 @@ fn apply_delivery(
     bytes: &[u8],
 ) -> Result<(), HallFault>
     requires is { IsStateOf (plan accepted.now.job) state.old }
-    requires bytes { Possible (plan accepted.now.job) state.old (Deliver packet) → bytes.now ≡ bytes_stored (plan accepted.now.job) (state_of (plan accepted.now.job) state.old) packet }
+    requires bytes { Possible (plan accepted.now.job) state.old (Deliver packet)
+        → bytes.now ≡ bytes_stored (plan accepted.now.job) (state_of (plan accepted.now.job) state.old) packet }
     ensures ok { OnOk result (Applied (plan accepted.now.job) state.old (Deliver packet) state.new) }
     ensures err { OnErr result (state.new ≡ state.old) }
     ensures fault { IfErr result (λ f. NotDone (plan accepted.now.job) state.old (Deliver packet) f) }
@@ -152,7 +153,8 @@ impl<'a> History<'a> {
     /// Makes a delivery of these bytes happen, and writes it down.
     #[tactic(auto, using(crate::proofs::Events::run_grows))]
     pub fn deliver(&mut self, packet: u16, bytes: &[u8]) -> Result<(), HallFault>
-        requires bytes { Possible (plan_of self.old) self.old.state (Deliver packet) → bytes.now ≡ bytes_stored (plan_of self.old) (state_of (plan_of self.old) self.old.state) packet }
+        requires bytes { Possible (plan_of self.old) self.old.state (Deliver packet)
+            → bytes.now ≡ bytes_stored (plan_of self.old) (state_of (plan_of self.old) self.old.state) packet }
         ensures ok { OnOk result (Moves self.old (event.Deliver packet) self.new) }
         ensures err { OnErr result (self.new ≡ self.old) }
         ensures fault { IfErr result (λ f. NotDone (plan_of self.old) self.old.state (Deliver packet) f) }

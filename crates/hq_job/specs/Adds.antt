@@ -12,8 +12,8 @@ use Rattle.hq_job.specs.Tables.{Tables, tests, added, NoneApplies, IsFirst}
 use Rattle.hq_job.specs.JobText.{Admits, Refused, RefusedAtEnd, IsEnd, at_line, value_of}
 use Rattle.hq_signals.specs.Table.{IsUndershot, NeverReachesZero}
 
--- Where no test applies the line adds what it says. Else the tables stay, and the first test that applies is told, or that
--- memory ran out.
+-- Where no test applies the line adds what it says. Else the tables stay, and the first test that applies is told,
+-- or that memory ran out.
 abbrev pub Adds : Result (Unit {0}) Reason → Tables → Tables → Meaning → Type 0
 Adds (Ok u) old new m = NoneApplies (tests old m) × (new ≡ added old m)
 Adds (Err e) old new m = (new ≡ old) × ((e ≡ reason.Memory) ⊎ IsFirst (tests old m) e)
@@ -40,15 +40,17 @@ GivesJob view (Err f) job = f ≡ no_memory
 
 -- What the end makes of the tables: their job, where no signal is against it.
 abbrev pub Finishes : {X : Type 0} → (X → JobValue) → Result X JobFault → ℕ → Tables → Type 0
-Finishes view (Ok j) line ts = All (λ s. ¬ IsUndershot s) ts.signals × All (λ s. ¬ NeverReachesZero s) ts.signals × (view j ≡ value_of ts)
-Finishes view (Err f) line ts = (f ≡ no_memory) ⊎ ((why : Reason) × RefusedAtEnd ts.signals why × (f ≡ at_line line why))
+Finishes view (Ok j) line ts = All (λ s. ¬ IsUndershot s) ts.signals × All (λ s. ¬ NeverReachesZero s) ts.signals
+    × (view j ≡ value_of ts)
+Finishes view (Err f) line ts = (f ≡ no_memory)
+    ⊎ ((why : Reason) × RefusedAtEnd ts.signals why × (f ≡ at_line line why))
 
 -- the reader failed or passed its turns, at line 0
 abbrev pub no_text : JobFault
 no_text = at_line 0 reason.Read
 
--- What a fault of a reader's text says: that memory ran out; that the reader failed, the last of these facts; or what is wrong with the
--- text, the first.
+-- What a fault of a reader's text says: that memory ran out; that the reader failed, the last of these facts; or
+-- what is wrong with the text, the first.
 abbrev pub FaultOf : JobFault → Type 0 → Type 0 → Type 0
 FaultOf f wrong failed = (f ≡ no_memory) ⊎ (((f ≡ no_text) × failed) ⊎ wrong)
 

@@ -1,5 +1,6 @@
 -- What the tables keep while lines are added.
-use Rattle.std.specs.Prelude.{◌≡◌, ◌≢◌, ℕ, ◌+◌, ◌<◌, ◌≤◌, false, length, All, AllPairs, Some, IsTrue, IfSome, slice_get, count_by}
+use Rattle.std.specs.Prelude.{◌≡◌, ◌≢◌, ℕ, ◌+◌, ◌<◌, ◌≤◌, false, length, All, AllPairs, Some, IsTrue, IfSome}
+use Rattle.std.specs.Prelude.{slice_get, count_by}
 use Rattle.hq_footprint.specs.Bytes.{read_entries, written_bytes}
 use Rattle.hq_footprint.specs.Tasks.{Suits}
 use Rattle.hq_signals.specs.Table.{OpenSignal, handles}

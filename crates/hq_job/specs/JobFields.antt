@@ -8,6 +8,8 @@ use Rattle.hq_job.specs.View.{value_of, IsRead}
 pub record FieldsFit (j : Inside) : Type 0 where
   pub is_read : IsRead (value_of j)
   -- the packets stand by number: in the queues of their lines by number, whatever their heads are by now
-  pub queues_are : map (λ p. p.queue) j.packets.items ≡ map (λ p. p.queue) (by_number (length j.tables.queues.items) j.tables.placed.items)
+  pub queues_are : map (λ p. p.queue) j.packets.items ≡ map (λ p. p.queue)
+      (by_number (length j.tables.queues.items) j.tables.placed.items)
   -- as many packets come before a queue's first as lower queues have
-  pub firsts_are : j.firsts.items ≡ map (λ q. length (by_number q j.tables.placed.items)) (numbers (length j.tables.queues.items))
+  pub firsts_are : j.firsts.items ≡ map (λ q. length (by_number q j.tables.placed.items))
+      (numbers (length j.tables.queues.items))

@@ -1,5 +1,6 @@
 -- Which lists of lines are a job's text, and which fault of a text is its first.
-use Rattle.std.specs.Prelude.{◌≡◌, ℕ, ◌+◌, ◌≢◌, Bool, true, false, List, [], ◌∷◌, ◌++◌, length, codes, All, Some, if◌then◌else◌}
+use Rattle.std.specs.Prelude.{◌≡◌, ℕ, ◌+◌, ◌≢◌, Bool, true, false, List, [], ◌∷◌, ◌++◌, length, codes, All, Some}
+use Rattle.std.specs.Prelude.{if◌then◌else◌}
 use Rattle.std.specs.List.{list_any}
 use Rattle.hq_signals.specs.Table.{OpenSignal, IsUndershot, NeverReachesZero, IsFirst as IsFirstSignal}
 use Rattle.hq_lines.specs.Bytes.{is_outside}
@@ -53,7 +54,8 @@ pub data Refused (ts : Tables) (line : List ℕ) : Reason → Type 0 where
 -- What the signals have against a text that ends: one has too many decrementers, or else one that is waited on too few.
 pub data RefusedAtEnd (signals : List OpenSignal) : Reason → Type 0 where
   undershoot : (handle : ℕ) → IsFirstSignal IsUndershot signals handle → RefusedAtEnd signals (reason.Undershoot handle)
-  never_zero : (handle : ℕ) → All (λ s. ¬ IsUndershot s) signals → IsFirstSignal NeverReachesZero signals handle → RefusedAtEnd signals (reason.NeverZero handle)
+  never_zero : (handle : ℕ) → All (λ s. ¬ IsUndershot s) signals → IsFirstSignal NeverReachesZero signals handle
+      → RefusedAtEnd signals (reason.NeverZero handle)
 
 -- ---- whole texts
 
@@ -96,19 +98,26 @@ pub data FirstFault (lines : List (List ℕ)) : JobFault → Type 0 where
   -- no line at all
   nothing : lines ≡ [] → FirstFault lines (at_line 1 reason.NoEnd)
   -- no first line
-  headless : (first : List ℕ) (others : List (List ℕ)) → lines ≡ first ∷ others → ((rings : Bool) → ¬ SaysVersion first rings) → FirstFault lines (at_line 1 (misplaced first))
+  headless : (first : List ℕ) (others : List (List ℕ)) → lines ≡ first ∷ others
+      → ((rings : Bool) → ¬ SaysVersion first rings) → FirstFault lines (at_line 1 (misplaced first))
   -- a line behind admitted ones is refused
-  faulty : (rings : Bool) (first : List ℕ) (front : List (List ℕ)) (line : List ℕ) (rest : List (List ℕ)) (mid : Tables) (why : Reason)
-      → lines ≡ first ∷ (front ++ line ∷ rest) → SaysVersion first rings → AdmitsAll (empty rings) front mid → Refused mid line why → FirstFault lines (at_line (length front + 2) why)
+  faulty : (rings : Bool) (first : List ℕ) (front : List (List ℕ)) (line : List ℕ) (rest : List (List ℕ)) (mid : Tables)
+      (why : Reason)
+      → lines ≡ first ∷ (front ++ line ∷ rest) → SaysVersion first rings → AdmitsAll (empty rings) front mid
+      → Refused mid line why → FirstFault lines (at_line (length front + 2) why)
   -- a line behind the end
-  behind : (rings : Bool) (first : List ℕ) (front : List (List ℕ)) (last more : List ℕ) (rest : List (List ℕ)) (mid : Tables)
-      → lines ≡ first ∷ (front ++ last ∷ more ∷ rest) → SaysVersion first rings → AdmitsAll (empty rings) front mid → IsEnd last → FirstFault lines (at_line (length front + 3) (misplaced more))
+  behind : (rings : Bool) (first : List ℕ) (front : List (List ℕ)) (last more : List ℕ) (rest : List (List ℕ))
+      (mid : Tables)
+      → lines ≡ first ∷ (front ++ last ∷ more ∷ rest) → SaysVersion first rings → AdmitsAll (empty rings) front mid
+      → IsEnd last → FirstFault lines (at_line (length front + 3) (misplaced more))
   -- no end
   endless : (rings : Bool) (first : List ℕ) (front : List (List ℕ)) (mid : Tables)
-      → lines ≡ first ∷ front → SaysVersion first rings → AdmitsAll (empty rings) front mid → FirstFault lines (at_line (length front + 2) reason.NoEnd)
+      → lines ≡ first ∷ front → SaysVersion first rings → AdmitsAll (empty rings) front mid
+      → FirstFault lines (at_line (length front + 2) reason.NoEnd)
   -- the end, with a signal against it
   at_end : (rings : Bool) (first : List ℕ) (front : List (List ℕ)) (last : List ℕ) (mid : Tables) (why : Reason)
-      → lines ≡ first ∷ (front ++ last ∷ []) → SaysVersion first rings → AdmitsAll (empty rings) front mid → IsEnd last → RefusedAtEnd mid.signals why → FirstFault lines (at_line (length front + 2) why)
+      → lines ≡ first ∷ (front ++ last ∷ []) → SaysVersion first rings → AdmitsAll (empty rings) front mid → IsEnd last
+      → RefusedAtEnd mid.signals why → FirstFault lines (at_line (length front + 2) why)
 
 -- the laws
 

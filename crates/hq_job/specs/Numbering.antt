@@ -18,8 +18,8 @@ number_of key xs k =
     let q = slice_index (map key xs) k in
     length (grouped key q xs) + length (with_key key (take k xs) q)
 
--- Of packets in the order of their lines: the packets by number, the queues in file order and the packets of each in its
--- order; and the numbers in the order of the lines.
+-- Of packets in the order of their lines: the packets by number, the queues in file order and the packets of each
+-- in its order; and the numbers in the order of the lines.
 abbrev pub by_number : ℕ → List Placed → List Placed
 by_number queues placed = grouped (λ p. p.queue) queues placed
 

@@ -1,5 +1,6 @@
 -- The tests of a packet in three parts, and what each part of the code answers.
-use Rattle.std.specs.Prelude.{◌≡◌, ℕ, ◌≤◌, ◌⊎◌, List, [], ◌∷◌, map, replicate, length, Any, IsNone, Result, Ok, Err, ◌+◌, ◌==◌, ◌||◌, if◌then◌else◌}
+use Rattle.std.specs.Prelude.{◌≡◌, ℕ, ◌≤◌, ◌⊎◌, List, [], ◌∷◌, map, replicate, length, Any, IsNone, Result, Ok, Err}
+use Rattle.std.specs.Prelude.{◌+◌, ◌==◌, ◌||◌, if◌then◌else◌}
 use Rattle.std.specs.List.{list_any}
 use Rattle.hq_signals.specs.Table.{OpenSignal}
 use Rattle.hq_packet.specs.declared.packet.Packet as packet
@@ -10,7 +11,8 @@ use Rattle.hq_footprint.specs.declared.footprint.Work.{Work}
 use Rattle.hq_footprint.specs.Bytes.{ranges_of, Passes, IsOutside}
 use Rattle.hq_job.specs.declared.fault.Reason.{Reason}
 use Rattle.hq_job.specs.declared.fault.Reason.TheVariants as reason
-use Rattle.hq_job.specs.Tables.{Tables, Test, when, IsFirst, NoneApplies, IsFull, IsUnknownService, NamesUndeclared, IsNullOr, HasManyItems, HasShortBlock, work_of, range_of}
+use Rattle.hq_job.specs.Tables.{Tables, Test, when, IsFirst, NoneApplies, IsFull, IsUnknownService, NamesUndeclared}
+use Rattle.hq_job.specs.Tables.{IsNullOr, HasManyItems, HasShortBlock, work_of, range_of}
 
 -- whether the queue has a place for it
 abbrev pub place_tests : Tables → List Test
@@ -37,7 +39,8 @@ call_tests ts p = when (HasShortBlock ts p) (reason.Footprint foot.ArgsShort)
 abbrev pub work_tests : Tables → packet.Packet → List Test
 work_tests ts p = when (HasShortBlock ts p) (reason.Footprint foot.ArgsShort)
     ∷ when (Any Passes (ranges_of (work_of ts p).foot)) (reason.Footprint foot.Overflow)
-    ∷ when (Any (IsOutside (map range_of ts.buffers)) (ranges_of (work_of ts p).foot)) (reason.Footprint foot.OutsideBuffer)
+    ∷ when (Any (IsOutside (map range_of ts.buffers)) (ranges_of (work_of ts p).foot))
+    (reason.Footprint foot.OutsideBuffer)
     ∷ []
 
 -- What a check of some tests answers: that none applies, or the first that does, unless memory ran out.

@@ -8,4 +8,5 @@ use Rattle.hq_job.specs.declared.rows.Placed.{Placed}
 pub record RangesSuit (p : Placed) : Type 0 where
   pub reads : map (λ r. r.len) p.bytes.reads ≡ map (λ r. r.len) p.work.foot.reads
   pub write : p.bytes.write.len ≡ p.work.foot.write.len
-  pub each : (first second : Range) → p.work.foot.reads ≡ first ∷ second ∷ [] → SuitsTwo p.work.task first.len second.len p.work.foot.write.len
+  pub each : (first second : Range) → p.work.foot.reads ≡ first ∷ second ∷ []
+      → SuitsTwo p.work.task first.len second.len p.work.foot.write.len

@@ -48,10 +48,13 @@ pub record HasTaken (lines : List (List ℕ)) (s : SoFar) : Type 0 where
 abbrev pub HasFault : List (List ℕ) → JobFault → Type 0
 HasFault lines f = (f ≡ no_memory) ⊎ FirstFault lines f
 
--- What a line answers at a place: where the next one stands, or why it is refused, whatever lines lead there and follow it.
+-- What a line answers at a place: where the next one stands, or why it is refused, whatever lines lead there and
+-- follow it.
 abbrev pub Steps : Result Place Reason → Place → Tables → List ℕ → Tables → Type 0
 Steps (Ok next) here ts line new = (lines : List (List ℕ)) → Leads here lines ts → Leads next (lines ++ line ∷ []) new
-Steps (Err e) here ts line new = (e ≡ reason.Memory) ⊎ ((lines more : List (List ℕ)) → Leads here lines ts → FirstFault (lines ++ line ∷ more) (at_line (length lines + 1) e))
+Steps (Err e) here ts line new = (e ≡ reason.Memory)
+    ⊎ ((lines more : List (List ℕ)) → Leads here lines ts
+    → FirstFault (lines ++ line ∷ more) (at_line (length lines + 1) e))
 
 -- What taking in all of these lines answers, behind those that were taken in.
 abbrev pub TakesAll : Result (Unit {0}) JobFault → SoFar → List (List ℕ) → SoFar → Type 0

@@ -1,5 +1,8 @@
--- The tables that the lines of a job fill, what a line asks of the tables that stand when it comes, and what it adds to them.
-use Rattle.std.specs.Prelude.{◌≡◌, ◌≢◌, ℕ, ◌+◌, ◌*◌, ◌<◌, ◌≤◌, ◌⊎◌, Bool, false, ◌||◌, List, [], ◌∷◌, ◌++◌, length, map, find, sum_by, replicate, All, Any, Contains, count_by, Option, Some, None, IsNone, IfSome, unwrap_or, slice_index, ◌==◌, if◌then◌else◌}
+-- The tables that the lines of a job fill, what a line asks of the tables that stand when it comes, and what it
+-- adds to them.
+use Rattle.std.specs.Prelude.{◌≡◌, ◌≢◌, ℕ, ◌+◌, ◌*◌, ◌<◌, ◌≤◌, ◌⊎◌, Bool, false, ◌||◌, List, [], ◌∷◌, ◌++◌, length}
+use Rattle.std.specs.Prelude.{map, find, sum_by, replicate, All, Any, Contains, count_by, Option, Some, None}
+use Rattle.std.specs.Prelude.{IsNone, IfSome, unwrap_or, slice_index, ◌==◌, if◌then◌else◌}
 use Rattle.std.specs.Option.{option_map}
 use Rattle.std.specs.List.{flat_map, list_any, position}
 use Rattle.std.specs.Str.{bytes_eq}
@@ -40,7 +43,18 @@ pub record Tables : Type 0 where
   pub placed : List Placed
 
 abbrev pub empty : Bool → Tables
-empty rings = record { rings = rings; agents = []; buffers = []; arguments = []; signal_names = []; signals = []; kernels = []; queues = []; current = None; placed = [] }
+empty rings = record {
+  rings = rings;
+  agents = [];
+  buffers = [];
+  arguments = [];
+  signal_names = [];
+  signals = [];
+  kernels = [];
+  queues = [];
+  current = None;
+  placed = [];
+}
 
 -- ---- names, addresses and handles
 
@@ -78,7 +92,11 @@ abbrev pub range_in_bytes : List Bytes → Range → Range
 range_in_bytes buffers r = if r.len == 0 then nowhere else range (unwrap_or (byte_number buffers r.at) 0) r.len
 
 abbrev pub in_bytes : List Bytes → Footprint → Footprint
-in_bytes buffers foot = record { reads = map (range_in_bytes buffers) foot.reads; write = range_in_bytes buffers foot.write }
+in_bytes buffers foot = record {
+  reads = map
+      (range_in_bytes buffers) foot.reads;
+  write = range_in_bytes buffers foot.write;
+}
 
 abbrev pub total_of : List Bytes → ℕ
 total_of buffers = sum_by (λ b. length b.bytes) buffers
@@ -186,7 +204,8 @@ HasShortBlock ts p = ⊥
 
 -- where queues are no rings, the queue that packets go to has no slot left
 abbrev pub IsFull : Tables → Type 0
-IsFull ts = (ts.rings ≡ false) × IfSome ts.current (λ q. slice_index (map (λ e. e.size) ts.queues) q ≤ count_by (λ p. p.queue == q) ts.placed)
+IsFull ts = (ts.rings ≡ false)
+    × IfSome ts.current (λ q. slice_index (map (λ e. e.size) ts.queues) q ≤ count_by (λ p. p.queue == q) ts.placed)
 
 -- in the order in which they are made
 abbrev pub packet_tests : Tables → packet.Packet → List Test
@@ -199,7 +218,8 @@ packet_tests ts p = when (1024 ≤ length ts.placed) reason.Limit
     ∷ when (HasManyItems p) reason.Items
     ∷ when (HasShortBlock ts p) (reason.Footprint foot.ArgsShort)
     ∷ when (Any Passes (ranges_of (work_of ts p).foot)) (reason.Footprint foot.Overflow)
-    ∷ when (Any (IsOutside (map range_of ts.buffers)) (ranges_of (work_of ts p).foot)) (reason.Footprint foot.OutsideBuffer)
+    ∷ when (Any (IsOutside (map range_of ts.buffers)) (ranges_of (work_of ts p).foot))
+    (reason.Footprint foot.OutsideBuffer)
     ∷ []
 
 abbrev pub tests : Tables → Meaning → List Test
@@ -209,7 +229,8 @@ tests ts (says.Agent name) = when (16 ≤ length ts.agents) reason.Limit
 tests ts (says.Buffer name at bytes) = when (64 ≤ length ts.buffers) reason.Limit
     ∷ when (65536 < total_of ts.buffers + length bytes) reason.Limit
     ∷ when (Contains (names_of ts.buffers) name) reason.Duplicate
-    ∷ when (Any (λ b. Share (bytes_of (range_of b)) (bytes_of (range at (length bytes)))) ts.buffers) reason.BufferOverlap
+    ∷ when (Any (λ b. Share (bytes_of (range_of b))
+    (bytes_of (range at (length bytes)))) ts.buffers) reason.BufferOverlap
     ∷ []
 tests ts (says.Args name at bytes) = when (256 ≤ length ts.arguments) reason.Limit
     ∷ when (Contains (names_of ts.arguments) name) reason.Duplicate
@@ -244,14 +265,23 @@ with_packet ts p =
 
 abbrev pub added : Tables → Meaning → Tables
 added ts (says.Agent name) = record ts { agents = ts.agents ++ name ∷ [] }
-added ts (says.Buffer name at bytes) = record ts { buffers = ts.buffers ++ record { name = name; at = at; bytes = bytes } ∷ [] }
-added ts (says.Args name at bytes) = record ts { arguments = ts.arguments ++ record { name = name; at = at; bytes = bytes } ∷ [] }
-added ts (says.Signal name handle start) = record ts { signal_names = ts.signal_names ++ name ∷ []; signals = ts.signals ++ opened handle start ∷ [] }
-added ts (says.Kernel name object code) = record ts { kernels = ts.kernels ++ record { name = name; object = object; code = code } ∷ [] }
+added ts (says.Buffer name at bytes) = record ts
+    { buffers = ts.buffers ++ record { name = name; at = at; bytes = bytes } ∷ [] }
+added ts (says.Args name at bytes) = record ts
+    { arguments = ts.arguments ++ record { name = name; at = at; bytes = bytes } ∷ [] }
+added ts (says.Signal name handle start) = record ts
+    { signal_names = ts.signal_names ++ name ∷ []; signals = ts.signals ++ opened handle start ∷ [] }
+added ts (says.Kernel name object code) = record ts
+    { kernels = ts.kernels ++ record { name = name; object = object; code = code } ∷ [] }
 -- the packets that follow go to the new queue
 added ts (says.Queue name agent size) =
     record ts {
-      queues = ts.queues ++ record { name = name; agent = unwrap_or (number_of_name ts.agents agent) 0; size = size } ∷ [];
+      queues = ts.queues ++ record {
+        name = name;
+        agent = unwrap_or
+            (number_of_name ts.agents agent) 0;
+        size = size;
+      } ∷ [];
       current = Some (length ts.queues);
     }
 added ts (says.To name) = record ts { current = number_of_name (queue_names ts) name }

@@ -38,8 +38,9 @@ pub record WithinLimits (job : JobValue) : Type 0 where
   pub kernels : length job.kernels ≤ 64
   pub arguments : length job.arguments ≤ 256
 
--- what is known of each packet of a job that was read, beside what the plan's laws ask: what it reads lies in memory, it reads
--- and writes as many bytes as its task asks for, in all and range by range, and its signals are there
+-- what is known of each packet of a job that was read, beside what the plan's laws ask: what it reads lies in
+-- memory, it reads and writes as many bytes as its task asks for, in all and range by range, and its signals are
+-- there
 pub record PacketIsRead (job : JobValue) (p : Placed) : Type 0 where
   pub reads : All (λ b. b < total_of job.buffers) (read_entries p.bytes)
   pub suits : Suits p.work.task (length (read_entries p.bytes)) (length (written_bytes p.bytes))

@@ -24,8 +24,8 @@ fn kinds_of(first: &Footprint, second: &Footprint) -> Kinds
 }
 
 impl Job {
-    /// How two packets conflict, in this order: by a write that the second reads, by two writes, by a read that the second
-    /// writes.
+    /// How two packets conflict, in this order: by a write that the second reads, by two writes, by a read that the
+    /// second writes.
     pub fn kinds(&self, first: usize, second: usize) -> Kinds
         requires first { first < length self.now.packets }
         requires second { second < length self.now.packets }

@@ -97,8 +97,12 @@ impl Draft {
     fn take_next(&mut self, alloc: Global, line: &[u8]) -> Result<(), JobFault>
         requires { TablesFit (tables_of self.old.tables) }
         ensures fit { TablesFit (tables_of self.new.tables) }
-        ensures taken { OnOk result ((lines : List (List ℕ)) → HasTaken lines (so_far self.old) → HasTaken (lines ++ line.now ∷ []) (so_far self.new)) }
-        ensures fault { IfErr result (λ f. (lines more : List (List ℕ)) → HasTaken lines (so_far self.old) → HasFault (lines ++ line.now ∷ more) f) }
+        ensures taken { OnOk result
+            ((lines : List (List ℕ)) → HasTaken lines (so_far self.old)
+            → HasTaken (lines ++ line.now ∷ []) (so_far self.new)) }
+        ensures fault { IfErr result
+            (λ f. (lines more : List (List ℕ)) → HasTaken lines (so_far self.old)
+            → HasFault (lines ++ line.now ∷ more) f) }
     {
         let number = next_number(self.count)?;
         match take_at(self.place, &mut self.tables, alloc, line) {

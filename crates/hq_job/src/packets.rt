@@ -1,6 +1,7 @@
 //! Packets taken in.
 
-ghost use Rattle.std.specs.Prelude.{◌≡◌, ◌+◌, ◌^◌, ◌<◌, ◌≤◌, ◌↔◌, ◌⊎◌, ◌==◌, ◌∷◌, false, map, count_by, slice_index, All, AllPairs, Any, IfOk, IsNone, IsTrue};
+ghost use Rattle.std.specs.Prelude.{◌≡◌, ◌+◌, ◌^◌, ◌<◌, ◌≤◌, ◌↔◌, ◌⊎◌, ◌==◌, ◌∷◌, false, map, count_by};
+ghost use Rattle.std.specs.Prelude.{slice_index, All, AllPairs, Any, IfOk, IsNone, IsTrue};
 ghost use Rattle.hq_footprint.specs.Bytes.{Fits, IsOutside, ranges_of};
 ghost use Rattle.hq_footprint.specs.Table.{no_work};
 ghost use Rattle.hq_lines.specs.Meaning as says;
@@ -8,8 +9,11 @@ ghost use Rattle.hq_packet.specs.Parts.{completion_of};
 ghost use Rattle.hq_signals.specs.Table.{IsOpen, changed_at, noted, with_wait};
 ghost use Rattle.hq_job.specs.Adds.{Adds};
 ghost use Rattle.hq_job.specs.Fits.{TablesFit};
-ghost use Rattle.hq_job.specs.PacketTests.{place_tests, name_tests, work_tests, Checks, Calls, slots_of, completed, awaited};
-ghost use Rattle.hq_job.specs.Tables.{IsUndeclared, IsUnknownService, NamesUndeclared, IsNullOr, HasManyItems, NoneApplies, kernel_of, block_of, deps_of, items_of, work_of, placed_of, noted_by, signal_number};
+ghost use Rattle.hq_job.specs.PacketTests.{place_tests, name_tests, work_tests, Checks, Calls, slots_of, completed};
+ghost use Rattle.hq_job.specs.PacketTests.{awaited};
+ghost use Rattle.hq_job.specs.Tables.{IsUndeclared, IsUnknownService, NamesUndeclared, IsNullOr, HasManyItems};
+ghost use Rattle.hq_job.specs.Tables.{NoneApplies, kernel_of, block_of, deps_of, items_of, work_of, placed_of};
+ghost use Rattle.hq_job.specs.Tables.{noted_by, signal_number};
 ghost use Rattle.hq_job.specs.TablesView.{tables_of};
 
 use crate::addresses::{buffer_ranges, in_bytes};
@@ -158,7 +162,10 @@ impl Tables {
     fn is_full(&self, queue: u16) -> bool
         requires fit { TablesFit (tables_of self.now) }
         requires current { self.now.current ≡ Some queue }
-        ensures { IsTrue result ↔ ((self.now.rings ≡ false) × (slice_index (map (λ e. e.size) self.now.queues.items) queue ≤ count_by (λ p. p.queue == queue) self.now.placed.items)) }
+        ensures { IsTrue result
+            ↔ ((self.now.rings ≡ false)
+            × (slice_index (map (λ e. e.size) self.now.queues.items) queue ≤ count_by
+            (λ p. p.queue == queue) self.now.placed.items)) }
     {
         if self.rings {
             return false;
@@ -210,7 +217,9 @@ impl Tables {
 
     /// Whether a kernel's object or its kernarg block is not there.
     fn is_unfound(&self, kernel: &Kernel) -> bool
-        ensures { IsTrue result ↔ (IsNone (kernel_of (tables_of self.now) kernel.now.object) ⊎ IsNone (block_of (tables_of self.now) kernel.now.kernarg)) }
+        ensures { IsTrue result
+            ↔ (IsNone (kernel_of (tables_of self.now) kernel.now.object)
+            ⊎ IsNone (block_of (tables_of self.now) kernel.now.kernarg)) }
     {
         kernel_at(&self.kernels, kernel.object).is_none()
             || block_at(&self.arguments, kernel.kernarg).is_none()

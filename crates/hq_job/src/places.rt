@@ -24,7 +24,8 @@ pub fn number_at(firsts: &[usize], packets: &[Placed], queue: usize, place: usiz
 pub fn span_of(firsts: &[usize], packets: &[Placed], queue: usize) -> Range<usize>
     requires { queue < length firsts.now }
     ensures start { result.start ≡ slice_index firsts.now queue }
-    ensures end { result.end ≡ (if nat_lt (queue + 1) (length firsts.now) then slice_index firsts.now (queue + 1) else length packets.now) }
+    ensures end { result.end ≡ (if nat_lt (queue + 1) (length firsts.now) then slice_index firsts.now
+        (queue + 1) else length packets.now) }
 {
     let end = match firsts.get(queue + 1) {
         Some(next) => *next,

@@ -36,8 +36,11 @@ pub fn read_text(alloc: Global, text: &[u8]) -> Result<Job, JobFault>
 
 /// The job of the text that a source gives up to its end, or its first fault.
 fn read_source<S: Source>(alloc: Global, source: &mut S) -> Result<Job, JobFault>
-    ensures found { IfOk result (λ job. OfText S S.Turned TURNS source.old source.new (λ text. JobText (lines_of text) job)) }
-    ensures fault { IfErr result (λ f. FaultOf f (OfText S S.Turned TURNS source.old source.new (λ text. FirstFault (lines_of text) f)) (Fails S S.Turned TURNS source.old source.new ⊎ Passes S S.Turned TURNS source.old source.new)) }
+    ensures found { IfOk result
+        (λ job. OfText S S.Turned TURNS source.old source.new (λ text. JobText (lines_of text) job)) }
+    ensures fault { IfErr result
+        (λ f. FaultOf f (OfText S S.Turned TURNS source.old source.new (λ text. FirstFault (lines_of text) f))
+        (Fails S S.Turned TURNS source.old source.new ⊎ Passes S S.Turned TURNS source.old source.new)) }
 {
     match read_lines(alloc, source, Progress::new(alloc)) {
         Ok(progress) => progress.finish(alloc),
@@ -49,19 +52,29 @@ fn read_source<S: Source>(alloc: Global, source: &mut S) -> Result<Job, JobFault
     }
 }
 
-/// The job that a reader's text is, or its first fault, as `read_text` tells them of the whole text. Of the text no more is held
-/// than what waits for the end of its line, and some 64 KiB; behind the first faulty line nothing is held. The reader gives the
-/// text in at most 2,000,000 turns of at most 512 bytes; where it fails, in any way, or passes its turns, that is the fault, at
-/// line 0, also behind a faulty line.
+/// The job that a reader's text is, or its first fault, as `read_text` tells them of the whole text. Of the text no
+/// more is held than what waits for the end of its line, and some 64 KiB; behind the first faulty line nothing is
+/// held. The reader gives the text in at most 2,000,000 turns of at most 512 bytes; where it fails, in any way, or
+/// passes its turns, that is the fault, at line 0, also behind a faulty line.
 pub fn read<R: Read>(alloc: Global, reader: &mut R) -> Result<Job, JobFault>
     ensures found { IfSome (R.remaining reader.old) (λ text. IfOk result (λ job. JobText (lines_of text) job)) }
-    ensures only { IfSome (R.remaining reader.old) (λ text. (job : JobValue) → JobText (lines_of text) job → GivesUnlessRead (λ j. j) result job) }
-    ensures fault { IfSome (R.remaining reader.old) (λ text. IfErr result (λ f. FaultOf f (FirstFault (lines_of text) f) (Unit {0}))) }
+    ensures only { IfSome (R.remaining reader.old)
+        (λ text. (job : JobValue) → JobText (lines_of text) job → GivesUnlessRead (λ j. j) result job) }
+    ensures fault { IfSome (R.remaining reader.old)
+        (λ text. IfErr result (λ f. FaultOf f (FirstFault (lines_of text) f) (Unit {0}))) }
     // The same of the turns that the reader was asked.
-    ensures turned { IfOk result (λ job. OfText R (ReadTurn R.remaining) TURNS reader.old reader.new (λ text. JobText (lines_of text) job)) }
-    ensures failed { IfErr result (λ f. FaultOf f (OfText R (ReadTurn R.remaining) TURNS reader.old reader.new (λ text. FirstFault (lines_of text) f)) (Fails R (ReadTurn R.remaining) TURNS reader.old reader.new ⊎ Passes R (ReadTurn R.remaining) TURNS reader.old reader.new)) }
+    ensures turned { IfOk result
+        (λ job. OfText R (ReadTurn R.remaining) TURNS reader.old reader.new (λ text. JobText (lines_of text) job)) }
+    ensures failed { IfErr result
+        (λ f. FaultOf f
+        (OfText R (ReadTurn R.remaining) TURNS reader.old reader.new (λ text. FirstFault (lines_of text) f))
+        (Fails R (ReadTurn R.remaining) TURNS reader.old reader.new
+        ⊎ Passes R (ReadTurn R.remaining) TURNS reader.old reader.new)) }
     // Where the reader's failure is the fault, there was one.
-    ensures read { IfErr result (λ f. f.reason ≡ Reason.Read → Fails R (ReadTurn R.remaining) TURNS reader.old reader.new ⊎ Passes R (ReadTurn R.remaining) TURNS reader.old reader.new) }
+    ensures read { IfErr result
+        (λ f. f.reason ≡ Reason.Read
+        → Fails R (ReadTurn R.remaining) TURNS reader.old reader.new
+        ⊎ Passes R (ReadTurn R.remaining) TURNS reader.old reader.new) }
 {
     read_source(alloc, reader)
 }

@@ -23,7 +23,8 @@ pub const NO_MEMORY: JobFault = JobFault {
 
 /// A fault at a line, or out of memory at line 0.
 pub fn fault_at(line: usize, reason: Reason) -> JobFault
-    ensures { ((reason ≡ Reason.Memory) × (result ≡ no_memory)) ⊎ ((¬ (reason ≡ Reason.Memory)) × (result ≡ at_line line reason)) }
+    ensures { ((reason ≡ Reason.Memory) × (result ≡ no_memory))
+        ⊎ ((¬ (reason ≡ Reason.Memory)) × (result ≡ at_line line reason)) }
 {
     match reason {
         Reason::Memory => NO_MEMORY,

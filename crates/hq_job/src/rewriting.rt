@@ -36,7 +36,9 @@ fn push_line<'a>(
     heads: &[Head],
 ) -> Result<&'a [u16], AllocError>
     requires { LineReady heads.now numbers.now line.now }
-    ensures { IfOk result (λ behind. Appended (λ bytes. LineRewritten heads.now numbers.now line.now bytes behind.now) new.old.items new.new.items) }
+    ensures { IfOk result
+        (λ behind. Appended
+        (λ bytes. LineRewritten heads.now numbers.now line.now bytes behind.now) new.old.items new.new.items) }
 {
     if !begins_packet(line) {
         new.extend_from_slice(line)?;
@@ -56,7 +58,9 @@ fn rewrite_lines(
 ) -> Result<Vec<u8>, AllocError>
     requires numbered { Numbered numbers.now (slice_split is_line_feed text.now) }
     requires below { All (λ n. n < length heads.now) numbers.now }
-    ensures { IfOk result (λ new. Rewritten heads.now numbers.now (slice_split is_line_feed text.now) (slice_split is_line_feed new.items)) }
+    ensures { IfOk result
+        (λ new. Rewritten heads.now numbers.now (slice_split is_line_feed text.now)
+        (slice_split is_line_feed new.items)) }
 {
     let mut new = Vec::with_capacity(alloc, text.len())?;
     let mut rest = text;

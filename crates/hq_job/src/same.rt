@@ -182,7 +182,8 @@ fn same_packets(first: &[Placed], second: &[Placed]) -> bool
 
 /// Whether the signals are the same, and their names.
 fn same_signals(first: &Job, second: &Job) -> bool
-    ensures { IsTrue result ↔ ((first.now.signal_names ≡ second.now.signal_names) × (first.now.signals ≡ second.now.signals)) }
+    ensures { IsTrue result
+        ↔ ((first.now.signal_names ≡ second.now.signal_names) × (first.now.signals ≡ second.now.signals)) }
 {
     same_names(first.signal_names(), second.signal_names())
         && first.signals().same(second.signals())
@@ -200,8 +201,8 @@ fn same_tables(first: &Job, second: &Job) -> bool
 }
 
 impl Job {
-    /// Whether the two are one value: whether queues are rings, the tables, the packets and their order of submission. It
-    /// takes no memory.
+    /// Whether the two are one value: whether queues are rings, the tables, the packets and their order of
+    /// submission. It takes no memory.
     pub fn same(&self, other: &Job) -> bool
         ensures { IsTrue result ↔ (self.now ≡ other.now) }
     {

@@ -211,7 +211,8 @@ impl Tables {
 
     /// What the signals have against the job.
     pub fn verdict(&self) -> Result<(), SignalFault>
-        ensures ok { IsOk result ↔ (All (λ s. ¬ IsUndershot s) self.now.signals × All (λ s. ¬ NeverReachesZero s) self.now.signals) }
+        ensures ok { IsOk result
+            ↔ (All (λ s. ¬ IsUndershot s) self.now.signals × All (λ s. ¬ NeverReachesZero s) self.now.signals) }
         ensures fault { IfErr result (λ f. RefusedAtEnd self.now.signals (signal_reason f)) }
     {
         self.signals.verdict()

@@ -1,5 +1,6 @@
 -- What a body is to its callers, and what each call of it does.
-use Rattle.std.specs.Prelude.{◌≡◌, ℕ, ◌+◌, Bool, true, List, [], ◌∷◌, ◌++◌, length, map, Option, Result, MatchOption, MatchResult}
+use Rattle.std.specs.Prelude.{◌≡◌, ℕ, ◌+◌, Bool, true, List, [], ◌∷◌, ◌++◌, length, map, Option, Result}
+use Rattle.std.specs.Prelude.{MatchOption, MatchResult}
 use Rattle.std.specs.List.{flat_map}
 use Rattle.hq_footprint.specs.declared.task.Task.{Task}
 use Rattle.hq_footprint.specs.declared.task.Task.TheVariants as task
@@ -49,7 +50,8 @@ SameRanges old new = map range_of old ≡ map range_of new
 
 -- A piece was offered: it was taken behind the others, or it came back and nothing changed.
 abbrev pub Loaded : BodyValue → Part → Result (Unit {0}) Part → BodyValue → Type 0
-Loaded old piece result new = MatchResult result (λ _. new ≡ record old { held = old.held ++ piece ∷ [] }) (λ back. (back ≡ piece) × (new ≡ old))
+Loaded old piece result new = MatchResult result (λ _. new ≡ record old { held = old.held ++ piece ∷ [] })
+    (λ back. (back ≡ piece) × (new ≡ old))
 
 -- A body did its task.
 pub record Ran (old new : BodyValue) : Type 0 where
@@ -69,4 +71,5 @@ HasRun old result new = MatchResult result (λ _. Ran old new) (λ _. Faulted ol
 
 -- A piece was asked for: the first came out, or there was none and nothing changed.
 abbrev pub GaveBack : BodyValue → Option Part → BodyValue → Type 0
-GaveBack old result new = MatchOption result ((old.held ≡ []) × (new ≡ old)) (λ piece. old ≡ record new { held = piece ∷ new.held })
+GaveBack old result new = MatchOption result ((old.held ≡ []) × (new ≡ old))
+    (λ piece. old ≡ record new { held = piece ∷ new.held })

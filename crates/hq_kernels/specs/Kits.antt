@@ -1,5 +1,6 @@
 -- The bodies of a queue's packets, and which suit a job.
-use Rattle.std.specs.Prelude.{◌≡◌, ℕ, ◌<◌, Bool, true, false, List, [], ◌∷◌, length, map, filter, slice_index_or, slice_range}
+use Rattle.std.specs.Prelude.{◌≡◌, ℕ, ◌<◌, Bool, true, false, List, [], ◌∷◌, length, map, filter, slice_index_or}
+use Rattle.std.specs.Prelude.{slice_range}
 use Rattle.std.specs.declared.dyn_box.DynBox.{DynBox}
 use Rattle.std.specs.declared.alloc.Global.{Global}
 use Rattle.hq_packet.specs.declared.packet.Packet.{Packet}
@@ -22,19 +23,22 @@ pub record BodySeen : Type 0 where
   pub sort : Sort
   pub value : BodyValue
 
-abbrev pub seen : {X : Type 0} {Y : X → Type 0} {V : Type 0} {W : V → Type 0} → (DynBox X Global Y → BodyValue) → (DynBox V Global W → BodyValue)
+abbrev pub seen : {X : Type 0} {Y : X → Type 0} {V : Type 0} {W : V → Type 0} → (DynBox X Global Y → BodyValue)
+    → (DynBox V Global W → BodyValue)
     → Body X V Y W → BodySeen
 seen kernel service (Stock stock) = record { sort = ForEither; value = stock }
 seen kernel service (Kernel body) = record { sort = ForKernels; value = kernel body }
 seen kernel service (Service body) = record { sort = ForAgents; value = service body }
 
 -- its task, the pieces that it holds, and whether it has run
-abbrev pub value_of : {X : Type 0} {Y : X → Type 0} {V : Type 0} {W : V → Type 0} → (DynBox X Global Y → BodyValue) → (DynBox V Global W → BodyValue)
+abbrev pub value_of : {X : Type 0} {Y : X → Type 0} {V : Type 0} {W : V → Type 0} → (DynBox X Global Y → BodyValue)
+    → (DynBox V Global W → BodyValue)
     → Body X V Y W → BodyValue
 value_of kernel service body = (seen kernel service body).value
 
 -- the bodies of each kit
-abbrev pub bodies_of : {X : Type 0} {Y : X → Type 0} {V : Type 0} {W : V → Type 0} → (DynBox X Global Y → BodyValue) → (DynBox V Global W → BodyValue)
+abbrev pub bodies_of : {X : Type 0} {Y : X → Type 0} {V : Type 0} {W : V → Type 0} → (DynBox X Global Y → BodyValue)
+    → (DynBox V Global W → BodyValue)
     → List (Kit X V Y W) → List (List BodySeen)
 bodies_of kernel service kits = map (λ kit. map (seen kernel service) kit.bodies.items) kits
 
@@ -70,7 +74,8 @@ BodiesFit packets bodies = AreFor (filter (λ placed. is_work placed.packet) pac
 
 -- The bodies fit the packets of this queue, in the order of their numbers.
 pub record KitFits (job : JobValue) (queue : ℕ) (bodies : List BodySeen) : Type 0 where
-  pub fit : (start stop : ℕ) → AreOfQueue (plan job) queue start stop → BodiesFit (slice_range job.packets start stop) bodies
+  pub fit : (start stop : ℕ) → AreOfQueue (plan job) queue start stop
+      → BodiesFit (slice_range job.packets start stop) bodies
 
 -- Each queue has a kit, and its bodies fit the queue's packets.
 pub record KitsFit (job : JobValue) (kits : List (List BodySeen)) : Type 0 where

@@ -19,7 +19,8 @@ abbrev pub LengthsFit : Task → List Part → Type 0
 LengthsFit task [] = Unit {0}
 LengthsFit task (write ∷ []) = SuitsTwo task 0 0 (length write.bytes)
 LengthsFit task (first ∷ write ∷ []) = SuitsTwo task (length first.bytes) 0 (length write.bytes)
-LengthsFit task (first ∷ second ∷ write ∷ []) = SuitsTwo task (length first.bytes) (length second.bytes) (length write.bytes)
+LengthsFit task (first ∷ second ∷ write ∷ []) = SuitsTwo task (length first.bytes) (length second.bytes)
+    (length write.bytes)
 LengthsFit task (first ∷ second ∷ third ∷ other ∷ more) = ⊥
 
 -- A task has these pieces, and their lengths fit.

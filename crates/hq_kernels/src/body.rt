@@ -4,8 +4,9 @@ use crate::fault::KernelFault;
 use hq_footprint::Task;
 use hq_ledger::Piece;
 
-/// What a kernel dispatch runs. It is handed the pieces of its packet one by one, those that it reads first, then runs, and
-/// hands them back one by one. A body that is dropped drops the pieces that it holds, and so sends them home.
+/// What a kernel dispatch runs. It is handed the pieces of its packet one by one, those that it reads first, then
+/// runs, and hands them back one by one. A body that is dropped drops the pieces that it holds, and so sends them
+/// home.
 pub trait KernelBody: Drop {
     ghost use Rattle.std.specs.Prelude.{◌≡◌};
     ghost use Rattle.hq_kernels.specs.Bodies.{BodyValue, Loaded, HasRun, GaveBack};

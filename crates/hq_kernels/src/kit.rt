@@ -12,8 +12,8 @@ use hq_job::Placed;
 use hq_ledger::Piece;
 use hq_packet::Packet;
 
-/// The body of a kernel or agent packet: a stock body, which serves either, or one that is made for kernel dispatches, or for
-/// agent dispatches.
+/// The body of a kernel or agent packet: a stock body, which serves either, or one that is made for kernel
+/// dispatches, or for agent dispatches.
 #[derive(Drop)]
 pub enum Body {
     Stock(Stock),
@@ -59,7 +59,8 @@ impl Body {
 
     /// Takes a piece behind those that it holds, or hands it back.
     pub(crate) fn load(&mut self, piece: Piece) -> Result<(), Piece>
-        ensures { Loaded (value_of (λ b. kernel b) (λ b. service b) self.old) piece result (value_of (λ b. kernel b) (λ b. service b) self.new) }
+        ensures { Loaded (value_of (λ b. kernel b) (λ b. service b) self.old) piece result
+            (value_of (λ b. kernel b) (λ b. service b) self.new) }
     {
         match self {
             Body::Stock(stock) => stock.load(piece),
@@ -70,7 +71,8 @@ impl Body {
 
     /// Does its task with the pieces that it holds.
     pub(crate) fn run(&mut self) -> Result<(), KernelFault>
-        ensures { HasRun (value_of (λ b. kernel b) (λ b. service b) self.old) result (value_of (λ b. kernel b) (λ b. service b) self.new) }
+        ensures { HasRun (value_of (λ b. kernel b) (λ b. service b) self.old) result
+            (value_of (λ b. kernel b) (λ b. service b) self.new) }
     {
         match self {
             Body::Stock(stock) => stock.run(),
@@ -81,7 +83,8 @@ impl Body {
 
     /// Hands out the first piece that it holds.
     pub(crate) fn give_back(&mut self) -> Option<Piece>
-        ensures { GaveBack (value_of (λ b. kernel b) (λ b. service b) self.old) result (value_of (λ b. kernel b) (λ b. service b) self.new) }
+        ensures { GaveBack (value_of (λ b. kernel b) (λ b. service b) self.old) result
+            (value_of (λ b. kernel b) (λ b. service b) self.new) }
     {
         match self {
             Body::Stock(stock) => stock.give_back(),

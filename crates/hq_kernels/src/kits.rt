@@ -33,8 +33,8 @@ fn kit_fits(job: &Job, queue: usize, kit: &Kit) -> bool
     bodies_fit(packets_of(job, queue), &kit.bodies)
 }
 
-/// Whether each queue of the job has a kit, with a body for each of its packets that aren't barriers, in their order: of the
-/// packet's kind, with its task, and one that hasn't run. It takes no memory.
+/// Whether each queue of the job has a kit, with a body for each of its packets that aren't barriers, in their
+/// order: of the packet's kind, with its task, and one that hasn't run. It takes no memory.
 pub fn kits_fit(job: &Job, kits: &[Kit]) -> bool
     ensures { IsTrue result ↔ KitsFit job.now (bodies_of (λ b. kernel b) (λ b. service b) kits.now) }
 {
@@ -51,7 +51,8 @@ pub fn kits_fit(job: &Job, kits: &[Kit]) -> bool
 
 /// A stock body for each of these packets that isn't a barrier.
 fn stock_bodies(alloc: Global, packets: &[Placed]) -> Result<Kit, AllocError>
-    ensures { IfOk result (λ kit. BodiesFit packets.now (map (seen (λ b. kernel b) (λ b. service b)) kit.bodies.items)) }
+    ensures { IfOk result
+        (λ kit. BodiesFit packets.now (map (seen (λ b. kernel b) (λ b. service b)) kit.bodies.items)) }
 {
     let mut bodies = Vec::new(alloc);
     for placed in packets {
@@ -66,7 +67,8 @@ fn stock_bodies(alloc: Global, packets: &[Placed]) -> Result<Kit, AllocError>
 #[tactic(auto, using(crate::proofs::KitLists::kit_made))]
 fn stock_kit(alloc: Global, job: &Job, queue: usize) -> Result<Kit, AllocError>
     requires { queue < length job.now.queues }
-    ensures { IfOk result (λ kit. KitFits job.now queue (map (seen (λ b. kernel b) (λ b. service b)) kit.bodies.items)) }
+    ensures { IfOk result
+        (λ kit. KitFits job.now queue (map (seen (λ b. kernel b) (λ b. service b)) kit.bodies.items)) }
 {
     stock_bodies(alloc, packets_of(job, queue))
 }

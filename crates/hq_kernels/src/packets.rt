@@ -23,8 +23,10 @@ pub fn is_work(packet: &Packet) -> bool
 /// A queue's packets, by number.
 pub fn packets_of(job: &Job, queue: usize) -> &[Placed]
     requires { queue < length job.now.queues }
-    ensures span { (start : ℕ) × (stop : ℕ) × AreOfQueue (plan job.now) queue start stop × (result.now ≡ slice_range job.now.packets start stop) }
-    ensures every { (start stop : ℕ) → AreOfQueue (plan job.now) queue start stop → result.now ≡ slice_range job.now.packets start stop }
+    ensures span { (start : ℕ) × (stop : ℕ) × AreOfQueue (plan job.now) queue start stop
+        × (result.now ≡ slice_range job.now.packets start stop) }
+    ensures every { (start stop : ℕ) → AreOfQueue (plan job.now) queue start stop
+        → result.now ≡ slice_range job.now.packets start stop }
 {
     let span = job.of_queue(queue);
     if span.start < span.end {

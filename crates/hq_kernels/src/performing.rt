@@ -11,8 +11,11 @@ use hq_ledger::Piece;
 impl Body {
     /// Hands the body the pieces, from the first to the last.
     fn load_all(&mut self, pieces: &mut Vec<Piece>) -> Result<(), KernelFault>
-        ensures task { (value_of (λ b. kernel b) (λ b. service b) self.new).task ≡ (value_of (λ b. kernel b) (λ b. service b) self.old).task }
-        ensures held { OnOk result ((value_of (λ b. kernel b) (λ b. service b) self.new).held ≡ (value_of (λ b. kernel b) (λ b. service b) self.old).held ++ pieces.old.items) }
+        ensures task { (value_of (λ b. kernel b) (λ b. service b) self.new).task ≡ (value_of (λ b. kernel b)
+            (λ b. service b) self.old).task }
+        ensures held { OnOk result
+            ((value_of (λ b. kernel b) (λ b. service b) self.new).held ≡ (value_of (λ b. kernel b)
+            (λ b. service b) self.old).held ++ pieces.old.items) }
         ensures left { OnOk result (vec_len pieces.new ≡ 0) }
         ensures room { vec_capacity pieces.new ≡ vec_capacity pieces.old }
     {
@@ -29,9 +32,13 @@ impl Body {
     fn unload_one(&mut self, pieces: &mut Vec<Piece>)
         requires some { 0 < length (value_of (λ b. kernel b) (λ b. service b) self.old).held }
         requires room { vec_len pieces.old < vec_capacity pieces.old }
-        ensures task { (value_of (λ b. kernel b) (λ b. service b) self.new).task ≡ (value_of (λ b. kernel b) (λ b. service b) self.old).task }
-        ensures ran { (value_of (λ b. kernel b) (λ b. service b) self.new).ran ≡ (value_of (λ b. kernel b) (λ b. service b) self.old).ran }
-        ensures held { pieces.new.items ++ (value_of (λ b. kernel b) (λ b. service b) self.new).held ≡ pieces.old.items ++ (value_of (λ b. kernel b) (λ b. service b) self.old).held }
+        ensures task { (value_of (λ b. kernel b) (λ b. service b) self.new).task ≡ (value_of (λ b. kernel b)
+            (λ b. service b) self.old).task }
+        ensures ran { (value_of (λ b. kernel b) (λ b. service b) self.new).ran ≡ (value_of (λ b. kernel b)
+            (λ b. service b) self.old).ran }
+        ensures held { pieces.new.items ++ (value_of (λ b. kernel b)
+            (λ b. service b) self.new).held ≡ pieces.old.items ++ (value_of (λ b. kernel b)
+            (λ b. service b) self.old).held }
         ensures count { vec_len pieces.new ≡ vec_len pieces.old + 1 }
         ensures room { vec_capacity pieces.old ≤ vec_capacity pieces.new }
     {
@@ -47,9 +54,13 @@ impl Body {
     fn unload(&mut self, count: usize, pieces: &mut Vec<Piece>)
         requires count { count ≤ length (value_of (λ b. kernel b) (λ b. service b) self.old).held }
         requires room { vec_len pieces.old + count ≤ vec_capacity pieces.old }
-        ensures task { (value_of (λ b. kernel b) (λ b. service b) self.new).task ≡ (value_of (λ b. kernel b) (λ b. service b) self.old).task }
-        ensures ran { (value_of (λ b. kernel b) (λ b. service b) self.new).ran ≡ (value_of (λ b. kernel b) (λ b. service b) self.old).ran }
-        ensures held { pieces.new.items ++ (value_of (λ b. kernel b) (λ b. service b) self.new).held ≡ pieces.old.items ++ (value_of (λ b. kernel b) (λ b. service b) self.old).held }
+        ensures task { (value_of (λ b. kernel b) (λ b. service b) self.new).task ≡ (value_of (λ b. kernel b)
+            (λ b. service b) self.old).task }
+        ensures ran { (value_of (λ b. kernel b) (λ b. service b) self.new).ran ≡ (value_of (λ b. kernel b)
+            (λ b. service b) self.old).ran }
+        ensures held { pieces.new.items ++ (value_of (λ b. kernel b)
+            (λ b. service b) self.new).held ≡ pieces.old.items ++ (value_of (λ b. kernel b)
+            (λ b. service b) self.old).held }
         ensures count { vec_len pieces.new ≡ vec_len pieces.old + count }
     {
         for _ in 0..count {
@@ -57,12 +68,15 @@ impl Body {
         }
     }
 
-    /// Hands the body its packet's pieces, in their order, runs it, and takes them back. They come back in the vector that
-    /// they came in, so it takes no memory. After an error the pieces have gone home, or the body holds them.
+    /// Hands the body its packet's pieces, in their order, runs it, and takes them back. They come back in the
+    /// vector that they came in, so it takes no memory. After an error the pieces have gone home, or the body holds
+    /// them.
     pub fn perform(&mut self, mut pieces: Vec<Piece>) -> Result<Vec<Piece>, KernelFault>
         requires { length pieces.items ≡ pieces_of (value_of (λ b. kernel b) (λ b. service b) self.old).task }
-        ensures task { (value_of (λ b. kernel b) (λ b. service b) self.new).task ≡ (value_of (λ b. kernel b) (λ b. service b) self.old).task }
-        ensures performs { IfOk result (λ back. Performs (value_of (λ b. kernel b) (λ b. service b) self.old).task pieces.items back.items) }
+        ensures task { (value_of (λ b. kernel b) (λ b. service b) self.new).task ≡ (value_of (λ b. kernel b)
+            (λ b. service b) self.old).task }
+        ensures performs { IfOk result
+            (λ back. Performs (value_of (λ b. kernel b) (λ b. service b) self.old).task pieces.items back.items) }
         ensures ran { OnOk result ((value_of (λ b. kernel b) (λ b. service b) self.new).ran ≡ true) }
         ensures held { OnOk result ((value_of (λ b. kernel b) (λ b. service b) self.new).held ≡ []) }
     {

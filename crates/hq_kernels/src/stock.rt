@@ -68,7 +68,8 @@ fn suits(task: &Task, first: usize, second: usize, write: usize) -> bool
 /// Writes what the task makes of the bytes over those of the piece, if their numbers suit.
 fn write_result(task: &Task, first: &[u8], second: &[u8], write: &mut Piece) -> bool
     ensures suits { IsTrue result ↔ SuitsTwo task.now (length first.now) (length second.now) (length write.old.bytes) }
-    ensures written { IsTrue result → write.new ≡ with_bytes write.old (result_of task.now (length write.old.bytes) (first.now ++ second.now)) }
+    ensures written { IsTrue result
+        → write.new ≡ with_bytes write.old (result_of task.now (length write.old.bytes) (first.now ++ second.now)) }
     ensures refused { result ≡ false → write.new ≡ write.old }
 {
     if !suits(task, first.len(), second.len(), write.bytes().len()) {

@@ -14,7 +14,8 @@ fn piece_of(alloc: Global, tray: &Tray, place: u8, bytes: &[u8]) -> Result<Piece
     Piece::new(alloc, tray, 0, place, 4096, bytes.to_vec(alloc)?)
 }
 
-/// Whether the body, which hasn't run, runs and says so, and these are then the bytes of the last piece that it gives back.
+/// Whether the body, which hasn't run, runs and says so, and these are then the bytes of the last piece that it
+/// gives back.
 fn writes(stock: Stock, wanted: &[u8]) -> bool {
     let mut stock = stock;
     if stock.has_run() || stock.run().is_err() || !stock.has_run() {

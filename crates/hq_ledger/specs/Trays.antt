@@ -8,8 +8,8 @@ pub record Left : Type 0 where
   pub at : ℕ
   pub bytes : List ℕ
 
--- A tray: for how many packets it has cells, three for each, and what is known of each cell, by packet and place. A cell that is
--- known to hold something holds that for good; of another nothing is known.
+-- A tray: for how many packets it has cells, three for each, and what is known of each cell, by packet and place. A
+-- cell that is known to hold something holds that for good; of another nothing is known.
 pub record TrayValue : Type 0 where
   pub packets : ℕ
   pub known : List (Option Left)
@@ -17,7 +17,8 @@ pub record TrayValue : Type 0 where
 -- What was known stays known.
 pub record Learned (old new : List (Option Left)) : Type 0 where
   pub cells : length new ≡ length old
-  pub kept : (number : ℕ) (left : Left) → slice_get old number ≡ Some (Some left) → slice_get new number ≡ Some (Some left)
+  pub kept : (number : ℕ) (left : Left) → slice_get old number ≡ Some (Some left)
+      → slice_get new number ≡ Some (Some left)
 
 -- what came home to the cell of this number, as part of its packet
 abbrev pub homed : ℕ → Left → Part

@@ -23,7 +23,8 @@ pub struct Piece {
 impl Model for Piece {
     ghost Value = { Part };
 
-    ghost view = { λ p. record { packet = p.packet; place = p.place; at = p.held.value.at; bytes = p.held.value.bytes.items } };
+    ghost view = { λ p. record
+        { packet = p.packet; place = p.place; at = p.held.value.at; bytes = p.held.value.bytes.items } };
 }
 
 impl Drop for Piece {
@@ -45,7 +46,8 @@ impl Piece {
     ghost use Rattle.std.specs.Borrow.{sem};
     ghost use Rattle.hq_ledger.specs.Lending.{LendsBytes};
 
-    /// A piece that holds a range's bytes, which begin at address `at`. `place` is its place among its packet's pieces, from 0.
+    /// A piece that holds a range's bytes, which begin at address `at`. `place` is its place among its packet's
+    /// pieces, from 0.
     pub fn new(
         alloc: Global,
         tray: &Tray,
@@ -56,7 +58,8 @@ impl Piece {
     ) -> Result<Piece, AllocError>
         requires packet { packet < tray.now.packets }
         requires place { place < 3 }
-        ensures { IfOk result (λ piece. piece ≡ record { packet = packet; place = place; at = at; bytes = bytes.items }) }
+        ensures { IfOk result
+            (λ piece. piece ≡ record { packet = packet; place = place; at = at; bytes = bytes.items }) }
     {
         Ok(Piece {
             packet,

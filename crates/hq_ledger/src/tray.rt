@@ -1,6 +1,7 @@
 //! Where dropped pieces leave their bytes.
 
-ghost use Rattle.std.specs.Prelude.{◌≡◌, ◌*◌, ◌^◌, ◌<◌, Some, None, AllPairs, IfOk, IfSome, length, map, replicate, slice_index_or, take};
+ghost use Rattle.std.specs.Prelude.{◌≡◌, ◌*◌, ◌^◌, ◌<◌, Some, None, AllPairs, IfOk, IfSome, length, map, replicate};
+ghost use Rattle.std.specs.Prelude.{slice_index_or, take};
 ghost use Rattle.std.specs.Option.{option_map};
 ghost use Rattle.once_cell.specs.Once.{cell_name};
 ghost use Rattle.hq_ledger.specs.Cells.{left_of};
@@ -70,7 +71,8 @@ fn home_of(
     requires cell { note.old.cell ≡ cell_name cell.now }
     ensures cell { note.new.cell ≡ note.old.cell }
     ensures kept { IfSome note.old.known (λ held. note.new.known ≡ Some held) }
-    ensures found { IfOk result (λ home. option_map part_of home ≡ option_map (homed number) (option_map left_of note.new.known)) }
+    ensures found { IfOk result
+        (λ home. option_map part_of home ≡ option_map (homed number) (option_map left_of note.new.known)) }
 {
     let Some(held) = cell.get_as(note) else {
         return Ok(None);
@@ -121,7 +123,8 @@ impl Tray {
         ensures packets { self.new.packets ≡ self.old.packets }
         ensures learned { Learned self.old.known self.new.known }
         ensures before { take number self.new.known ≡ take number self.old.known }
-        ensures found { IfOk result (λ home. option_map part_of home ≡ option_map (homed number) (slice_index_or self.new.known number None)) }
+        ensures found { IfOk result
+            (λ home. option_map part_of home ≡ option_map (homed number) (slice_index_or self.new.known number None)) }
     {
         home_of(alloc, number, &self.cells[number], &mut self.notes[number])
     }

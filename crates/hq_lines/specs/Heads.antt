@@ -33,7 +33,8 @@ pub record WithHead (line : List ℕ) (head : Head) (new : List ℕ) : Type 0 wh
 
 -- The line for a packet with a head says the packet with that head.
 abbrev pub SaysWithHead : Type 0
-SaysWithHead = (line : List ℕ) (head : Head) (new : List ℕ) (w : WithHead line head new) → SaysLine new (Packet (with_head w.sent head))
+SaysWithHead = (line : List ℕ) (head : Head) (new : List ℕ) (w : WithHead line head new)
+    → SaysLine new (Packet (with_head w.sent head))
 
 -- A line that says something begins as packet lines do exactly where it says a packet.
 abbrev pub PacketsBegin : Type 0

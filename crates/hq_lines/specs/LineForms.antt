@@ -1,5 +1,6 @@
 -- What each fault of a line means, by the forms that lines may have.
-use Rattle.std.specs.Prelude.{◌≡◌, ℕ, ◌-◌, ◌*◌, ◌^◌, ◌<◌, ◌≤◌, ◌⊎◌, ◌↔◌, Any, List, [], ◌∷◌, length, codes, Option, Some, None}
+use Rattle.std.specs.Prelude.{◌≡◌, ℕ, ◌-◌, ◌*◌, ◌^◌, ◌<◌, ◌≤◌, ◌⊎◌, ◌↔◌, Any, List, [], ◌∷◌, length, codes, Option}
+use Rattle.std.specs.Prelude.{Some, None}
 use Rattle.std.specs.List.{AllByRecursion}
 use Rattle.hq_footprint.specs.declared.task.Code.{Code}
 use Rattle.hq_packet.specs.Faults.{first_fault}
@@ -19,7 +20,8 @@ pub record NumberPlace : Type 0 where
   pub high : ℕ
   pub word : List ℕ
 
--- what stands in the place of digits: nothing may stand there; digits of so many bytes as a word says; of some bytes; of a packet
+-- what stands in the place of digits: nothing may stand there; digits of so many bytes as a word says; of some
+-- bytes; of a packet
 pub data DigitsPlace : Type 0 where
   nowhere : DigitsPlace
   counted : List ℕ → List ℕ → DigitsPlace
@@ -44,16 +46,26 @@ places numbers digits = record { numbers = numbers; digits = digits; size = None
 abbrev pub numbers_only : List NumberPlace → Places
 numbers_only numbers = places numbers nowhere
 
--- The words have the form of a line, with a name in each place of a name and a kernel's word in the place of one, and these are its places
--- of numbers and digits.
+-- The words have the form of a line, with a name in each place of a name and a kernel's word in the place of one,
+-- and these are its places of numbers and digits.
 pub data HasForm : List (List ℕ) → Places → Type 0 where
   agent : (name : List ℕ) → IsName name → HasForm (codes "agent" ∷ name ∷ []) (numbers_only [])
-  zeros : (name addr len : List ℕ) → IsName name → HasForm (codes "buffer" ∷ name ∷ addr ∷ len ∷ []) (numbers_only (number 1 (2 ^ 48) addr ∷ number 1 65536 len ∷ []))
-  buffer : (name addr len digits : List ℕ) → IsName name → HasForm (codes "buffer" ∷ name ∷ addr ∷ len ∷ digits ∷ []) (places (number 1 (2 ^ 48) addr ∷ number 1 65536 len ∷ []) (counted len digits))
-  args : (name addr digits : List ℕ) → IsName name → HasForm (codes "args" ∷ name ∷ addr ∷ digits ∷ []) (places (number 1 (2 ^ 64 - 1) addr ∷ []) (some digits))
-  signal : (name h s : List ℕ) → IsName name → HasForm (codes "signal" ∷ name ∷ h ∷ s ∷ []) (numbers_only (number 1 (2 ^ 64 - 1) h ∷ number 0 (2 ^ 63 - 1) s ∷ []))
-  kernel : (name o c : List ℕ) (kind : Code) → IsName name → Codes c kind → HasForm (codes "kernel" ∷ name ∷ o ∷ c ∷ []) (numbers_only (number 1 (2 ^ 64 - 1) o ∷ []))
-  queue : (name owner s : List ℕ) → IsName name → IsName owner → HasForm (codes "queue" ∷ name ∷ owner ∷ s ∷ []) (record { numbers = number 1 1024 s ∷ []; digits = nowhere; size = Some s })
+  zeros : (name addr len : List ℕ) → IsName name
+      → HasForm (codes "buffer" ∷ name ∷ addr ∷ len ∷ [])
+      (numbers_only (number 1 (2 ^ 48) addr ∷ number 1 65536 len ∷ []))
+  buffer : (name addr len digits : List ℕ) → IsName name
+      → HasForm (codes "buffer" ∷ name ∷ addr ∷ len ∷ digits ∷ [])
+      (places (number 1 (2 ^ 48) addr ∷ number 1 65536 len ∷ []) (counted len digits))
+  args : (name addr digits : List ℕ) → IsName name
+      → HasForm (codes "args" ∷ name ∷ addr ∷ digits ∷ []) (places (number 1 (2 ^ 64 - 1) addr ∷ []) (some digits))
+  signal : (name h s : List ℕ) → IsName name
+      → HasForm (codes "signal" ∷ name ∷ h ∷ s ∷ [])
+      (numbers_only (number 1 (2 ^ 64 - 1) h ∷ number 0 (2 ^ 63 - 1) s ∷ []))
+  kernel : (name o c : List ℕ) (kind : Code) → IsName name → Codes c kind
+      → HasForm (codes "kernel" ∷ name ∷ o ∷ c ∷ []) (numbers_only (number 1 (2 ^ 64 - 1) o ∷ []))
+  queue : (name owner s : List ℕ) → IsName name → IsName owner
+      → HasForm (codes "queue" ∷ name ∷ owner ∷ s ∷ [])
+      (record { numbers = number 1 1024 s ∷ []; digits = nowhere; size = Some s })
   to : (name : List ℕ) → IsName name → HasForm (codes "to" ∷ name ∷ []) (numbers_only [])
   packets : (digits : List ℕ) → HasForm (codes "packet" ∷ digits ∷ []) (places [] (whole digits))
   ends : HasForm (codes "end" ∷ []) (numbers_only [])

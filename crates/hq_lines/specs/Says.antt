@@ -53,16 +53,20 @@ pub data Says : List (List ℕ) → Meaning → Type 0 where
   zeros : (name addr len : List ℕ) (at n : ℕ) → IsName name → IsWithin 1 (2 ^ 48) addr at → IsWithin 1 65536 len n
       → Says (codes "buffer" ∷ name ∷ addr ∷ len ∷ []) (Buffer name at (replicate n 0))
   -- buffer NAME ADDR LEN HEX
-  buffer : (name addr len digits : List ℕ) (at n : ℕ) (bytes : List ℕ) → IsName name → IsWithin 1 (2 ^ 48) addr at → IsWithin 1 65536 len n → length digits ≡ 2 * n → Spells digits bytes
+  buffer : (name addr len digits : List ℕ) (at n : ℕ) (bytes : List ℕ) → IsName name → IsWithin 1 (2 ^ 48) addr at
+      → IsWithin 1 65536 len n → length digits ≡ 2 * n → Spells digits bytes
       → Says (codes "buffer" ∷ name ∷ addr ∷ len ∷ digits ∷ []) (Buffer name at bytes)
   -- args NAME ADDR HEX
-  args : (name addr digits : List ℕ) (at : ℕ) (bytes : List ℕ) → IsName name → IsWithin 1 (2 ^ 64 - 1) addr at → Spells digits bytes → 1 ≤ length bytes → length bytes ≤ 64
+  args : (name addr digits : List ℕ) (at : ℕ) (bytes : List ℕ) → IsName name → IsWithin 1 (2 ^ 64 - 1) addr at
+      → Spells digits bytes → 1 ≤ length bytes → length bytes ≤ 64
       → Says (codes "args" ∷ name ∷ addr ∷ digits ∷ []) (Args name at bytes)
   -- signal NAME HANDLE START
-  signal : (name h s : List ℕ) (handle start : ℕ) → IsName name → IsWithin 1 (2 ^ 64 - 1) h handle → IsWithin 0 (2 ^ 63 - 1) s start
+  signal : (name h s : List ℕ) (handle start : ℕ) → IsName name → IsWithin 1 (2 ^ 64 - 1) h handle
+      → IsWithin 0 (2 ^ 63 - 1) s start
       → Says (codes "signal" ∷ name ∷ h ∷ s ∷ []) (Signal name handle start)
   -- kernel NAME OBJECT CODE
-  kernel : (name o c : List ℕ) (object : ℕ) (kind : Code) → IsName name → Codes c kind → IsWithin 1 (2 ^ 64 - 1) o object
+  kernel : (name o c : List ℕ) (object : ℕ) (kind : Code) → IsName name → Codes c kind
+      → IsWithin 1 (2 ^ 64 - 1) o object
       → Says (codes "kernel" ∷ name ∷ o ∷ c ∷ []) (Kernel name object kind)
   -- queue NAME AGENT SIZE
   queue : (name owner s : List ℕ) (size : ℕ) → IsName name → IsName owner → IsWithin 1 1024 s size → IsPower size

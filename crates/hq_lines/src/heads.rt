@@ -33,8 +33,10 @@ fn lower_digit(value: u8) -> u8
 /// Two digits that spell the byte: these where they do, else those in lower case.
 #[tactic(auto, unfolding(hex::specs::Hex::encode_with))]
 fn digits_of(byte: u8, high: u8, low: u8) -> [u8; 2]
-    ensures kept { unwrap_or (hex_digit_value high) 255 * 16 + unwrap_or (hex_digit_value low) 255 ≡ byte → result ≡ high ∷ low ∷ [] }
-    ensures changed { unwrap_or (hex_digit_value high) 255 * 16 + unwrap_or (hex_digit_value low) 255 ≢ byte → result ≡ encode_lower (byte ∷ []) }
+    ensures kept { unwrap_or (hex_digit_value high) 255 * 16 + unwrap_or (hex_digit_value low) 255 ≡ byte
+        → result ≡ high ∷ low ∷ [] }
+    ensures changed { unwrap_or (hex_digit_value high) 255 * 16 + unwrap_or (hex_digit_value low) 255 ≢ byte
+        → result ≡ encode_lower (byte ∷ []) }
 {
     if spell(high, low, byte) {
         return [high, low];
@@ -42,9 +44,9 @@ fn digits_of(byte: u8, high: u8, low: u8) -> [u8; 2]
     [lower_digit(byte / 16), lower_digit(byte % 16)]
 }
 
-/// The line of a packet as it is for the packet with this head, in three parts: what stands before the two digits of the
-/// head's byte, these digits, and what stands behind them. They are the old digits where the packet has that head, and
-/// else in lower case.
+/// The line of a packet as it is for the packet with this head, in three parts: what stands before the two digits
+/// of the head's byte, these digits, and what stands behind them. They are the old digits where the packet has that
+/// head, and else in lower case.
 #[tactic(auto, using(crate::proofs::PacketLines::packet_room))]
 pub fn with_head<'a>(line: &'a [u8], head: &Head) -> (&'a [u8], [u8; 2], &'a [u8])
     requires { IsPacketLine line.now }

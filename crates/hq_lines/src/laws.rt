@@ -23,31 +23,33 @@ pub fn byte_means()
     ensures { ByteMeans }
 {}
 
-/// A line is refused for its words exactly where no byte is out of range and they have no form: where no kind of line has this first
-/// word, so many words, and names and kernels' words like these, whatever stands in the places of numbers and digits.
+/// A line is refused for its words exactly where no byte is out of range and they have no form: where no kind of
+/// line has this first word, so many words, and names and kernels' words like these, whatever stands in the places
+/// of numbers and digits.
 pub fn word_means()
     ensures { WordMeans }
 {}
 
-/// A line is refused for a number exactly where its words have a form, but one of those in the places of numbers is no number, or one
-/// out of its range, whatever the digits are.
+/// A line is refused for a number exactly where its words have a form, but one of those in the places of numbers is
+/// no number, or one out of its range, whatever the digits are.
 pub fn number_means()
     ensures { NumberMeans }
 {}
 
-/// A line is refused for its digits exactly where its words have a form and its numbers are right, but the digits spell no bytes, or
-/// not as many as they have to.
+/// A line is refused for its digits exactly where its words have a form and its numbers are right, but the digits
+/// spell no bytes, or not as many as they have to.
 pub fn hex_means()
     ensures { HexMeans }
 {}
 
-/// A line is refused for its packet exactly where it is a packet's, and its 128 digits spell 64 bytes with this first fault.
+/// A line is refused for its packet exactly where it is a packet's, and its 128 digits spell 64 bytes with this
+/// first fault.
 pub fn packet_means()
     ensures { PacketMeans }
 {}
 
-/// A line is refused for a queue's size exactly where it is a queue's, and right but for the size, which is from 1 to 1024 and no
-/// power of two.
+/// A line is refused for a queue's size exactly where it is a queue's, and right but for the size, which is from 1
+/// to 1024 and no power of two.
 pub fn queue_size_means()
     ensures { QueueSizeMeans }
 {}

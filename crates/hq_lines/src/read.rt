@@ -1,6 +1,7 @@
 //! Lines read.
 
-ghost use Rattle.std.specs.Prelude.{◌≡◌, ◌≢◌, ℕ, MatchOption, if◌then◌else◌, ◌⊎◌, ◌↔◌, ◌++◌, List, IfOk, IfErr, IfSome, Ok, Err, Some, codes};
+ghost use Rattle.std.specs.Prelude.{◌≡◌, ◌≢◌, ℕ, MatchOption, if◌then◌else◌, ◌⊎◌, ◌↔◌, ◌++◌, List, IfOk, IfErr};
+ghost use Rattle.std.specs.Prelude.{IfSome, Ok, Err, Some, codes};
 ghost use Rattle.std.specs.List.{list_any};
 ghost use Rattle.hq_text.specs.Lines.{words_of};
 ghost use Rattle.hq_lines.specs.Bytes.{is_outside};
@@ -52,7 +53,8 @@ pub fn first_line(line: &[u8]) -> Result<Version, LineFault>
 
 /// What stands behind the first bytes of a line, if it begins with these.
 pub(crate) fn behind<'a>(line: &'a [u8], first: &[u8]) -> Option<&'a [u8]>
-    ensures { MatchOption result ((rest : List ℕ) → line.now ≢ first.now ++ rest) (λ rest. line.now ≡ first.now ++ rest.now) }
+    ensures { MatchOption result ((rest : List ℕ) → line.now ≢ first.now ++ rest)
+        (λ rest. line.now ≡ first.now ++ rest.now) }
 {
     line.strip_prefix(first)
 }

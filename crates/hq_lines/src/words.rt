@@ -1,7 +1,12 @@
 //! What words say.
 
-ghost use Rattle.std.specs.Prelude.{◌≡◌, ◌+◌, ◌*◌, ◌-◌, ◌<◌, ◌≤◌, length, map, IfOk, IfErr, IfSome, IfNone, MatchResult, Ok, Some, unwrap_or, nat_lt, ◌&&◌, ◌⊎◌};
-ghost use Rattle.hq_lines.specs.Order.{name_said, ranged, code_said, sized_said, some_said, short_said, size_said, extent_said, agent_said, to_said, zeros_of, filled_of, buffer_said, args_of, args_said, signal_of, signal_said, kernel_of, kernel_said, queue_of, queue_said, end_said, plain_said, is_power, packet_digits, digits_fault, words_fault};
+ghost use Rattle.std.specs.Prelude.{◌≡◌, ◌+◌, ◌*◌, ◌-◌, ◌<◌, ◌≤◌, length, map, IfOk, IfErr, IfSome, IfNone};
+ghost use Rattle.std.specs.Prelude.{MatchResult, Ok, Some, unwrap_or, nat_lt, ◌&&◌, ◌⊎◌};
+ghost use Rattle.hq_lines.specs.Order.{name_said, ranged, code_said, sized_said, some_said, short_said, size_said};
+ghost use Rattle.hq_lines.specs.Order.{extent_said, agent_said, to_said, zeros_of, filled_of, buffer_said, args_of};
+ghost use Rattle.hq_lines.specs.Order.{args_said, signal_of, signal_said, kernel_of, kernel_said, queue_of};
+ghost use Rattle.hq_lines.specs.Order.{queue_said, end_said, plain_said, is_power, packet_digits, digits_fault};
+ghost use Rattle.hq_lines.specs.Order.{words_fault};
 ghost use Rattle.hq_lines.specs.Says.{Says, SpellsPacket};
 ghost use Rattle.hex.specs.Hex.{decode_of, hex_digit_value};
 ghost use Rattle.hq_lines.specs.Decodes.{Decodes};

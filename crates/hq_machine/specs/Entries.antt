@@ -24,7 +24,8 @@ abbrev pub MayDeliver : Job → State → ℕ → Type 0
 MayDeliver job state p = (i : ℕ) → i < length (packet job p).writes → MayStore job state p i
 
 -- with these stores and copies p has stored its first n bytes in order, and no other
-pub record DeliveredUpTo (job : Job) (old : StateValue) (p n : ℕ) (s : StoresValue) (copies : CopiesValue) : Type 0 where
+pub record DeliveredUpTo (job : Job) (old : StateValue) (p n : ℕ) (s : StoresValue)
+    (copies : CopiesValue) : Type 0 where
   pub is : IsStateOf job (restored old p s copies)
   pub steps : Steps job (state_of job old) (map (Store p) (numbers n)) (state_of job (restored old p s copies))
   pub bytes : s.bytes ≡ bytes_stored job (state_of job old) p

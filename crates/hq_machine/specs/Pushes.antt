@@ -1,5 +1,6 @@
 -- Lists of pushes: of all dirty bytes of one lane or agent, and of some of them in turn. This project's own.
-use Rattle.std.specs.Prelude.{◌≡◌, ◌≢◌, ℕ, ◌+◌, ◌-◌, ◌<◌, ◌≤◌, true, false, List, [], ◌∷◌, length, slice_index, map, filter, flat_map}
+use Rattle.std.specs.Prelude.{◌≡◌, ◌≢◌, ℕ, ◌+◌, ◌-◌, ◌<◌, ◌≤◌, true, false, List, [], ◌∷◌, length, slice_index, map}
+use Rattle.std.specs.Prelude.{filter, flat_map}
 use Rattle.hq_machine.specs.State.{StateValue}
 use Rattle.hq_machine.specs.View.{recopied}
 use Rattle.hq_copies.specs.Copies.{CopiesValue, Released, PushedLane, PushedAgent, IsLaneByte, IsAgentByte}

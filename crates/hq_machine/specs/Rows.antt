@@ -1,5 +1,6 @@
 -- What the rows of a packet hold.
-use Rattle.std.specs.Prelude.{◌≡◌, ℕ, ◌⊎◌, ◌++◌, ◌==◌, List, Option, Some, true, map, length, replicate, count_by, is_some, if◌then◌else◌}
+use Rattle.std.specs.Prelude.{◌≡◌, ℕ, ◌⊎◌, ◌++◌, ◌==◌, List, Option, Some, true, map, length, replicate, count_by}
+use Rattle.std.specs.Prelude.{is_some, if◌then◌else◌}
 use Rattle.hq_machine.specs.State.{StoresValue}
 use Rattle.hq_machine.specs.declared.rows.Reads.TheInside as reads
 use Rattle.hq_machine.specs.declared.rows.Stores.TheInside as stores
@@ -15,7 +16,11 @@ pub record AreReads (r : reads.Inside) : Type 0 where
 
 -- where no byte is marked by itself, all are stored
 abbrev pub value_of_stores : stores.Inside → StoresValue
-value_of_stores s = record { bytes = s.bytes.items; stored = if length s.stored.items == 0 then replicate (length s.bytes.items) true else s.stored.items }
+value_of_stores s = record {
+  bytes = s.bytes.items;
+  stored = if length s.stored.items == 0 then replicate
+      (length s.bytes.items) true else s.stored.items;
+}
 
 -- Each byte is marked, or none is.
 pub record AreStoresOf (s : stores.Inside) : Type 0 where

@@ -6,8 +6,8 @@ use Rattle.hq_machine.specs.declared.phase.Phase.{Phase}
 use Rattle.hq_machine.specs.declared.phase.Phase.TheVariants as own
 use Rattle.hq_model.specs.Machine as machine
 
--- What a packet stores: once the first of its bytes is stored, the bytes of its task, and which of them are stored. Before, no
--- byte.
+-- What a packet stores: once the first of its bytes is stored, the bytes of its task, and which of them are stored.
+-- Before, no byte.
 pub record StoresValue : Type 0 where
   pub bytes : List ℕ
   pub stored : List Bool
@@ -15,8 +15,8 @@ pub record StoresValue : Type 0 where
 abbrev pub no_stores : StoresValue
 no_stores = record { bytes = []; stored = [] }
 
--- Of each packet its phase, which of its slots it has observed, the bytes that it has read (none before the first of them), and
--- its stores; each signal's value; memory and the copies.
+-- Of each packet its phase, which of its slots it has observed, the bytes that it has read (none before the first
+-- of them), and its stores; each signal's value; memory and the copies.
 pub record StateValue : Type 0 where
   pub phases : List machine.Phase
   pub observed : List (List Bool)
@@ -68,8 +68,19 @@ stores_code =
 
 abbrev pub state_code : Coded StateValue
 state_code =
-    code_by (List machine.Phase × (List (List Bool) × (List (List (Option ℕ)) × (List StoresValue × (List ℕ × CopiesValue)))))
-    (coded× (coded_list phase_code) (coded× (coded_list (coded_list coded_bool)) (coded× (coded_list (coded_list (coded_option coded_ℕ))) (coded× (coded_list stores_code) (coded× (coded_list coded_ℕ) copies_code)))))
+    code_by (List machine.Phase
+    × (List (List Bool) × (List (List (Option ℕ)) × (List StoresValue × (List ℕ × CopiesValue)))))
+    (coded× (coded_list phase_code)
+    (coded× (coded_list (coded_list coded_bool))
+    (coded× (coded_list (coded_list (coded_option coded_ℕ)))
+    (coded× (coded_list stores_code) (coded× (coded_list coded_ℕ) copies_code)))))
     (λ s. (s.phases, (s.observed, (s.reads, (s.stores, (s.signals, s.copies))))))
-    (λ t. record { phases = t.0; observed = t.1.0; reads = t.1.1.0; stores = t.1.1.1.0; signals = t.1.1.1.1.0; copies = t.1.1.1.1.1 })
+    (λ t. record {
+      phases = t.0;
+      observed = t.1.0;
+      reads = t.1.1.0;
+      stores = t.1.1.1.0;
+      signals = t.1.1.1.1.0;
+      copies = t.1.1.1.1.1;
+    })
     (λ _. refl)

@@ -1,5 +1,6 @@
 -- The model's state that a `State` is, and what is known of a `State` of a job.
-use Rattle.std.specs.Prelude.{◌≡◌, ℕ, IsTrue, ◌≢◌, ◌<◌, ◌≤◌, ◌-◌, ◌⊎◌, true, false, List, [], length, Option, Some, None, slice_index, slice_index_or, replicate, set, if◌then◌else◌, ◌==◌}
+use Rattle.std.specs.Prelude.{◌≡◌, ℕ, IsTrue, ◌≢◌, ◌<◌, ◌≤◌, ◌-◌, ◌⊎◌, true, false, List, [], length, Option, Some}
+use Rattle.std.specs.Prelude.{None, slice_index, slice_index_or, replicate, set, if◌then◌else◌, ◌==◌}
 use Rattle.hq_model.specs.Job.{Job, packet, IsPacket, IsBarrier, Dependency, Earlier, agent_of}
 use Rattle.hq_job.specs.Access.{AreOfQueue}
 use Rattle.hq_model.specs.Order.{Ahead}
@@ -39,7 +40,8 @@ state_of job v =
 abbrev pub IsRow : {X : Type 0} → ℕ → List X → Type 0
 IsRow n row = (length row ≡ 0) ⊎ (length row ≡ n)
 
--- a packet's stores, where it has some: as many as the packet writes bytes; it has read all, and the bytes are its task's
+-- a packet's stores, where it has some: as many as the packet writes bytes; it has read all, and the bytes are its
+-- task's
 pub record AreStores (job : Job) (v : StateValue) (p : ℕ) : Type 0 where
   pub row : IsRow (length (packet job p).writes) (stores_of v p).stored
   pub read : 0 < length (stores_of v p).stored → AllRead job (state_of job v) p
@@ -123,7 +125,8 @@ pub record IsClear (job : Job) (state : machine.State) (p : ℕ) : Type 0 where
   pub bit : IsTrue (packet job p).bit → (e : ℕ) → Earlier job e p → state.phase e ≡ machine.Phase.Complete
   pub barriers : (e : ℕ) → Earlier job e p → IsBarrier job e → state.phase e ≡ machine.Phase.Complete
 
--- what an observation asks beside a dependency: a barrier packet that waits, the signal at 0, and the slot not yet observed
+-- what an observation asks beside a dependency: a barrier packet that waits, the signal at 0, and the slot not yet
+-- observed
 pub record Observes (job : Job) (state : machine.State) (p slot s : ℕ) : Type 0 where
   pub barrier : IsBarrier job p
   pub launched : state.phase p ≡ machine.Phase.Launched
@@ -236,7 +239,8 @@ marked s i = record s { stored = set s.stored i true }
 pub record NextStores (job : Job) (v : StateValue) (p i : ℕ) (s : StoresValue) : Type 0 where
   pub bytes : s.bytes ≡ bytes_stored job (state_of job v) p
   pub whole : length s.stored ≡ length (packet job p).writes
-  pub entry : (j : ℕ) → slice_index_or s.stored j false ≡ (if j == i then true else slice_index_or (stores_of v p).stored j false)
+  pub entry : (j : ℕ)
+      → slice_index_or s.stored j false ≡ (if j == i then true else slice_index_or (stores_of v p).stored j false)
 
 -- the signals after a completion on this one
 abbrev pub decremented : List ℕ → Option ℕ → List ℕ

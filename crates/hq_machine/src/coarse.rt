@@ -49,7 +49,8 @@ impl State {
     /// Copies of which all dirty bytes of all lanes, and then of all agents, are written back.
     fn written_back(&self, job: &Job) -> Result<Copies, CopiesFault>
         requires { IsStateOf (plan job.now) self.now }
-        ensures ok { IfOk result (λ c. WrittenBack self.now.copies 0 (length (plan job.now).packets) 0 (plan job.now).agents c) }
+        ensures ok { IfOk result
+            (λ c. WrittenBack self.now.copies 0 (length (plan job.now).packets) 0 (plan job.now).agents c) }
         ensures memory { IfErr result (λ e. e ≡ CopiesFault.Memory) }
     {
         job.valid();

@@ -1,6 +1,7 @@
 //! All reads of a packet in order, and all its stores.
 
-ghost use Rattle.std.specs.Prelude.{◌≡◌, ◌<◌, ◌↔◌, ℕ, None, IsTrue, length, IfOk, IfErr, OnOk, OnErr, slice_index_or, false, map, All, ◌+◌, ◌≤◌};
+ghost use Rattle.std.specs.Prelude.{◌≡◌, ◌<◌, ◌↔◌, ℕ, None, IsTrue, length, IfOk, IfErr, OnOk, OnErr};
+ghost use Rattle.std.specs.Prelude.{slice_index_or, false, map, All, ◌+◌, ◌≤◌};
 ghost use Rattle.hq_job.specs.Plan.{plan};
 ghost use Rattle.std.specs.List.{flat_map};
 ghost use Rattle.hq_footprint.specs.Bytes.{bytes_of};
@@ -8,7 +9,8 @@ ghost use Rattle.hq_model.specs.Job.{Job as JobOfNumbers, IsPacket, packet as pa
 ghost use Rattle.hq_model.specs.Journal.Coarse.{Fetch, Deliver};
 ghost use Rattle.hq_model.specs.Machine.{bytes_stored, lane_sees, listed};
 ghost use Rattle.hq_machine.specs.Entries.{MayFetch, FetchedUpTo, MayDeliver};
-ghost use Rattle.hq_machine.specs.View.{Applied, IsStateOf, NotApplied, Possible, rereading, row_of, state_of, stores_of};
+ghost use Rattle.hq_machine.specs.View.{Applied, IsStateOf, NotApplied, Possible, rereading, row_of, state_of};
+ghost use Rattle.hq_machine.specs.View.{stores_of};
 
 use crate::fault::StepFault;
 use crate::packets::{first_write, read_count, write_count};
@@ -44,7 +46,10 @@ impl State {
     pub fn seen_range(&self, packet: usize, range: ByteRange) -> Result<Vec<u8>, AllocError>
         requires packet { packet < length self.now.copies.lanes }
         requires range { 0 < range.len → range.at + range.len ≤ length self.now.copies.memory }
-        ensures { (job : JobOfNumbers) → IsStateOf job self.now → IfOk result (λ bytes. bytes.items ≡ listed range.len (λ i. lane_sees job (state_of job self.now) packet (range.at + i))) }
+        ensures { (job : JobOfNumbers) → IsStateOf job self.now
+            → IfOk result
+            (λ bytes. bytes.items ≡ listed range.len
+            (λ i. lane_sees job (state_of job self.now) packet (range.at + i))) }
     {
         if range.len == 0 {
             return Ok(Vec::new(self.allocator()));
@@ -58,7 +63,9 @@ impl State {
     fn bytes_of_ranges(&self, packet: usize, ranges: &[ByteRange]) -> Result<Vec<u8>, AllocError>
         requires packet { packet < length self.now.copies.lanes }
         requires ranges { All (λ b. b < length self.now.copies.memory) (flat_map bytes_of ranges.now) }
-        ensures { (job : JobOfNumbers) → IsStateOf job self.now → IfOk result (λ bytes. bytes.items ≡ map (lane_sees job (state_of job self.now) packet) (flat_map bytes_of ranges.now)) }
+        ensures { (job : JobOfNumbers) → IsStateOf job self.now
+            → IfOk result
+            (λ bytes. bytes.items ≡ map (lane_sees job (state_of job self.now) packet) (flat_map bytes_of ranges.now)) }
     {
         let mut bytes = Vec::new(self.allocator());
         for range in ranges {
@@ -72,7 +79,9 @@ impl State {
     fn bytes_to_read(&self, job: &Job, packet: usize) -> Result<Vec<u8>, AllocError>
         requires is { IsStateOf (plan job.now) self.now }
         requires packet { IsPacket (plan job.now) packet }
-        ensures { IfOk result (λ bytes. bytes.items ≡ map (lane_sees (plan job.now) (state_of (plan job.now) self.now) packet) (packet_of (plan job.now) packet).reads) }
+        ensures { IfOk result
+            (λ bytes. bytes.items ≡ map (lane_sees (plan job.now) (state_of (plan job.now) self.now) packet)
+            (packet_of (plan job.now) packet).reads) }
     {
         job.valid();
         self.bytes_of_ranges(packet, &job.packet(packet).bytes.reads)
@@ -83,7 +92,8 @@ impl State {
         requires is { IsStateOf (plan job.now) self.now }
         requires some { 0 < length (packet_of (plan job.now) packet).reads }
         requires may { MayFetch (plan job.now) (state_of (plan job.now) self.now) packet }
-        ensures { IfOk result (λ row. FetchedUpTo (plan job.now) self.now packet (length (packet_of (plan job.now) packet).reads) row) }
+        ensures { IfOk result
+            (λ row. FetchedUpTo (plan job.now) self.now packet (length (packet_of (plan job.now) packet).reads) row) }
     {
         let bytes = self.bytes_to_read(job, packet)?;
         Ok(Reads::all(self.allocator(), bytes))
@@ -199,7 +209,8 @@ impl State {
         requires is { IsStateOf (plan job.now) self.old }
         requires packet { IsPacket (plan job.now) packet }
         requires some { 0 < length (packet_of (plan job.now) packet).writes }
-        requires bytes { MayDeliver (plan job.now) (state_of (plan job.now) self.old) packet → bytes.now ≡ bytes_stored (plan job.now) (state_of (plan job.now) self.old) packet }
+        requires bytes { MayDeliver (plan job.now) (state_of (plan job.now) self.old) packet
+            → bytes.now ≡ bytes_stored (plan job.now) (state_of (plan job.now) self.old) packet }
         ensures ok { OnOk result (Applied (plan job.now) self.old (Deliver packet) self.new) }
         ensures err { OnErr result (self.new ≡ self.old) }
         ensures fault { IfErr result (λ f. NotApplied (plan job.now) self.old (Deliver packet) f) }
@@ -231,15 +242,16 @@ impl State {
         self.deliver_entries(job, number)
     }
 
-    /// All stores of a packet, in order, of these bytes, which a kernel that the machine doesn't know has made: whole or not at
-    /// all. Where the event can happen, they have to be the bytes that the packet's task makes.
+    /// All stores of a packet, in order, of these bytes, which a kernel that the machine doesn't know has made:
+    /// whole or not at all. Where the event can happen, they have to be the bytes that the packet's task makes.
     ///
     /// # Errors
     ///
     /// `NotEnabled` exactly where the event can't happen in this state, and `Memory`; the state is then as it was.
     pub fn deliver(&mut self, job: &Job, packet: u32, bytes: &[u8]) -> Result<(), StepFault>
         requires is { IsStateOf (plan job.now) self.old }
-        requires bytes { Possible (plan job.now) self.old (Deliver packet) → bytes.now ≡ bytes_stored (plan job.now) (state_of (plan job.now) self.old) packet }
+        requires bytes { Possible (plan job.now) self.old (Deliver packet)
+            → bytes.now ≡ bytes_stored (plan job.now) (state_of (plan job.now) self.old) packet }
         ensures ok { OnOk result (Applied (plan job.now) self.old (Deliver packet) self.new) }
         ensures err { OnErr result (self.new ≡ self.old) }
         ensures fault { IfErr result (λ f. NotApplied (plan job.now) self.old (Deliver packet) f) }

@@ -1,7 +1,7 @@
 //! What happens in a run.
 
-/// An event of a run, with the numbers of queues, packets, slots, read and write entries, agents and bytes as a timeline has
-/// them: any of them may be one that the job lacks, and then the event isn't enabled.
+/// An event of a run, with the numbers of queues, packets, slots, read and write entries, agents and bytes as a
+/// timeline has them: any of them may be one that the job lacks, and then the event isn't enabled.
 ///
 /// `Fetch`, `Deliver`, `Complete` and `Rest` stand for lists of single steps; each other event is one.
 #[derive(Clone, Copy, Debug, PartialEq, Eq)]

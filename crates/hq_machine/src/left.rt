@@ -66,7 +66,8 @@ impl State {
     #[tactic(auto, using(crate::proofs::WorkLeft::not_submit))]
     fn submit_left(&self, job: &Job) -> Option<Event>
         requires { IsStateOf (plan job.now) self.now }
-        ensures { MatchOption result (Enabled (plan job.now) self.now Submit → ⊥) (λ event. IsLeft (plan job.now) self.now event) }
+        ensures { MatchOption result (Enabled (plan job.now) self.now Submit → ⊥)
+            (λ event. IsLeft (plan job.now) self.now event) }
     {
         self.submittable(job)?;
         Some(Event::Submit)
@@ -76,7 +77,8 @@ impl State {
     #[tactic(auto, using(crate::proofs::WorkLeft::not_launch))]
     fn queue_left(&self, job: &Job, queue: u32) -> Option<Event>
         requires { IsStateOf (plan job.now) self.now }
-        ensures { MatchOption result (Enabled (plan job.now) self.now (Launch queue) → ⊥) (λ event. IsLeft (plan job.now) self.now event) }
+        ensures { MatchOption result (Enabled (plan job.now) self.now (Launch queue) → ⊥)
+            (λ event. IsLeft (plan job.now) self.now event) }
     {
         self.launchable(job, queue as usize)?;
         Some(Event::Launch { queue })
@@ -85,7 +87,8 @@ impl State {
     /// A launch that is enabled, if there is one.
     fn launch_left(&self, job: &Job) -> Option<Event>
         requires { IsStateOf (plan job.now) self.now }
-        ensures { MatchOption result (NoneOf (plan job.now) self.now Launch) (λ event. IsLeft (plan job.now) self.now event) }
+        ensures { MatchOption result (NoneOf (plan job.now) self.now Launch)
+            (λ event. IsLeft (plan job.now) self.now event) }
     {
         job.valid();
         for queue in 0..queue_total(job) {
@@ -101,7 +104,8 @@ impl State {
     fn slot_left(&self, job: &Job, packet: u32, slot: usize) -> Option<Event>
         requires is { IsStateOf (plan job.now) self.now }
         requires packet { IsPacket (plan job.now) packet }
-        ensures { MatchOption result (Enabled (plan job.now) self.now (Observe packet slot) → ⊥) (λ event. IsLeft (plan job.now) self.now event) }
+        ensures { MatchOption result (Enabled (plan job.now) self.now (Observe packet slot) → ⊥)
+            (λ event. IsLeft (plan job.now) self.now event) }
     {
         if !self.is_observable(job, packet as usize, slot) {
             return None;
@@ -114,7 +118,8 @@ impl State {
     fn observe_left(&self, job: &Job, packet: u32) -> Option<Event>
         requires is { IsStateOf (plan job.now) self.now }
         requires packet { IsPacket (plan job.now) packet }
-        ensures { MatchOption result (NoneOf (plan job.now) self.now (Observe packet)) (λ event. IsLeft (plan job.now) self.now event) }
+        ensures { MatchOption result (NoneOf (plan job.now) self.now (Observe packet))
+            (λ event. IsLeft (plan job.now) self.now event) }
     {
         for slot in 0..slot_count(job, packet as usize) {
             if let Some(event) = self.slot_left(job, packet, slot) {
@@ -128,7 +133,8 @@ impl State {
     #[tactic(auto, using(crate::proofs::WorkLeft::enter_left, crate::proofs::WorkLeft::not_enter))]
     fn enter_left(&self, job: &Job, packet: u32) -> Option<Event>
         requires { IsStateOf (plan job.now) self.now }
-        ensures { MatchOption result (Enabled (plan job.now) self.now (Enter packet) → ⊥) (λ event. IsLeft (plan job.now) self.now event) }
+        ensures { MatchOption result (Enabled (plan job.now) self.now (Enter packet) → ⊥)
+            (λ event. IsLeft (plan job.now) self.now event) }
     {
         if !self.may_enter(job, packet as usize) {
             return None;
@@ -141,7 +147,8 @@ impl State {
     fn entry_left(&self, job: &Job, packet: u32, entry: u32) -> Option<Event>
         requires is { IsStateOf (plan job.now) self.now }
         requires entry { entry < length (packet_of (plan job.now) packet).reads }
-        ensures { MatchOption result (Enabled (plan job.now) self.now (Read packet entry) → ⊥) (λ event. IsLeft (plan job.now) self.now event) }
+        ensures { MatchOption result (Enabled (plan job.now) self.now (Read packet entry) → ⊥)
+            (λ event. IsLeft (plan job.now) self.now event) }
     {
         if !self.is_read_open(job, packet as usize, entry as usize) {
             return None;
@@ -153,7 +160,8 @@ impl State {
     fn read_left(&self, job: &Job, packet: u32) -> Option<Event>
         requires is { IsStateOf (plan job.now) self.now }
         requires packet { IsPacket (plan job.now) packet }
-        ensures { MatchOption result (NoneOf (plan job.now) self.now (Read packet)) (λ event. IsLeft (plan job.now) self.now event) }
+        ensures { MatchOption result (NoneOf (plan job.now) self.now (Read packet))
+            (λ event. IsLeft (plan job.now) self.now event) }
     {
         for entry in 0..read_total(job, packet) {
             if let Some(event) = self.entry_left(job, packet, entry) {
@@ -167,7 +175,8 @@ impl State {
     #[tactic(auto, using(crate::proofs::WorkLeft::store_left, crate::proofs::WorkLeft::not_store))]
     fn byte_left(&self, job: &Job, packet: u32, entry: u32) -> Option<Event>
         requires { IsStateOf (plan job.now) self.now }
-        ensures { MatchOption result (Enabled (plan job.now) self.now (Store packet entry) → ⊥) (λ event. IsLeft (plan job.now) self.now event) }
+        ensures { MatchOption result (Enabled (plan job.now) self.now (Store packet entry) → ⊥)
+            (λ event. IsLeft (plan job.now) self.now event) }
     {
         if !self.may_store(job, packet as usize, entry as usize) {
             return None;
@@ -179,7 +188,8 @@ impl State {
     fn store_left(&self, job: &Job, packet: u32) -> Option<Event>
         requires is { IsStateOf (plan job.now) self.now }
         requires packet { IsPacket (plan job.now) packet }
-        ensures { MatchOption result (NoneOf (plan job.now) self.now (Store packet)) (λ event. IsLeft (plan job.now) self.now event) }
+        ensures { MatchOption result (NoneOf (plan job.now) self.now (Store packet))
+            (λ event. IsLeft (plan job.now) self.now event) }
     {
         for entry in 0..write_total(job, packet) {
             if let Some(event) = self.byte_left(job, packet, entry) {
@@ -193,7 +203,8 @@ impl State {
     #[tactic(auto, using(crate::proofs::WorkLeft::finish_left, crate::proofs::Finishing::not_finishing))]
     fn finish_left(&self, job: &Job, packet: u32) -> Option<Event>
         requires { IsStateOf (plan job.now) self.now }
-        ensures { MatchOption result (Enabled (plan job.now) self.now (Step.Finish packet) → ⊥) (λ event. IsLeft (plan job.now) self.now event) }
+        ensures { MatchOption result (Enabled (plan job.now) self.now (Step.Finish packet) → ⊥)
+            (λ event. IsLeft (plan job.now) self.now event) }
     {
         if !self.may_finish(job, packet as usize) {
             return None;
@@ -206,7 +217,8 @@ impl State {
     fn push_lane_left(&self, job: &Job, packet: u32) -> Option<Event>
         requires is { IsStateOf (plan job.now) self.now }
         requires packet { IsPacket (plan job.now) packet }
-        ensures { MatchOption result (NoneOf (plan job.now) self.now (PushLane packet)) (λ event. IsLeft (plan job.now) self.now event) }
+        ensures { MatchOption result (NoneOf (plan job.now) self.now (PushLane packet))
+            (λ event. IsLeft (plan job.now) self.now event) }
     {
         let _packets = job.packets();
         let byte = self.copies.first_dirty_lane(packet as usize)?;
@@ -218,7 +230,8 @@ impl State {
     fn agent_left(&self, job: &Job, agent: u32) -> Option<Event>
         requires is { IsStateOf (plan job.now) self.now }
         requires agent { agent < (plan job.now).agents }
-        ensures { MatchOption result (NoneOf (plan job.now) self.now (PushAgent agent)) (λ event. IsLeft (plan job.now) self.now event) }
+        ensures { MatchOption result (NoneOf (plan job.now) self.now (PushAgent agent))
+            (λ event. IsLeft (plan job.now) self.now event) }
     {
         let _agents = job.agents();
         let byte = self.copies.first_dirty_agent(agent as usize)?;
@@ -230,7 +243,8 @@ impl State {
     fn wait_left(&self, job: &Job, packet: u32) -> Option<Event>
         requires is { IsStateOf (plan job.now) self.now }
         requires packet { IsPacket (plan job.now) packet }
-        ensures { MatchOption result (WaitIdle (plan job.now) self.now packet) (λ event. IsLeft (plan job.now) self.now event) }
+        ensures { MatchOption result (WaitIdle (plan job.now) self.now packet)
+            (λ event. IsLeft (plan job.now) self.now event) }
     {
         if !self.is_in(packet as usize, Phase::Launched) {
             return None;
@@ -246,7 +260,8 @@ impl State {
     fn active_left(&self, job: &Job, packet: u32) -> Option<Event>
         requires is { IsStateOf (plan job.now) self.now }
         requires packet { IsPacket (plan job.now) packet }
-        ensures { MatchOption result (ActiveIdle (plan job.now) self.now packet) (λ event. IsLeft (plan job.now) self.now event) }
+        ensures { MatchOption result (ActiveIdle (plan job.now) self.now packet)
+            (λ event. IsLeft (plan job.now) self.now event) }
     {
         if !self.is_in(packet as usize, Phase::Active) {
             return None;
@@ -264,7 +279,8 @@ impl State {
     fn packet_left(&self, job: &Job, packet: u32) -> Option<Event>
         requires is { IsStateOf (plan job.now) self.now }
         requires packet { IsPacket (plan job.now) packet }
-        ensures { MatchOption result (PacketIdle (plan job.now) self.now packet) (λ event. IsLeft (plan job.now) self.now event) }
+        ensures { MatchOption result (PacketIdle (plan job.now) self.now packet)
+            (λ event. IsLeft (plan job.now) self.now event) }
     {
         if let Some(event) = self.wait_left(job, packet) {
             return Some(event);
@@ -278,7 +294,8 @@ impl State {
     /// A step of a packet that is enabled, or a push from a lane, if there is one.
     fn packets_left(&self, job: &Job) -> Option<Event>
         requires { IsStateOf (plan job.now) self.now }
-        ensures { MatchOption result ((p : ℕ) → PacketIdle (plan job.now) self.now p) (λ event. IsLeft (plan job.now) self.now event) }
+        ensures { MatchOption result ((p : ℕ) → PacketIdle (plan job.now) self.now p)
+            (λ event. IsLeft (plan job.now) self.now event) }
     {
         for packet in 0..packet_total(job) {
             if let Some(event) = self.packet_left(job, packet) {
@@ -291,7 +308,8 @@ impl State {
     /// A push from an agent that is enabled, if there is one.
     fn push_agent_left(&self, job: &Job) -> Option<Event>
         requires { IsStateOf (plan job.now) self.now }
-        ensures { MatchOption result ((a : ℕ) → NoneOf (plan job.now) self.now (PushAgent a)) (λ event. IsLeft (plan job.now) self.now event) }
+        ensures { MatchOption result ((a : ℕ) → NoneOf (plan job.now) self.now (PushAgent a))
+            (λ event. IsLeft (plan job.now) self.now event) }
     {
         for agent in 0..agent_total(job) {
             if let Some(event) = self.agent_left(job, agent) {
@@ -305,7 +323,8 @@ impl State {
     #[tactic(auto, using(crate::proofs::WorkLeft::no_work_left))]
     pub fn work_left(&self, job: &Job) -> Option<Event>
         requires { IsStateOf (plan job.now) self.now }
-        ensures { MatchOption result (NoWorkLeft (plan job.now) (state_of (plan job.now) self.now)) (λ event. IsLeft (plan job.now) self.now event) }
+        ensures { MatchOption result (NoWorkLeft (plan job.now) (state_of (plan job.now) self.now))
+            (λ event. IsLeft (plan job.now) self.now event) }
     {
         if let Some(event) = self.submit_left(job) {
             return Some(event);

@@ -1,4 +1,5 @@
-//! The machine of the definitions as code: its events, its states, single steps from state to state, and the record of a run.
+//! The machine of the definitions as code: its events, its states, single steps from state to state, and the record
+//! of a run.
 #![tactic(auto)]
 
 mod applying;

@@ -1,6 +1,7 @@
 //! What the job says of a packet.
 
-ghost use Rattle.std.specs.Prelude.{◌≡◌, ◌+◌, ◌-◌, ◌<◌, ◌≤◌, ◌↔◌, ℕ, Some, IfSome, MatchOption, All, slice_get, slice_index, IsTrue, length};
+ghost use Rattle.std.specs.Prelude.{◌≡◌, ◌+◌, ◌-◌, ◌<◌, ◌≤◌, ◌↔◌, ℕ, Some, IfSome, MatchOption, All, slice_get};
+ghost use Rattle.std.specs.Prelude.{slice_index, IsTrue, length};
 ghost use Rattle.std.specs.List.{flat_map};
 ghost use Rattle.hq_footprint.specs.Bytes.{bytes_of};
 ghost use Rattle.hq_job.specs.Access.{AreOfQueue};
@@ -28,7 +29,8 @@ pub fn slots_of(job: &Job, number: usize) -> usize
 pub fn first_of_queue(job: &Job, number: usize) -> usize
     requires { IsPacket (plan job.now) number }
     ensures first { result ≤ number }
-    ensures frees { IsTrue job.now.rings → (e : ℕ) → Frees (plan job.now) e number ↔ ((result ≤ e) × (e < number + 1 - size_of (plan job.now) number)) }
+    ensures frees { IsTrue job.now.rings → (e : ℕ) → Frees (plan job.now) e number
+        ↔ ((result ≤ e) × (e < number + 1 - size_of (plan job.now) number)) }
     ensures earlier { (e : ℕ) → Earlier (plan job.now) e number ↔ ((result ≤ e) × (e < number)) }
 {
     job.valid();
@@ -103,7 +105,8 @@ pub fn done_of(job: &Job, number: usize) -> Option<u16>
 #[tactic(auto, using(crate::proofs::Jobs::entry_first, crate::proofs::Jobs::entry_later, crate::proofs::Jobs::entries_length, crate::proofs::Jobs::entry_low, crate::proofs::Jobs::entries_rest))]
 fn entry_of(ranges: &[ByteRange], entry: usize) -> Option<usize>
     requires { All (λ b. b < 65536) (flat_map bytes_of ranges.now) }
-    ensures { MatchOption result (length (flat_map bytes_of ranges.now) ≤ entry) (λ b. slice_get (flat_map bytes_of ranges.now) entry ≡ Some b) }
+    ensures { MatchOption result (length (flat_map bytes_of ranges.now) ≤ entry)
+        (λ b. slice_get (flat_map bytes_of ranges.now) entry ≡ Some b) }
 {
     let (range, rest) = ranges.split_first()?;
     let count = range.len as usize;
@@ -116,7 +119,8 @@ fn entry_of(ranges: &[ByteRange], entry: usize) -> Option<usize>
 /// The byte that the packet reads as an entry, if it has so many.
 pub fn read_at(job: &Job, number: usize, entry: usize) -> Option<usize>
     requires { IsPacket (plan job.now) number }
-    ensures { MatchOption result (length (packet (plan job.now) number).reads ≤ entry) (λ b. IsEntry (plan job.now) number entry b) }
+    ensures { MatchOption result (length (packet (plan job.now) number).reads ≤ entry)
+        (λ b. IsEntry (plan job.now) number entry b) }
 {
     job.valid();
     entry_of(&job.packet(number).bytes.reads, entry)
@@ -137,7 +141,8 @@ pub fn write_at(job: &Job, number: usize, entry: usize) -> usize
 pub fn first_write(job: &Job, number: usize) -> usize
     requires number { IsPacket (plan job.now) number }
     requires some { 0 < length (packet (plan job.now) number).writes }
-    ensures at { (entry : ℕ) → entry < length (packet (plan job.now) number).writes → slice_index (packet (plan job.now) number).writes entry ≡ result + entry }
+    ensures at { (entry : ℕ) → entry < length (packet (plan job.now) number).writes
+        → slice_index (packet (plan job.now) number).writes entry ≡ result + entry }
     ensures within { result + length (packet (plan job.now) number).writes ≤ length (plan job.now).memory }
 {
     job.valid();

@@ -1,12 +1,14 @@
 //! Submissions and launches.
 
-ghost use Rattle.std.specs.Prelude.{◌≡◌, ◌≢◌, ◌+◌, ◌-◌, ◌<◌, ◌≤◌, ◌↔◌, ℕ, true, IsTrue, length, IfErr, OnOk, OnErr, MatchOption};
+ghost use Rattle.std.specs.Prelude.{◌≡◌, ◌≢◌, ◌+◌, ◌-◌, ◌<◌, ◌≤◌, ◌↔◌, ℕ, true, IsTrue, length, IfErr, OnOk, OnErr};
+ghost use Rattle.std.specs.Prelude.{MatchOption};
 ghost use Rattle.hq_job.specs.Plan.{plan};
 ghost use Rattle.hq_model.specs.Job.{IsPacket, IsBarrier, Earlier, Frees, packet};
 ghost use Rattle.hq_model.specs.Machine as machine;
 ghost use Rattle.hq_model.specs.Machine.{MaySubmit, MayLaunch, is_launched};
 ghost use Rattle.hq_model.specs.Machine.Event.{Submit, Launch};
-ghost use Rattle.hq_machine.specs.View.{IsStateOf, IsFirstWaiting, IsFirstUnlaunched, IsClear, Moved, Refused, state_of};
+ghost use Rattle.hq_machine.specs.View.{IsStateOf, IsFirstWaiting, IsFirstUnlaunched, IsClear, Moved, Refused};
+ghost use Rattle.hq_machine.specs.View.{state_of};
 
 use crate::fault::StepFault;
 use crate::packets::{first_of_queue, slots_of};
@@ -19,7 +21,9 @@ impl State {
     /// The first packet of the submission order that waits.
     fn first_waiting(&self, job: &Job) -> Option<usize>
         requires { IsStateOf (plan job.now) self.now }
-        ensures { MatchOption result ((p : ℕ) → IsPacket (plan job.now) p → (state_of (plan job.now) self.now).phase p ≢ machine.Phase.Waiting) (λ p. IsFirstWaiting (plan job.now) (state_of (plan job.now) self.now) p) }
+        ensures { MatchOption result
+            ((p : ℕ) → IsPacket (plan job.now) p → (state_of (plan job.now) self.now).phase p ≢ machine.Phase.Waiting)
+            (λ p. IsFirstWaiting (plan job.now) (state_of (plan job.now) self.now) p) }
     {
         job.valid();
         for number in job.submissions() {
@@ -35,7 +39,9 @@ impl State {
     fn has_slot(&self, job: &Job, number: usize) -> bool
         requires is { IsStateOf (plan job.now) self.now }
         requires number { IsPacket (plan job.now) number }
-        ensures { IsTrue result ↔ ((e : ℕ) → Frees (plan job.now) e number → (state_of (plan job.now) self.now).phase e ≡ machine.Phase.Complete) }
+        ensures { IsTrue result
+            ↔ ((e : ℕ) → Frees (plan job.now) e number
+            → (state_of (plan job.now) self.now).phase e ≡ machine.Phase.Complete) }
     {
         job.valid();
         if !job.rings() {
@@ -49,7 +55,8 @@ impl State {
     /// The packet that may be submitted, if one may.
     pub(crate) fn submittable(&self, job: &Job) -> Option<usize>
         requires { IsStateOf (plan job.now) self.now }
-        ensures { MatchOption result ((p : ℕ) → MaySubmit (plan job.now) (state_of (plan job.now) self.now) p → ⊥) (λ p. MaySubmit (plan job.now) (state_of (plan job.now) self.now) p) }
+        ensures { MatchOption result ((p : ℕ) → MaySubmit (plan job.now) (state_of (plan job.now) self.now) p → ⊥)
+            (λ p. MaySubmit (plan job.now) (state_of (plan job.now) self.now) p) }
     {
         job.valid();
         if !job.rings() {
@@ -82,7 +89,10 @@ impl State {
     fn first_unlaunched(&self, job: &Job, queue: usize) -> Option<usize>
         requires is { IsStateOf (plan job.now) self.now }
         requires queue { queue < length job.now.queues }
-        ensures { MatchOption result ((p : ℕ) → IsPacket (plan job.now) p → (packet (plan job.now) p).queue ≡ queue → is_launched ((state_of (plan job.now) self.now).phase p) ≡ true) (λ p. IsFirstUnlaunched (plan job.now) (state_of (plan job.now) self.now) queue p) }
+        ensures { MatchOption result
+            ((p : ℕ) → IsPacket (plan job.now) p → (packet (plan job.now) p).queue ≡ queue
+            → is_launched ((state_of (plan job.now) self.now).phase p) ≡ true)
+            (λ p. IsFirstUnlaunched (plan job.now) (state_of (plan job.now) self.now) queue p) }
     {
         let numbers = job.of_queue(queue);
         for number in numbers.start..numbers.end {
@@ -97,7 +107,9 @@ impl State {
     fn barriers_complete(&self, job: &Job, numbers: Range<usize>) -> bool
         requires is { IsStateOf (plan job.now) self.now }
         requires end { numbers.end ≤ length (plan job.now).packets }
-        ensures { IsTrue result ↔ ((e : ℕ) → numbers.start ≤ e → e < numbers.end → IsBarrier (plan job.now) e → (state_of (plan job.now) self.now).phase e ≡ machine.Phase.Complete) }
+        ensures { IsTrue result
+            ↔ ((e : ℕ) → numbers.start ≤ e → e < numbers.end → IsBarrier (plan job.now) e
+            → (state_of (plan job.now) self.now).phase e ≡ machine.Phase.Complete) }
     {
         for number in numbers.start..numbers.end {
             if job.is_barrier(number) && !self.is_in(number, Phase::Complete) {
@@ -111,7 +123,9 @@ impl State {
     fn bit_is_over(&self, job: &Job, number: usize) -> bool
         requires is { IsStateOf (plan job.now) self.now }
         requires number { IsPacket (plan job.now) number }
-        ensures { IsTrue result ↔ (IsTrue (packet (plan job.now) number).bit → (e : ℕ) → Earlier (plan job.now) e number → (state_of (plan job.now) self.now).phase e ≡ machine.Phase.Complete) }
+        ensures { IsTrue result
+            ↔ (IsTrue (packet (plan job.now) number).bit → (e : ℕ) → Earlier (plan job.now) e number
+            → (state_of (plan job.now) self.now).phase e ≡ machine.Phase.Complete) }
     {
         if !job.has_bit(number) {
             return true;
@@ -123,7 +137,9 @@ impl State {
     fn barriers_over(&self, job: &Job, number: usize) -> bool
         requires is { IsStateOf (plan job.now) self.now }
         requires number { IsPacket (plan job.now) number }
-        ensures { IsTrue result ↔ ((e : ℕ) → Earlier (plan job.now) e number → IsBarrier (plan job.now) e → (state_of (plan job.now) self.now).phase e ≡ machine.Phase.Complete) }
+        ensures { IsTrue result
+            ↔ ((e : ℕ) → Earlier (plan job.now) e number → IsBarrier (plan job.now) e
+            → (state_of (plan job.now) self.now).phase e ≡ machine.Phase.Complete) }
     {
         self.barriers_complete(job, first_of_queue(job, number)..number)
     }
@@ -142,7 +158,8 @@ impl State {
     /// The packet of the queue that may be launched, if one may.
     pub(crate) fn launchable(&self, job: &Job, queue: usize) -> Option<usize>
         requires { IsStateOf (plan job.now) self.now }
-        ensures { MatchOption result ((p : ℕ) → MayLaunch (plan job.now) (state_of (plan job.now) self.now) queue p → ⊥) (λ p. MayLaunch (plan job.now) (state_of (plan job.now) self.now) queue p) }
+        ensures { MatchOption result ((p : ℕ) → MayLaunch (plan job.now) (state_of (plan job.now) self.now) queue p → ⊥)
+            (λ p. MayLaunch (plan job.now) (state_of (plan job.now) self.now) queue p) }
     {
         job.valid();
         if queue >= job.queues().len() {

@@ -1,6 +1,7 @@
 //! What a packet has read and stored.
 
-ghost use Rattle.std.specs.Prelude.{◌≡◌, ◌↔◌, ◌<◌, ◌+◌, ◌^◌, ℕ, slice_index, Some, None, true, false, length, replicate, slice_index_or, slice_set, IsTrue, OnOk, OnErr, IfOk, if◌then◌else◌};
+ghost use Rattle.std.specs.Prelude.{◌≡◌, ◌↔◌, ◌<◌, ◌+◌, ◌^◌, ℕ, slice_index, Some, None, true, false, length};
+ghost use Rattle.std.specs.Prelude.{replicate, slice_index_or, slice_set, IsTrue, OnOk, OnErr, IfOk, if◌then◌else◌};
 ghost use Rattle.hq_machine.specs.View.{IsRow, NextRow};
 
 use std::alloc::{AllocError, Global};
@@ -75,7 +76,9 @@ impl Reads {
     /// Whether these bytes were read as the entries from `first` on.
     pub fn has(&self, first: usize, bytes: &[u8]) -> bool
         requires { first + length bytes.now < 2 ^ 64 }
-        ensures { IsTrue result ↔ ((i : ℕ) → i < length bytes.now → slice_index_or self.now (first + i) None ≡ Some (slice_index bytes.now i)) }
+        ensures { IsTrue result
+            ↔ ((i : ℕ) → i < length bytes.now
+            → slice_index_or self.now (first + i) None ≡ Some (slice_index bytes.now i)) }
     {
         for place in 0..bytes.len() {
             if self.get(first + place) != Some(bytes[place]) {

@@ -1,6 +1,7 @@
 //! The state of a run.
 
-ghost use Rattle.std.specs.Prelude.{◌≡◌, ◌+◌, ◌^◌, ◌<◌, ◌≤◌, ◌↔◌, ℕ, Some, slice_index, [], false, length, IfOk, IfErr, IsTrue, is_some, map, replicate};
+ghost use Rattle.std.specs.Prelude.{◌≡◌, ◌+◌, ◌^◌, ◌<◌, ◌≤◌, ◌↔◌, ℕ, Some, slice_index, [], false, length, IfOk};
+ghost use Rattle.std.specs.Prelude.{IfErr, IsTrue, is_some, map, replicate};
 ghost use Rattle.hq_copies.specs.Copies.{IsAgentByte, IsLaneByte};
 ghost use Rattle.hq_job.specs.Plan.{plan};
 ghost use Rattle.hq_model.specs.Job.{Job as JobOfNumbers, IsPacket, agent_of};
@@ -41,7 +42,14 @@ impl Model for State {
 
     ghost coded = { state_code };
 
-    ghost view = { λ s. record { phases = map named s.phases.items; observed = s.observed.items; reads = s.reads.items; stores = s.stores.items; signals = s.signals.items; copies = s.copies } };
+    ghost view = { λ s. record {
+      phases = map named s.phases.items;
+      observed = s.observed.items;
+      reads = s.reads.items;
+      stores = s.stores.items;
+      signals = s.signals.items;
+      copies = s.copies;
+    } };
 }
 
 /// The phase that packets start in.
@@ -103,7 +111,8 @@ fn first_copies(alloc: Global, job: &Job) -> Result<Copies, StepFault>
 /// The phase of each packet as the job starts.
 #[tactic(auto, using(crate::proofs::Starts::map_replicate))]
 fn first_phases(alloc: Global, job: &Job) -> Result<Vec<Phase>, AllocError>
-    ensures { IfOk result (λ phases. map named phases.items ≡ replicate (length (plan job.now).packets) (first_phase (plan job.now))) }
+    ensures { IfOk result
+        (λ phases. map named phases.items ≡ replicate (length (plan job.now).packets) (first_phase (plan job.now))) }
 {
     let phases = vec![in alloc; first_phase(job); packet_count(job)]?;
     Ok(phases)
@@ -198,7 +207,8 @@ impl State {
     /// The byte that is seen through a packet's lane.
     pub fn seen(&self, packet: usize, byte: usize) -> u8
         requires { IsLaneByte self.now.copies packet byte }
-        ensures { (job : JobOfNumbers) → IsStateOf job self.now → result ≡ lane_sees job (state_of job self.now) packet byte }
+        ensures { (job : JobOfNumbers) → IsStateOf job self.now
+            → result ≡ lane_sees job (state_of job self.now) packet byte }
     {
         self.copies.read(packet, byte)
     }
@@ -223,7 +233,8 @@ impl State {
     pub fn seen_into(&self, packet: usize, byte: usize, bytes: &mut [u8])
         requires packet { packet < length self.now.copies.lanes }
         requires bytes { byte + length bytes.old ≤ length self.now.copies.memory }
-        ensures { (job : JobOfNumbers) → IsStateOf job self.now → bytes.new ≡ listed (length bytes.old) (λ i. lane_sees job (state_of job self.now) packet (byte + i)) }
+        ensures { (job : JobOfNumbers) → IsStateOf job self.now
+            → bytes.new ≡ listed (length bytes.old) (λ i. lane_sees job (state_of job self.now) packet (byte + i)) }
     {
         self.copies.read_into(packet, byte, bytes);
     }
@@ -240,7 +251,9 @@ impl State {
     pub fn has_read(&self, packet: usize, first: usize, bytes: &[u8]) -> bool
         requires packet { packet < length self.now.reads }
         requires entries { first + length bytes.now < 2 ^ 64 }
-        ensures { (job : JobOfNumbers) → IsTrue result ↔ ((i : ℕ) → i < length bytes.now → (state_of job self.now).read packet (first + i) ≡ Some (slice_index bytes.now i)) }
+        ensures { (job : JobOfNumbers) → IsTrue result
+            ↔ ((i : ℕ) → i < length bytes.now
+            → (state_of job self.now).read packet (first + i) ≡ Some (slice_index bytes.now i)) }
     {
         self.reads[packet].has(first, bytes)
     }
@@ -274,7 +287,9 @@ impl State {
     /// Whether all packets of these numbers are complete.
     pub fn all_complete(&self, numbers: Range<usize>) -> bool
         requires { numbers.end ≤ length self.now.phases }
-        ensures { (first : machine.Phase) → IsTrue result ↔ ((e : ℕ) → numbers.start ≤ e → e < numbers.end → phases_of first self.now.phases e ≡ machine.Phase.Complete) }
+        ensures { (first : machine.Phase) → IsTrue result
+            ↔ ((e : ℕ) → numbers.start ≤ e → e < numbers.end
+            → phases_of first self.now.phases e ≡ machine.Phase.Complete) }
     {
         for packet in numbers.start..numbers.end {
             if !self.is_in(packet, Phase::Complete) {

@@ -1,13 +1,15 @@
 //! Stores.
 
-ghost use Rattle.std.specs.Prelude.{◌≡◌, ◌<◌, ◌↔◌, ℕ, IsTrue, length, IfOk, IfErr, OnOk, OnErr, slice_index, slice_index_or, unwrap_or, false, All, Some, map};
+ghost use Rattle.std.specs.Prelude.{◌≡◌, ◌<◌, ◌↔◌, ℕ, IsTrue, length, IfOk, IfErr, OnOk, OnErr, slice_index};
+ghost use Rattle.std.specs.Prelude.{slice_index_or, unwrap_or, false, All, Some, map};
 ghost use Rattle.hq_copies.specs.Copies.{stored};
 ghost use Rattle.hq_footprint.specs.Tasks.{Suits, result_of};
 ghost use Rattle.hq_job.specs.Plan.{plan};
 ghost use Rattle.hq_model.specs.Job.{Job as JobOfNumbers, IsPacket, packet as packet_of};
 ghost use Rattle.hq_model.specs.Machine.{bytes_read, bytes_stored};
 ghost use Rattle.hq_model.specs.Machine.Event.{Store};
-ghost use Rattle.hq_machine.specs.View.{IsStateOf, MayStore, NextStores, Moved, Refused, row_of, stores_of, marked, recopied, restored, state_of};
+ghost use Rattle.hq_machine.specs.View.{IsStateOf, MayStore, NextStores, Moved, Refused, row_of, stores_of, marked};
+ghost use Rattle.hq_machine.specs.View.{recopied, restored, state_of};
 
 use crate::copying::step_fault;
 use crate::fault::StepFault;
@@ -23,7 +25,8 @@ use std::alloc::{AllocError, Global};
 pub(crate) fn task_of(job: &Job, packet: usize) -> Task
     requires { IsPacket (plan job.now) packet }
     ensures is { result ≡ (packet_of (plan job.now) packet).task }
-    ensures suits { Suits result (length (packet_of (plan job.now) packet).reads) (length (packet_of (plan job.now) packet).writes) }
+    ensures suits { Suits result (length (packet_of (plan job.now) packet).reads)
+        (length (packet_of (plan job.now) packet).writes) }
 {
     job.valid();
     job.packet(packet).work.task
@@ -49,7 +52,8 @@ impl State {
     /// Fills the slice with the bytes that a packet has read, in order, and with 0 where it has read none.
     fn copy_reads(&self, packet: usize, bytes: &mut [u8])
         requires { packet < length self.now.reads }
-        ensures { (job : JobOfNumbers) → (i : ℕ) → i < length bytes.old → slice_index bytes.new i ≡ unwrap_or ((state_of job self.now).read packet i) 0 }
+        ensures { (job : JobOfNumbers) → (i : ℕ) → i < length bytes.old
+            → slice_index bytes.new i ≡ unwrap_or ((state_of job self.now).read packet i) 0 }
     {
         for (entry, slot) in bytes.iter_mut().enumerate() {
             *slot = self.read_byte(packet, entry).unwrap_or(0);
@@ -60,7 +64,8 @@ impl State {
     fn bytes_read(&self, job: &Job, packet: usize) -> Result<Vec<u8>, AllocError>
         requires is { IsStateOf (plan job.now) self.now }
         requires packet { IsPacket (plan job.now) packet }
-        ensures { IfOk result (λ bytes. bytes.items ≡ bytes_read (plan job.now) (state_of (plan job.now) self.now) packet) }
+        ensures { IfOk result
+            (λ bytes. bytes.items ≡ bytes_read (plan job.now) (state_of (plan job.now) self.now) packet) }
     {
         let mut bytes = vec![in self.allocator(); 0; read_count(job, packet)]?;
         self.copy_reads(packet, &mut bytes);
@@ -80,7 +85,8 @@ impl State {
     pub(crate) fn task_bytes(&self, job: &Job, packet: usize) -> Result<Vec<u8>, AllocError>
         requires is { IsStateOf (plan job.now) self.now }
         requires packet { IsPacket (plan job.now) packet }
-        ensures bytes { IfOk result (λ bytes. bytes.items ≡ bytes_stored (plan job.now) (state_of (plan job.now) self.now) packet) }
+        ensures bytes { IfOk result
+            (λ bytes. bytes.items ≡ bytes_stored (plan job.now) (state_of (plan job.now) self.now) packet) }
         ensures count { IfOk result (λ bytes. length bytes.items ≡ length (packet_of (plan job.now) packet).writes) }
     {
         let task = task_of(job, packet);
@@ -118,7 +124,9 @@ impl State {
         requires is { IsStateOf (plan job.now) self.old }
         requires packet { IsPacket (plan job.now) packet }
         requires entry { entry < length (packet_of (plan job.now) packet).writes }
-        ensures ok { OnOk result (self.new ≡ recopied self.old (stored self.old.copies packet (slice_index (packet_of (plan job.now) packet).writes entry) value)) }
+        ensures ok { OnOk result
+            (self.new ≡ recopied self.old
+            (stored self.old.copies packet (slice_index (packet_of (plan job.now) packet).writes entry) value)) }
         ensures err { OnErr result (self.new ≡ self.old) }
         ensures memory { IfErr result (λ e. e ≡ StepFault.Memory) }
     {

@@ -1,11 +1,13 @@
 //! Observations and entries.
 
-ghost use Rattle.std.specs.Prelude.{◌≡◌, ◌<◌, ◌↔◌, ℕ, Some, true, false, IsTrue, length, IfErr, OnOk, OnErr, slice_index_or};
+ghost use Rattle.std.specs.Prelude.{◌≡◌, ◌<◌, ◌↔◌, ℕ, Some, true, false, IsTrue, length, IfErr, OnOk, OnErr};
+ghost use Rattle.std.specs.Prelude.{slice_index_or};
 ghost use Rattle.hq_job.specs.Plan.{plan};
 ghost use Rattle.hq_model.specs.Job.{IsPacket};
 ghost use Rattle.hq_model.specs.Machine.{WaitOver};
 ghost use Rattle.hq_model.specs.Machine.Event.{Observe, Enter};
-ghost use Rattle.hq_machine.specs.View.{IsStateOf, Observes, SlotObserved, SlotMissing, MayObserve, MayEnter, Acquired, Moved, Refused, observing, row_of, state_of};
+ghost use Rattle.hq_machine.specs.View.{IsStateOf, Observes, SlotObserved, SlotMissing, MayObserve, MayEnter};
+ghost use Rattle.hq_machine.specs.View.{Acquired, Moved, Refused, observing, row_of, state_of};
 
 use crate::fault::StepFault;
 use crate::packets::{dependency, queue_of, slot_count};
@@ -117,7 +119,8 @@ impl State {
     fn all_observed(&self, job: &Job, packet: usize) -> bool
         requires is { IsStateOf (plan job.now) self.now }
         requires packet { IsPacket (plan job.now) packet }
-        ensures { IsTrue result ↔ ((slot : ℕ) → SlotMissing (plan job.now) (state_of (plan job.now) self.now) packet slot → ⊥) }
+        ensures { IsTrue result
+            ↔ ((slot : ℕ) → SlotMissing (plan job.now) (state_of (plan job.now) self.now) packet slot → ⊥) }
     {
         for slot in 0..slot_count(job, packet) {
             if self.is_slot_missing(job, packet, slot) {
@@ -132,7 +135,8 @@ impl State {
     fn some_observed(&self, job: &Job, packet: usize) -> bool
         requires is { IsStateOf (plan job.now) self.now }
         requires packet { IsPacket (plan job.now) packet }
-        ensures { IsTrue result ↔ ((slot : ℕ) × SlotObserved (plan job.now) (state_of (plan job.now) self.now) packet slot) }
+        ensures { IsTrue result
+            ↔ ((slot : ℕ) × SlotObserved (plan job.now) (state_of (plan job.now) self.now) packet slot) }
     {
         for slot in 0..slot_count(job, packet) {
             if self.is_slot_observed(job, packet, slot) {

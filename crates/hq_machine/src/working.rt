@@ -1,6 +1,7 @@
 //! Reads, stores and completions.
 
-ghost use Rattle.std.specs.Prelude.{◌≡◌, ◌<◌, ◌↔◌, Some, None, IsTrue, IfSome, length, count_by, is_some, IfErr, OnOk, OnErr, MatchOption, slice_index_or};
+ghost use Rattle.std.specs.Prelude.{◌≡◌, ◌<◌, ◌↔◌, Some, None, IsTrue, IfSome, length, count_by, is_some, IfErr};
+ghost use Rattle.std.specs.Prelude.{OnOk, OnErr, MatchOption, slice_index_or};
 ghost use Rattle.hq_job.specs.Plan.{plan};
 ghost use Rattle.hq_model.specs.Job.{IsPacket, packet as packet_of};
 ghost use Rattle.hq_model.specs.Machine.{AllRead, AllStored, Released};
@@ -53,7 +54,9 @@ impl State {
     fn is_released(&self, job: &Job, packet: usize) -> bool
         requires is { IsStateOf (plan job.now) self.now }
         requires packet { IsPacket (plan job.now) packet }
-        ensures { IsTrue result ↔ Released (plan job.now) (state_of (plan job.now) self.now) packet (packet_of (plan job.now) packet).release }
+        ensures { IsTrue result
+            ↔ Released (plan job.now) (state_of (plan job.now) self.now) packet
+            (packet_of (plan job.now) packet).release }
     {
         job.valid();
         let numbers = queue_of(job, packet);
@@ -132,7 +135,9 @@ impl State {
     /// The byte that the packet may read as an entry, if it may.
     fn readable(&self, job: &Job, packet: usize, entry: usize) -> Option<usize>
         requires { IsStateOf (plan job.now) self.now }
-        ensures { MatchOption result (MayRead (plan job.now) (state_of (plan job.now) self.now) packet entry → ⊥) (λ b. MayRead (plan job.now) (state_of (plan job.now) self.now) packet entry × IsEntry (plan job.now) packet entry b) }
+        ensures { MatchOption result (MayRead (plan job.now) (state_of (plan job.now) self.now) packet entry → ⊥)
+            (λ b. MayRead (plan job.now) (state_of (plan job.now) self.now) packet entry
+            × IsEntry (plan job.now) packet entry b) }
     {
         if !self.is_read_open(job, packet, entry) {
             return None;

@@ -197,7 +197,7 @@ module _ (job : Job) (p : ℕ) (valid : Valid job) (plain : job.rings ≡ false)
         | inl (slot, s, f, all) ↦ inl (whole.wait_one job valid w.events w.state w.run x there launched is slot s f (over slot s f all))
         | inr some ↦
             inr (for_or (record { kind = is; some = valid.not_null x there is })
-                (λ slot s f. let (d, g, o) = some slot s f in (d, g, in_left d g.is_packet o)))
+            (λ slot s f. let (d, g, o) = some slot s f in (d, g, in_left d g.is_packet o)))
       ]
 
       finish : x ≢ p → Ready → Further w
@@ -253,10 +253,21 @@ module _ (job : Job) (p : ℕ) (valid : Valid job) (plain : job.rings ≡ false)
 
     queued_behind : (x y : ℕ) → Queued x → Earlier job x y → Queued y
     queued_behind x y (e, o, inl by) g = (e, o, inl (record { earlier = earlier_still job e x y by.earlier g; barrier = by.barrier }))
-    queued_behind x y (e, o, inr (j, by)) g = (e, o, inr (j, record { earlier = by.earlier; bit = by.bit; upto = inr (elim by.upto [
-      | inl is ↦ subst (λ k. Earlier job k y) (sym is) g
-      | inr h ↦ earlier_still job j x y h g
-    ]) }))
+    queued_behind x y (e, o, inr (j, by)) g = (
+      e,
+      o,
+      inr (
+        j,
+        record {
+          earlier = by.earlier;
+          bit = by.bit;
+          upto = inr (elim by.upto [
+            | inl is ↦ subst (λ k. Earlier job k y) (sym is) g
+            | inr h ↦ earlier_still job j x y h g
+          ]);
+        },
+      ),
+    )
 
     queued_needs : (x : ℕ) → Queued x → NeedsOneOf job (p ∷ left) x
     queued_needs x (e, o, inl by) = for_queue e by (in_left e (earlier_packet job e x by.earlier) o)

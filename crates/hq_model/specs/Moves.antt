@@ -1,5 +1,5 @@
--- What the machine's steps do to copies, one step by itself, in every state of every job: which moves are always possible, what
--- nobody sees of them, and what an acquire fence leaves. This project's own.
+-- What the machine's steps do to copies, one step by itself, in every state of every job: which moves are always
+-- possible, what nobody sees of them, and what an acquire fence leaves. This project's own.
 use Rattle.std.specs.Prelude.{◌≡◌, ℕ, ◌<◌, ◌≢◌, IsTrue, false, None}
 use Rattle.hq_model.specs.Job.{Job, packet, IsPacket, agent_of}
 use Rattle.hq_packet.specs.Scopes.{reaches}
@@ -14,11 +14,16 @@ Enabled job state event = (new : State) × Step job state event new
 -- In any phase of any packet an absent byte can be filled, a clean one dropped, and a dirty one pushed.
 pub record CopiesMove (job : Job) (state : State) : Type 0 where
   pub fill_lane : (p b : ℕ) → IsPacket job p → IsByte job b → state.lane p b ≡ None → Enabled job state (FillLane p b)
-  pub drop_lane : (p b value : ℕ) → IsPacket job p → IsByte job b → state.lane p b ≡ clean value → Enabled job state (DropLane p b)
-  pub push_lane : (p b value : ℕ) → IsPacket job p → IsByte job b → state.lane p b ≡ dirty value → Enabled job state (PushLane p b)
-  pub fill_agent : (a b : ℕ) → a < job.agents → IsByte job b → state.agent a b ≡ None → Enabled job state (FillAgent a b)
-  pub drop_agent : (a b value : ℕ) → a < job.agents → IsByte job b → state.agent a b ≡ clean value → Enabled job state (DropAgent a b)
-  pub push_agent : (a b value : ℕ) → a < job.agents → IsByte job b → state.agent a b ≡ dirty value → Enabled job state (PushAgent a b)
+  pub drop_lane : (p b value : ℕ) → IsPacket job p → IsByte job b → state.lane p b ≡ clean value
+      → Enabled job state (DropLane p b)
+  pub push_lane : (p b value : ℕ) → IsPacket job p → IsByte job b → state.lane p b ≡ dirty value
+      → Enabled job state (PushLane p b)
+  pub fill_agent : (a b : ℕ) → a < job.agents → IsByte job b → state.agent a b ≡ None
+      → Enabled job state (FillAgent a b)
+  pub drop_agent : (a b value : ℕ) → a < job.agents → IsByte job b → state.agent a b ≡ clean value
+      → Enabled job state (DropAgent a b)
+  pub push_agent : (a b value : ℕ) → a < job.agents → IsByte job b → state.agent a b ≡ dirty value
+      → Enabled job state (PushAgent a b)
 
 abbrev pub CopiesMoveAlways : Type 0
 CopiesMoveAlways = (job : Job) (state : State) → CopiesMove job state
@@ -48,9 +53,12 @@ pub record FenceLeaves (job : Job) (old : State) (p : ℕ) (new : State) : Type 
   -- dirty copies are as they were
   pub dirty_lanes : (l b : ℕ) → IsTrue (is_dirty (old.lane l b)) → new.lane l b ≡ old.lane l b
   pub dirty_agents : (a b : ℕ) → IsTrue (is_dirty (old.agent a b)) → new.agent a b ≡ old.agent a b
-  -- no clean copy is left in the lanes of its queue's packets by scope agent or system, nor on its agent by scope system
-  pub lanes : IsTrue (reaches (packet job p).acquire scope.Agent) → (l b : ℕ) → (packet job l).queue ≡ (packet job p).queue → is_dirty (old.lane l b) ≡ false → new.lane l b ≡ None
-  pub agent : IsTrue (reaches (packet job p).acquire scope.System) → (b : ℕ) → is_dirty (old.agent (agent_of job p) b) ≡ false → new.agent (agent_of job p) b ≡ None
+  -- no clean copy is left in the lanes of its queue's packets by scope agent or system, nor on its agent by scope
+  -- system
+  pub lanes : IsTrue (reaches (packet job p).acquire scope.Agent) → (l b : ℕ)
+      → (packet job l).queue ≡ (packet job p).queue → is_dirty (old.lane l b) ≡ false → new.lane l b ≡ None
+  pub agent : IsTrue (reaches (packet job p).acquire scope.System) → (b : ℕ)
+      → is_dirty (old.agent (agent_of job p) b) ≡ false → new.agent (agent_of job p) b ≡ None
   -- and no other copy goes
   pub other_lanes : (l b : ℕ) → (packet job l).queue ≢ (packet job p).queue → new.lane l b ≡ old.lane l b
   pub other_agents : (a b : ℕ) → a ≢ agent_of job p → new.agent a b ≡ old.agent a b

@@ -1,5 +1,5 @@
--- A packet that is active can come to its completion by itself: what it still has to read and store, and what its release
--- waits for, is done by its own reads and stores and by pushes.
+-- A packet that is active can come to its completion by itself: what it still has to read and store, and what its
+-- release waits for, is done by its own reads and stores and by pushes.
 use Rattle.std.specs.Prelude.{◌≡◌, ℕ, List, ◌++◌, All}
 use Rattle.hq_model.specs.Job.{Job, IsPacket}
 use Rattle.hq_model.specs.Machine.{State, Event, Step, Steps, Run, completed}
@@ -21,13 +21,15 @@ pub record SameProgress (old new : State) : Type 0 where
   pub observed : new.observed ≡ old.observed
   pub signal : new.signal ≡ old.signal
 
--- From old, reads and stores of p and pushes lead to a state in which p can complete, and on the way there nothing else changes.
+-- From old, reads and stores of p and pushes lead to a state in which p can complete, and on the way there nothing
+-- else changes.
 pub record Readied (job : Job) (old : State) (p : ℕ) : Type 0 where
   pub events : List Event
   pub new : State
   pub steps : Steps job old events new
   pub own : All (Readies p) events
-  pub same : (first last : List Event) (mid : State) → events ≡ first ++ last → Steps job old first mid → SameProgress old mid
+  pub same : (first last : List Event) (mid : State) → events ≡ first ++ last → Steps job old first mid
+      → SameProgress old mid
   pub finish : Step job new (Finish p) (completed job new p)
 
 -- In every run a packet that is active can complete so.

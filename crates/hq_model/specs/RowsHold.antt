@@ -10,10 +10,15 @@ use Rattle.hq_model.specs.OneByOne.{one_by_one, given}
 use Rattle.hq_model.specs.Certificate.{CertHolds}
 use Rattle.hq_model.specs.Theorems.{Valid, Headline}
 use Rattle.hq_model.specs.HoldsBack.{AlwaysBefore, HoldsBack, FullOrderList}
-use Rattle.hq_model.specs.Rows.{fill_copy, fill_copy_certificate, without_bits, copy_fill, fence_between, two_agents, two_writers, chained, chained_certificate, unacquired, waits_for_itself, either, either_certificate, free_branch, back_branch, three_in_ring, stuck_ring, moved_ring, one_byte, unreleased_run, early_fill_run, two_nops, second_first_run, slot_in_use}
+use Rattle.hq_model.specs.Rows.{fill_copy, fill_copy_certificate, without_bits, copy_fill, fence_between}
+use Rattle.hq_model.specs.Rows.{two_agents, two_writers, chained, chained_certificate, unacquired, waits_for_itself}
+use Rattle.hq_model.specs.Rows.{either, either_certificate, free_branch, back_branch, three_in_ring, stuck_ring}
+use Rattle.hq_model.specs.Rows.{moved_ring, one_byte, unreleased_run, early_fill_run, two_nops, second_first_run}
+use Rattle.hq_model.specs.Rows.{slot_in_use}
 use Rattle.hq_packet.specs.declared.packet.Scope.TheVariants as scope
 
--- Jobs that are ordered, by the bit, by a chain on each agent, by a barrier-OR, by their ring, and where only a read comes first.
+-- Jobs that are ordered, by the bit, by a chain on each agent, by a barrier-OR, by their ring, and where only a
+-- read comes first.
 pub record OrderedRows : Type 0 where
   pub fill_copy_valid : Valid fill_copy
   pub fill_copy_certified : CertHolds fill_copy fill_copy_certificate
@@ -78,13 +83,16 @@ pub record StuckRows : Type 0 where
   pub moved_order : OrderList moved_ring (2 ∷ 0 ∷ 1 ∷ [])
   pub not_an_order : OrderList moved_ring (0 ∷ 2 ∷ 1 ∷ []) → ⊥
 
--- Runs: a slot in use isn't submitted to again; packets complete out of order; and without a release, or without an acquire, a
--- copy reads the byte from before the fill, which its order doesn't give it.
+-- Runs: a slot in use isn't submitted to again; packets complete out of order; and without a release, or without an
+-- acquire, a copy reads the byte from before the fill, which its order doesn't give it.
 pub record RunsOfRows : Type 0 where
   pub slot_waits : (state : State) → Run three_in_ring slot_in_use state → ⊥
-  pub second_first : (state : State) × Run two_nops second_first_run state × (state.phase 0 ≡ Launched) × (state.phase 1 ≡ Complete)
-  pub unreleased_read : (state : State) × Run (one_byte scope.None scope.System) unreleased_run state × (state.read 1 0 ≡ Some 0)
-  pub early_fill_read : (state : State) × Run (one_byte scope.Agent scope.None) early_fill_run state × (state.read 1 0 ≡ Some 0)
+  pub second_first : (state : State) × Run two_nops second_first_run state × (state.phase 0 ≡ Launched)
+      × (state.phase 1 ≡ Complete)
+  pub unreleased_read : (state : State) × Run (one_byte scope.None scope.System) unreleased_run state
+      × (state.read 1 0 ≡ Some 0)
+  pub early_fill_read : (state : State) × Run (one_byte scope.Agent scope.None) early_fill_run state
+      × (state.read 1 0 ≡ Some 0)
   pub one_byte_given : given (one_byte scope.Agent scope.None) (0 ∷ 1 ∷ []) 1 ≡ 7 ∷ []
   pub unreleased_fails : Headline (one_byte scope.None scope.System) → ⊥
   pub early_fill_fails : Headline (one_byte scope.Agent scope.None) → ⊥

@@ -1,5 +1,6 @@
--- Settings of a job: the barrier bit and the scopes of the two fences of each packet. Jobs that differ in nothing else are one job
--- in different settings. Raising and lowering settings, and what that leaves, is this project's own.
+-- Settings of a job: the barrier bit and the scopes of the two fences of each packet. Jobs that differ in nothing
+-- else are one job in different settings. Raising and lowering settings, and what that leaves, is this project's
+-- own.
 use Rattle.std.specs.Prelude.{◌≡◌, ◌≢◌, ◌↔◌, ℕ, IsTrue, true, false, List, map, slice_set}
 use Rattle.hq_packet.specs.declared.packet.Head.{Head}
 use Rattle.hq_packet.specs.declared.packet.Scope.{Scope}
@@ -100,14 +101,16 @@ NoneLowers k = (m : Job) → Lowers k m → ¬ Ordered m
 
 -- ---- the laws: what heads leave as it is
 
--- Order lists and stuck sets are the same in each setting: the bit never makes a packet wait for one that it doesn't follow in
--- its queue, and order lists have each queue in its order, with bits and without.
+-- Order lists and stuck sets are the same in each setting: the bit never makes a packet wait for one that it
+-- doesn't follow in its queue, and order lists have each queue in its order, with bits and without.
 abbrev pub HeadsLeaveLists : Type 0
-HeadsLeaveLists = (j k : Job) (list : List ℕ) → SameButHeads j k → (OrderList j list ↔ OrderList k list) × (StuckSet j list ↔ StuckSet k list)
+HeadsLeaveLists = (j k : Job) (list : List ℕ) → SameButHeads j k
+    → (OrderList j list ↔ OrderList k list) × (StuckSet j list ↔ StuckSet k list)
 
 -- So are the conflicts.
 abbrev pub HeadsLeaveConflicts : Type 0
-HeadsLeaveConflicts = (j k : Job) (kind : Conflict) (p r : ℕ) → SameButHeads j k → Conflicts j kind p r ↔ Conflicts k kind p r
+HeadsLeaveConflicts = (j k : Job) (kind : Conflict) (p r : ℕ) → SameButHeads j k → Conflicts j kind p r
+    ↔ Conflicts k kind p r
 
 -- So is whether the tables fit.
 abbrev pub HeadsLeaveValid : Type 0
@@ -115,7 +118,8 @@ HeadsLeaveValid = (j k : Job) → SameButHeads j k → Valid j ↔ Valid k
 
 -- So is what comes of the packets one at a time: the bytes that each is given, and those that are left.
 abbrev pub HeadsLeaveResults : Type 0
-HeadsLeaveResults = (j k : Job) (list : List ℕ) → SameButHeads j k → ((b : ℕ) → one_by_one j list b ≡ one_by_one k list b) × ((p : ℕ) → given j list p ≡ given k list p)
+HeadsLeaveResults = (j k : Job) (list : List ℕ) → SameButHeads j k
+    → ((b : ℕ) → one_by_one j list b ≡ one_by_one k list b) × ((p : ℕ) → given j list p ≡ given k list p)
 
 -- ---- the laws: what raising brings
 
@@ -157,8 +161,8 @@ pub record RaisingIsPartialOrder : Type 0 where
   pub transitive : (j k m : Job) → Raises j k → Raises k m → Raises j m
   pub antisymmetric : (j k : Job) → Raises j k → Raises k j → j ≡ k
 
--- Where packet p is given a head, it has that head, and nothing else changes. The job is lower where the head is, and higher where the head
--- is; and a job that is below stays so where its head is at or below that one.
+-- Where packet p is given a head, it has that head, and nothing else changes. The job is lower where the head is,
+-- and higher where the head is; and a job that is below stays so where its head is at or below that one.
 pub record HeadIsSet (j : Job) (p : ℕ) (head : Head) : Type 0 where
   pub same : SameButHeads j (with_head j p head)
   pub here : head_at (with_head j p head) p ≡ head

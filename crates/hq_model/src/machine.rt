@@ -1,6 +1,7 @@
 //! The machine's steps, one by one and in runs of any job.
 
-ghost use Rattle.hq_model.specs.Theorems.{StepsDetermined, WithoutRings, OrderLaw, SignalLaw, BoundLaw, StuckLaw, CompletePossible, JournalsRun};
+ghost use Rattle.hq_model.specs.Theorems.{StepsDetermined, WithoutRings, OrderLaw, SignalLaw, BoundLaw, StuckLaw};
+ghost use Rattle.hq_model.specs.Theorems.{CompletePossible, JournalsRun};
 ghost use Rattle.hq_model.specs.Moves.{CopiesMoveAlways, FillsUnseenAlways, PushesWriteAlways, FenceLaw};
 ghost use Rattle.hq_model.specs.Journal.{CoarseLaw};
 ghost use Rattle.hq_model.specs.Readied.{CompletionReached, EntryReadied};
@@ -81,8 +82,8 @@ pub fn journals_run()
     ensures { JournalsRun }
 {}
 
-/// In every run each byte of memory, each copy and each entry that was read is what its origin made it: as memory starts there, or
-/// as the packet stored it.
+/// In every run each byte of memory, each copy and each entry that was read is what its origin made it: as memory
+/// starts there, or as the packet stored it.
 pub fn origins_tell()
     ensures { OriginsTell }
 {}

@@ -1,8 +1,10 @@
 //! Settings of a job: its packets' barrier bits and fence scopes, raised and lowered.
 
 ghost use Rattle.hq_model.specs.Settings.{HeadsLeaveLists, HeadsLeaveConflicts, HeadsLeaveValid, HeadsLeaveResults};
-ghost use Rattle.hq_model.specs.Settings.{RaisingOrders, RaisingShows, RaisedIsOrdered, RefusedStaysRefused, SomeRaisedIsOrdered};
-ghost use Rattle.hq_model.specs.Settings.{HighestIsHighest, LowestIsLowest, RaisingIsPartialOrder, HeadsAreSet, LoweredIsLower, StepsSuffice};
+ghost use Rattle.hq_model.specs.Settings.{RaisingOrders, RaisingShows, RaisedIsOrdered, RefusedStaysRefused};
+ghost use Rattle.hq_model.specs.Settings.{SomeRaisedIsOrdered};
+ghost use Rattle.hq_model.specs.Settings.{HighestIsHighest, LowestIsLowest, RaisingIsPartialOrder, HeadsAreSet};
+ghost use Rattle.hq_model.specs.Settings.{LoweredIsLower, StepsSuffice};
 
 /// Order lists and stuck sets are the same in each setting.
 pub fn heads_leave_lists()
@@ -59,7 +61,8 @@ pub fn lowest_is_lowest()
     ensures { LowestIsLowest }
 {}
 
-/// Settings are ordered: each is at or above itself, what is above one above is above, and two that are above each other are one.
+/// Settings are ordered: each is at or above itself, what is above one above is above, and two that are above each
+/// other are one.
 pub fn raising_is_partial_order()
     ensures { RaisingIsPartialOrder }
 {}

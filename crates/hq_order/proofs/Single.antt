@@ -26,10 +26,14 @@ further job p q r e f = record { ahead = omega (arith, e.ahead, f.ahead); is_pac
 
 -- what stays ahead of a packet of the queue stays ahead of the later ones
 pub precedes_further : (job : Job) (p q r : ℕ) → Earlier job q r → Precedes job p q → Precedes job p r
-precedes_further job p q r f (by_bit {j} by) = by_bit {j = j} (record { earlier = by.earlier; bit = by.bit; upto = inr (elim by.upto [
-  | inl is ↦ subst (λ k. Earlier job k r) (sym is) f
-  | inr g ↦ further job j q r g f
-]) })
+precedes_further job p q r f (by_bit {j} by) = by_bit {j = j} (record {
+  earlier = by.earlier;
+  bit = by.bit;
+  upto = inr (elim by.upto [
+    | inl is ↦ subst (λ k. Earlier job k r) (sym is) f
+    | inr g ↦ further job j q r g f
+  ]);
+})
 precedes_further job p q r f (by_queue by) = by_queue (record { earlier = further job p q r by.earlier f; barrier = by.barrier })
 
 -- the packet ahead of r in its queue

@@ -59,7 +59,7 @@ module _ (job : Job) (rows : List (Vec ℕ)) (h : HaveAsked job rows) where
     | inl low ↦
         let to = next p r by.earlier low in
         along (suc p) r p ((h r by.earlier.is_packet).together p by.earlier low)
-            ((h (suc p) to.is_packet).asked p (asked_queue refl (record { earlier = to; barrier = by.barrier })))
+        ((h (suc p) to.is_packet).asked p (asked_queue refl (record { earlier = to; barrier = by.barrier })))
     | inr high ↦ let step : suc p ≡ r = omega (arith, by.earlier.ahead, high) in (h r by.earlier.is_packet).asked p (asked_queue step by)
   ]
 

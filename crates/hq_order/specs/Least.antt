@@ -6,4 +6,5 @@ use Rattle.hq_model.specs.Schedule.{MayCome}
 -- Each packet of the list may come behind those ahead of it, and no lesser one may.
 pub data LeastFirst (job : Job) : List ℕ → Type 0 where
   begins : LeastFirst job []
-  goes_on : {list : List ℕ} {p : ℕ} → LeastFirst job list → MayCome job list p → ((r : ℕ) → r < p → MayCome job list r → ⊥) → LeastFirst job (list ++ p ∷ [])
+  goes_on : {list : List ℕ} {p : ℕ} → LeastFirst job list → MayCome job list p
+      → ((r : ℕ) → r < p → MayCome job list r → ⊥) → LeastFirst job (list ++ p ∷ [])

@@ -1,5 +1,6 @@
 -- Rows of bits as relations between packets: the row of a packet has those before it.
-use Rattle.std.specs.Prelude.{◌≡◌, ◌≢◌, ℕ, ◌+◌, ◌-◌, ◌/◌, ◌^◌, ◌∷◌, ◌*◌, ◌<◌, ◌≤◌, ◌↔◌, IsTrue, List, [], map, length, slice_index, slice_index_or}
+use Rattle.std.specs.Prelude.{◌≡◌, ◌≢◌, ℕ, ◌+◌, ◌-◌, ◌/◌, ◌^◌, ◌∷◌, ◌*◌, ◌<◌, ◌≤◌, ◌↔◌, IsTrue, List, [], map}
+use Rattle.std.specs.Prelude.{length, slice_index, slice_index_or}
 use Rattle.std.specs.Global.{Vec}
 use Rattle.hq_model.specs.Job.{Job}
 use Rattle.hq_order.specs.Bits.{has}

@@ -13,7 +13,8 @@ pub record AllAre {X : Type 0} (P : ℕ → X → Type 0) (xs : List X) : Type 0
 pub record Completing (job : Job) (s : ℕ) (row : List ℕ) : Type 0 where
   pub are : (p : ℕ) → IsTrue (has row p) ↔ Decrements job p s
 
--- where the rows of all signals lie behind one another, of so many words each, e is the place of a packet in the row of its signal
+-- where the rows of all signals lie behind one another, of so many words each, e is the place of a packet in the
+-- row of its signal
 abbrev pub MarksCompletion : Job → ℕ → ℕ → Type 0
 MarksCompletion job words e = (p : ℕ) × (s : ℕ) × (e ≡ s * (words * 64) + p) × Decrements job p s
 

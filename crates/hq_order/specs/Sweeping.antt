@@ -6,9 +6,9 @@ use Rattle.hq_model.specs.Order.{ByBit, ByQueue, ByAnd, Before}
 use Rattle.hq_order.specs.Matrix.{Marks, IsSquare}
 use Rattle.hq_order.specs.Rounds.{ByOr}
 
--- By what is known, p is before r: it is before the packet right ahead of r in its queue, or is that packet, and a barrier packet; it stands
--- ahead of r, which has the barrier bit; it is complete once a dependency of the barrier-AND r is over, or whichever dependency of the barrier-OR
--- r is over.
+-- By what is known, p is before r: it is before the packet right ahead of r in its queue, or is that packet, and a
+-- barrier packet; it stands ahead of r, which has the barrier bit; it is complete once a dependency of the
+-- barrier-AND r is over, or whichever dependency of the barrier-OR r is over.
 pub data Asked (job : Job) (known : ℕ → ℕ → Type 0) (p r : ℕ) : Type 0 where
   by_ahead : {e : ℕ} → suc e ≡ r → Earlier job e r → known p e → Asked job known p r
   by_queue : suc p ≡ r → ByQueue job p r → Asked job known p r

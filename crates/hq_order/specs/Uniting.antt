@@ -13,8 +13,10 @@ OfChoice rows group choice p = (bit : ℕ) × (bit < 4) × (bit_at choice bit �
 pub record AreUnions (rows : List (Vec ℕ)) (words : ℕ) (unions : List (Vec ℕ)) : Type 0 where
   pub len : length unions ≡ words * 256
   pub width : (k : ℕ) → k < words * 256 → length (row unions k) ≡ words
-  pub has_all : (group choice p : ℕ) → group < words * 16 → choice < 16 → OfChoice rows group choice p → Marks unions p (group * 16 + choice)
-  pub only : (group choice p : ℕ) → group < words * 16 → choice < 16 → Marks unions p (group * 16 + choice) → OfChoice rows group choice p
+  pub has_all : (group choice p : ℕ) → group < words * 16 → choice < 16 → OfChoice rows group choice p
+      → Marks unions p (group * 16 + choice)
+  pub only : (group choice p : ℕ) → group < words * 16 → choice < 16 → Marks unions p (group * 16 + choice)
+      → OfChoice rows group choice p
 
 -- Each row has so many words, and where there are unions they are those of the rows.
 pub record CanUnite (rows : List (Vec ℕ)) (words : ℕ) (unions : List (Vec ℕ)) : Type 0 where
@@ -25,7 +27,8 @@ pub record CanUnite (rows : List (Vec ℕ)) (words : ℕ) (unions : List (Vec �
 abbrev pub Through : List (Vec ℕ) → ℕ → ℕ → Type 0
 Through rows p r = Marks rows p r ⊎ ((m : ℕ) × Marks rows p m × Marks rows m r)
 
--- The rows have all that the earlier ones give by two of them; and where a row has more than that, its packet is noted as renewed.
+-- The rows have all that the earlier ones give by two of them; and where a row has more than that, its packet is
+-- noted as renewed.
 pub record Stepped (earlier rows : List (Vec ℕ)) (renewed : List ℕ) : Type 0 where
   pub known : (p r : ℕ) → Marks earlier p r → Marks rows p r
   pub joined : (p m r : ℕ) → Marks earlier p m → Marks earlier m r → Marks rows p r

@@ -1,11 +1,13 @@
 //! The order of a job's packets, worked out.
 
-ghost use Rattle.std.specs.Prelude.{◌≡◌, ℕ, ◌+◌, ◌-◌, ◌<◌, ◌≤◌, ◌↔◌, [], true, false, IsTrue, IfOk, IfErr, MatchOption, length, ◌*◌};
+ghost use Rattle.std.specs.Prelude.{◌≡◌, ℕ, ◌+◌, ◌-◌, ◌<◌, ◌≤◌, ◌↔◌, [], true, false, IsTrue, IfOk, IfErr};
+ghost use Rattle.std.specs.Prelude.{MatchOption, length, ◌*◌};
 ghost use Rattle.hq_job.specs.Plan.{plan};
 ghost use Rattle.hq_model.specs.Order as order;
 ghost use Rattle.hq_order.specs.Rounds.{Direct, Next, IsFirstWithin, Between, IsMiddle};
 ghost use Rattle.hq_order.specs.Placing.{AllAre, Completing};
-ghost use Rattle.hq_order.specs.Matrix.{row, words_for, Marks, IsSquare, Grown, AreRounds, IsClosed, matrix, last, earlier, lag, Differ, IsMarkedNowhere, IsMarkedFirst};
+ghost use Rattle.hq_order.specs.Matrix.{row, words_for, Marks, IsSquare, Grown, AreRounds, IsClosed, matrix, last};
+ghost use Rattle.hq_order.specs.Matrix.{earlier, lag, Differ, IsMarkedNowhere, IsMarkedFirst};
 ghost use Rattle.hq_order.specs.Uniting.{CanUnite, Stepped};
 ghost use Rattle.hq_order.specs.Bits.{has};
 ghost use Rattle.hq_order.specs.View.{AreOf};
@@ -37,7 +39,9 @@ fn first_rows(
     job: &Job,
     completing: &[Vec<u64>],
 ) -> Result<Vec<Vec<u64>>, AllocError>
-    requires completing { AllAre (λ s set. Completing (plan job.now) s set.items × (length set.items ≡ words_for (length job.now.packets))) completing.now }
+    requires completing { AllAre
+        (λ s set. Completing (plan job.now) s set.items
+        × (length set.items ≡ words_for (length job.now.packets))) completing.now }
     requires signals { length completing.now ≡ length job.now.signals }
     ensures square { IfOk result (λ rows. IsSquare (length job.now.packets) rows.items) }
     ensures exact { IfOk result (λ rows. (p r : ℕ) → Marks rows.items p r ↔ Direct (plan job.now) p r) }
@@ -63,12 +67,15 @@ fn next_rows(
     requires square { IsSquare (length job.now.packets) known.now.rows.now }
     requires unions { CanUnite known.now.rows.now (words_for (length job.now.packets)) known.now.unions.now }
     requires stepped { Stepped known.now.earlier.now known.now.rows.now known.now.renewed.now }
-    requires completing { AllAre (λ s set. Completing (plan job.now) s set.items × (length set.items ≡ words_for (length job.now.packets))) completing.now }
+    requires completing { AllAre
+        (λ s set. Completing (plan job.now) s set.items
+        × (length set.items ≡ words_for (length job.now.packets))) completing.now }
     requires signals { length completing.now ≡ length job.now.signals }
     requires room { length known.now.rows.now ≤ length renewed.old * 64 }
     ensures square { IfOk result (λ new. IsSquare (length job.now.packets) new.items) }
     ensures grown { IfOk result (λ new. (r : ℕ) → Grown (row known.now.rows.now r) (row new.items r)) }
-    ensures exact { IfOk result (λ new. (p r : ℕ) → Marks new.items p r ↔ Next (plan job.now) (Marks known.now.rows.now) p r) }
+    ensures exact { IfOk result
+        (λ new. (p r : ℕ) → Marks new.items p r ↔ Next (plan job.now) (Marks known.now.rows.now) p r) }
     ensures stepped { IfOk result (λ new. Stepped known.now.rows.now new.items renewed.new) }
 {
     job.valid();
@@ -121,8 +128,8 @@ fn earlier_rows(rounds: &[Vec<Vec<u64>>]) -> &[Vec<u64>]
     rows_of(rounds, rounds.len() - 2)
 }
 
-/// The rows of the round after these. `renewed` has the packets whose rows in the last round have more than two of the rows
-/// before give, and `new` is to have those of the next.
+/// The rows of the round after these. `renewed` has the packets whose rows in the last round have more than two of
+/// the rows before give, and `new` is to have those of the next.
 fn following(
     alloc: Global,
     job: &Job,
@@ -133,12 +140,15 @@ fn following(
 ) -> Result<Vec<Vec<u64>>, AllocError>
     requires rounds { AreRounds (plan job.now) rounds.now }
     requires stepped { Stepped (earlier rounds.now) (last rounds.now) renewed.now }
-    requires completing { AllAre (λ s set. Completing (plan job.now) s set.items × (length set.items ≡ words_for (length job.now.packets))) completing.now }
+    requires completing { AllAre
+        (λ s set. Completing (plan job.now) s set.items
+        × (length set.items ≡ words_for (length job.now.packets))) completing.now }
     requires signals { length completing.now ≡ length job.now.signals }
     requires room { length job.now.packets ≤ length new.old * 64 }
     ensures square { IfOk result (λ rows. IsSquare (length job.now.packets) rows.items) }
     ensures grown { IfOk result (λ rows. (r : ℕ) → Grown (row (last rounds.now) r) (row rows.items r)) }
-    ensures exact { IfOk result (λ rows. (p r : ℕ) → Marks rows.items p r ↔ Next (plan job.now) (Marks (last rounds.now)) p r) }
+    ensures exact { IfOk result
+        (λ rows. (p r : ℕ) → Marks rows.items p r ↔ Next (plan job.now) (Marks (last rounds.now)) p r) }
     ensures stepped { IfOk result (λ rows. Stepped (last rounds.now) rows.items new.new) }
 {
     let rows = last_rows(rounds);
@@ -153,8 +163,8 @@ fn following(
     next_rows(alloc, job, completing, &known, new)
 }
 
-/// Adds the next round, and answers true, unless it would be the same as the last. `renewed` has the packets whose rows in the
-/// last round have more than two of the rows before give.
+/// Adds the next round, and answers true, unless it would be the same as the last. `renewed` has the packets whose
+/// rows in the last round have more than two of the rows before give.
 fn add_round(
     alloc: Global,
     job: &Job,
@@ -164,10 +174,13 @@ fn add_round(
 ) -> Result<bool, AllocError>
     requires rounds { AreRounds (plan job.now) rounds.old.items }
     requires stepped { Stepped (earlier rounds.old.items) (last rounds.old.items) renewed.old.items }
-    requires completing { AllAre (λ s set. Completing (plan job.now) s set.items × (length set.items ≡ words_for (length job.now.packets))) completing.now }
+    requires completing { AllAre
+        (λ s set. Completing (plan job.now) s set.items
+        × (length set.items ≡ words_for (length job.now.packets))) completing.now }
     requires signals { length completing.now ≡ length job.now.signals }
     ensures rounds { IfOk result (λ _. AreRounds (plan job.now) rounds.new.items) }
-    ensures stepped { IfOk result (λ more. IsTrue more → Stepped (earlier rounds.new.items) (last rounds.new.items) renewed.new.items) }
+    ensures stepped { IfOk result
+        (λ more. IsTrue more → Stepped (earlier rounds.new.items) (last rounds.new.items) renewed.new.items) }
     ensures falls { IfOk result (λ more. IsTrue more → lag rounds.new.items < lag rounds.old.items) }
     ensures closed { IfOk result (λ more. more ≡ false → IsClosed (plan job.now) rounds.new.items) }
 {
@@ -218,8 +231,8 @@ fn first_round(rounds: &[Vec<Vec<u64>>], p: usize, r: usize) -> Option<usize>
     None
 }
 
-/// The order of a job's packets: which is complete before which becomes active, in every run. Contracts see it as the plan
-/// of the job.
+/// The order of a job's packets: which is complete before which becomes active, in every run. Contracts see it as
+/// the plan of the job.
 #[derive(Drop)]
 pub struct Before<'a> {
     job: &'a Job,
@@ -228,8 +241,8 @@ pub struct Before<'a> {
     columns: Vec<Vec<u64>>,
 }
 
-/// The rounds by which a job's order was worked out, apart from the job. They are those of each job that differs from it in the
-/// scopes of fences alone.
+/// The rounds by which a job's order was worked out, apart from the job. They are those of each job that differs
+/// from it in the scopes of fences alone.
 #[derive(Drop)]
 pub struct Rounds {
     rounds: Vec<Vec<Vec<u64>>>,
@@ -294,8 +307,8 @@ impl<'a> Before<'a> {
         row_of(&self.rounds[self.rounds.len() - 1], r)
     }
 
-    /// The earliest round in which that comes: 0 where a rule gives it alone, else one more than the latest of the pairs that
-    /// it rests on.
+    /// The earliest round in which that comes: 0 where a rule gives it alone, else one more than the latest of the
+    /// pairs that it rests on.
     pub fn round(&self, p: usize, r: usize) -> Option<usize>
         ensures { MatchOption result (order.Before self.now p r → ⊥) (λ k. IsFirstWithin self.now k p r) }
     {

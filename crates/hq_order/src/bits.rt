@@ -1,4 +1,5 @@
-//! Sets of numbers as rows of bits, number `p` as bit `p % 64` of word `p / 64`, and tables of such, one row behind another.
+//! Sets of numbers as rows of bits, number `p` as bit `p % 64` of word `p / 64`, and tables of such, one row behind
+//! another.
 
 ghost use Rattle.std.specs.Prelude.{◌≡◌, ◌+◌, ◌*◌, ◌^◌, ◌/◌, ◌<◌, ◌≤◌, ◌||◌, ◌&&◌, ◌==◌, ℕ, length, true, false, All};
 ghost use Rattle.std.specs.Prelude.{◌≢◌, not, IfOk, IsTrue, ◌↔◌, ◌⊎◌, MatchOption, drop, slice_index, take};
@@ -176,7 +177,8 @@ pub fn without(word: u64, bit: usize) -> u64
 
 /// The lowest bit of a word.
 fn lowest_bit(word: u64) -> Option<usize>
-    ensures { MatchOption result ((bit : ℕ) → bit_at word bit ≡ 0) (λ bit. (bit < 64) × (bit_at word bit ≡ 1) × ((i : ℕ) → i < bit → bit_at word i ≡ 0)) }
+    ensures { MatchOption result ((bit : ℕ) → bit_at word bit ≡ 0)
+        (λ bit. (bit < 64) × (bit_at word bit ≡ 1) × ((i : ℕ) → i < bit → bit_at word i ≡ 0)) }
 {
     if word == 0 {
         return None;
@@ -187,7 +189,8 @@ fn lowest_bit(word: u64) -> Option<usize>
 /// The least number that both sets have.
 pub fn first_common(left: &[u64], right: &[u64]) -> Option<usize>
     requires { length left.now ≤ 16 }
-    ensures { MatchOption result ((n : ℕ) → IsTrue (has left.now n) → IsTrue (has right.now n) → ⊥) (IsFirstCommon left.now right.now) }
+    ensures { MatchOption result ((n : ℕ) → IsTrue (has left.now n) → IsTrue (has right.now n) → ⊥)
+        (IsFirstCommon left.now right.now) }
 {
     for (i, word) in left.iter().enumerate() {
         if let Some(bit) = lowest_bit(*word & word_at(right, i)) {
@@ -219,7 +222,9 @@ pub fn turn_word(table: &mut [u64], word: u64, first: usize, r: usize)
     requires room { (first + 64) * 16 ≤ length table.old }
     requires first { first + 64 ≤ 1024 }
     requires r { r < 1024 }
-    ensures { (x : ℕ) → IsTrue (has table.new x) ↔ (IsTrue (has table.old x) ⊎ ((bit : ℕ) × (bit < 64) × (IsTrue (bit_at word bit == 1) × (x ≡ (first + bit) * 1024 + r)))) }
+    ensures { (x : ℕ) → IsTrue (has table.new x)
+        ↔ (IsTrue (has table.old x)
+        ⊎ ((bit : ℕ) × (bit < 64) × (IsTrue (bit_at word bit == 1) × (x ≡ (first + bit) * 1024 + r)))) }
 {
     let mut rest = word;
     'each: while rest != 0 {

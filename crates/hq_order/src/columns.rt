@@ -12,7 +12,8 @@ fn turn_row(table: &mut [u64], row: &[u64], known: &[u64], r: usize)
     requires len { length table.old ≡ 16384 }
     requires r { r < 1024 }
     requires known { (p : ℕ) → p < 1024 → IsTrue (has known.now p) → IsTrue (has table.old (p * 1024 + r)) }
-    ensures { (x : ℕ) → IsTrue (has table.new x) ↔ (IsTrue (has table.old x) ⊎ ((p : ℕ) × (p < 1024) × IsTrue (has row.now p) × (x ≡ p * 1024 + r))) }
+    ensures { (x : ℕ) → IsTrue (has table.new x)
+        ↔ (IsTrue (has table.old x) ⊎ ((p : ℕ) × (p < 1024) × IsTrue (has row.now p) × (x ≡ p * 1024 + r))) }
 {
     for place in 0..WORDS {
         let word = less(word_at(row, place), word_at(known, place));
@@ -27,7 +28,9 @@ fn turn_rows(table: &mut [u64], rows: &[Vec<u64>], known: &[Vec<u64>])
     requires len { length table.old ≡ 16384 }
     requires few { length rows.now ≤ 1024 }
     requires known { (p r : ℕ) → p < 1024 → Marks known.now p r → IsTrue (has table.old (p * 1024 + r)) }
-    ensures { (x : ℕ) → IsTrue (has table.new x) ↔ (IsTrue (has table.old x) ⊎ ((r : ℕ) × (r < length rows.now) × ((p : ℕ) × (p < 1024) × Marks rows.now p r × (x ≡ p * 1024 + r)))) }
+    ensures { (x : ℕ) → IsTrue (has table.new x)
+        ↔ (IsTrue (has table.old x)
+        ⊎ ((r : ℕ) × (r < length rows.now) × ((p : ℕ) × (p < 1024) × Marks rows.now p r × (x ≡ p * 1024 + r)))) }
 {
     for (r, row) in rows.iter().enumerate() {
         turn_row(table, row, row_of(known, r), r);
@@ -69,7 +72,8 @@ fn next_turned(
 ) -> Result<Vec<u64>, AllocError>
     requires more { length tables.now < length rounds.now }
     requires few { (k : ℕ) → k < length rounds.now → length (matrix rounds.now k) ≤ 1024 }
-    requires grown { (k p r : ℕ) → k + 1 < length rounds.now → Marks (matrix rounds.now k) p r → Marks (matrix rounds.now (k + 1)) p r }
+    requires grown { (k p r : ℕ) → k + 1 < length rounds.now → Marks (matrix rounds.now k) p r
+        → Marks (matrix rounds.now (k + 1)) p r }
     requires tables { (k : ℕ) → k < length tables.now → Turned (matrix rounds.now k) (row tables.now k) }
     ensures { IfOk result (λ table. Turned (matrix rounds.now (length tables.now)) table.items) }
 {
@@ -89,7 +93,8 @@ fn next_turned(
 pub fn all_turned(alloc: Global, rounds: &[Vec<Vec<u64>>]) -> Result<Vec<Vec<u64>>, AllocError>
     requires some { 0 < length rounds.now }
     requires few { (k : ℕ) → k < length rounds.now → length (matrix rounds.now k) ≤ 1024 }
-    requires grown { (k p r : ℕ) → k + 1 < length rounds.now → Marks (matrix rounds.now k) p r → Marks (matrix rounds.now (k + 1)) p r }
+    requires grown { (k p r : ℕ) → k + 1 < length rounds.now → Marks (matrix rounds.now k) p r
+        → Marks (matrix rounds.now (k + 1)) p r }
     ensures { IfOk result (λ tables. AreTurned rounds.now tables.items) }
 {
     let last = rounds.len() - 1;
@@ -115,7 +120,8 @@ pub fn between(rows: &[Vec<u64>], table: &[u64], p: usize, r: usize) -> Option<u
     requires turned { Turned rows.now table.now }
     requires p { p < 1024 }
     requires few { length rows.now ≤ 1024 }
-    ensures { MatchOption result ((m : ℕ) → Marks rows.now p m → Marks rows.now m r → ⊥) (IsMarkedBetween rows.now p r) }
+    ensures { MatchOption result ((m : ℕ) → Marks rows.now p m → Marks rows.now m r → ⊥)
+        (IsMarkedBetween rows.now p r) }
 {
     first_common(column_of(table, p), row_of(rows, r))
 }

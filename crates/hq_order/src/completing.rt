@@ -50,7 +50,8 @@ fn completing_row(
 pub fn completing(alloc: Global, job: &Job, words: usize) -> Result<Vec<Vec<u64>>, AllocError>
     requires room { length job.now.packets ≤ words * 64 }
     requires few { words ≤ 17 }
-    ensures rows { IfOk result (λ rows. AllAre (λ s row. Completing (plan job.now) s row.items × (length row.items ≡ words)) rows.items) }
+    ensures rows { IfOk result
+        (λ rows. AllAre (λ s row. Completing (plan job.now) s row.items × (length row.items ≡ words)) rows.items) }
     ensures count { IfOk result (λ rows. length rows.items ≡ length job.now.signals) }
 {
     job.valid();

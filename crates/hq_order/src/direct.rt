@@ -46,7 +46,9 @@ fn meet_one(shared: &mut [u64], completing: &[Vec<u64>], signal: usize)
 fn meet_each(shared: &mut [u64], completing: &[Vec<u64>], slots: &[Option<u16>])
     requires low { (slot s : ℕ) → slice_get slots.now slot ≡ Some (Some s) → s < length completing.now }
     requires width { (s : ℕ) → s < length completing.now → length (row completing.now s) ≡ length shared.old }
-    ensures { (p : ℕ) → IsTrue (has shared.new p) ↔ (IsTrue (has shared.old p) × ((slot s : ℕ) → slice_get slots.now slot ≡ Some (Some s) → Marks completing.now p s)) }
+    ensures { (p : ℕ) → IsTrue (has shared.new p)
+        ↔ (IsTrue (has shared.old p)
+        × ((slot s : ℕ) → slice_get slots.now slot ≡ Some (Some s) → Marks completing.now p s)) }
 {
     for slot in slots {
         if let Some(signal) = slot {
@@ -65,7 +67,8 @@ fn unite_awaited(
 ) -> Result<(), AllocError>
     requires r_is { IsPacket (plan job.now) r }
     requires room { length job.now.packets ≤ length row.old * 64 }
-    requires completing { AllAre (λ s set. Completing (plan job.now) s set.items × (length set.items ≡ length row.old)) completing.now }
+    requires completing { AllAre
+        (λ s set. Completing (plan job.now) s set.items × (length set.items ≡ length row.old)) completing.now }
     requires signals { length completing.now ≡ length job.now.signals }
     ensures { OnOk result ((p : ℕ) → IsTrue (has row.new p) ↔ (IsTrue (has row.old p) ⊎ Awaits (plan job.now) p r)) }
 {
@@ -93,7 +96,8 @@ pub fn direct_row(
 ) -> Result<Vec<u64>, AllocError>
     requires r_is { IsPacket (plan job.now) r }
     requires room { length job.now.packets ≤ length ahead.now * 64 }
-    requires completing { AllAre (λ s set. Completing (plan job.now) s set.items × (length set.items ≡ length ahead.now)) completing.now }
+    requires completing { AllAre
+        (λ s set. Completing (plan job.now) s set.items × (length set.items ≡ length ahead.now)) completing.now }
     requires signals { length completing.now ≡ length job.now.signals }
     requires ahead { (p : ℕ) → IsTrue (has ahead.now p) ↔ Precedes (plan job.now) p r }
     ensures len { IfOk result (λ row. length row.items ≡ length ahead.now) }

@@ -95,7 +95,9 @@ fn push_freeing(
     requires room { length job.now.packets ≤ length row.old * 64 }
     requires empty { (e : ℕ) → IsTrue (has row.old e) → ⊥ }
     requires no_rows { length rows.old.items ≡ 0 }
-    ensures { OnOk result (AllAre (λ k set. Freeing (plan job.now) k set.items × (length set.items ≡ length row.old)) rows.new.items × (length rows.new.items ≡ length job.now.submissions)) }
+    ensures { OnOk result
+        (AllAre (λ k set. Freeing (plan job.now) k set.items × (length set.items ≡ length row.old)) rows.new.items
+        × (length rows.new.items ≡ length job.now.submissions)) }
 {
     job.valid();
     for number in job.submissions() {
@@ -115,7 +117,8 @@ pub fn freeing(
     requires places { AllAre (λ p place. place ≡ place_in_queue (plan job.now) p) places.now }
     requires count { length places.now ≡ length job.now.packets }
     requires room { length job.now.packets ≤ words * 64 }
-    ensures rows { IfOk result (λ rows. AllAre (λ k row. Freeing (plan job.now) k row.items × (length row.items ≡ words)) rows.items) }
+    ensures rows { IfOk result
+        (λ rows. AllAre (λ k row. Freeing (plan job.now) k row.items × (length row.items ≡ words)) rows.items) }
     ensures count { IfOk result (λ rows. length rows.items ≡ length job.now.submissions) }
 {
     let mut rows = Vec::with_capacity(alloc, job.submissions().len())?;

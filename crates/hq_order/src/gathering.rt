@@ -25,8 +25,8 @@ pub struct Known<'a> {
     pub earlier: &'a [Vec<u64>],
     /// The packets whose rows got more in the last round than two of the earlier rows give.
     pub renewed: &'a [u64],
-    /// For each choice from each group of four packets what is before one of them by the rows; none at all where few packets
-    /// are to be gone through.
+    /// For each choice from each group of four packets what is before one of them by the rows; none at all where
+    /// few packets are to be gone through.
     pub unions: &'a [Vec<u64>],
 }
 
@@ -68,7 +68,8 @@ fn union_of(
     requires entry { entry < words * 256 }
     requires exact { (k p : ℕ) → k < entry → Marks unions.now p k ↔ OfChoice rows.now (k / 16) (k % 16) p }
     ensures len { IfOk result (λ union. length union.items ≡ words) }
-    ensures exact { IfOk result (λ union. (p : ℕ) → IsTrue (has union.items p) ↔ OfChoice rows.now (entry / 16) (entry % 16) p) }
+    ensures exact { IfOk result
+        (λ union. (p : ℕ) → IsTrue (has union.items p) ↔ OfChoice rows.now (entry / 16) (entry % 16) p) }
 {
     let choice = entry % CHOICES;
     if choice == 0 {
@@ -140,7 +141,8 @@ fn unite_choice(new: &mut [u64], known: &Known, group: usize, choice: usize)
     requires few { length new.old ≤ 16 }
     requires choice { choice < 16 }
     ensures grown { Grown new.old new.new }
-    ensures exact { (p : ℕ) → IsTrue (has new.new p) ↔ (IsTrue (has new.old p) ⊎ OfChoice known.now.rows.now group choice p) }
+    ensures exact { (p : ℕ) → IsTrue (has new.new p)
+        ↔ (IsTrue (has new.old p) ⊎ OfChoice known.now.rows.now group choice p) }
 {
     if choice != 0 {
         unite(new, row_of(known.unions, group * CHOICES + choice));
@@ -152,7 +154,9 @@ fn unite_each(new: &mut [u64], rows: &[Vec<u64>], place: usize, word: u64)
     requires width { (k : ℕ) → k < length rows.now → length (row rows.now k) ≡ length new.old }
     requires place { place < 16 }
     ensures grown { Grown new.old new.new }
-    ensures exact { (p : ℕ) → IsTrue (has new.new p) ↔ (IsTrue (has new.old p) ⊎ ((bit : ℕ) × (bit < 64) × (bit_at word bit ≡ 1) × Marks rows.now p (place * 64 + bit))) }
+    ensures exact { (p : ℕ) → IsTrue (has new.new p)
+        ↔ (IsTrue (has new.old p)
+        ⊎ ((bit : ℕ) × (bit < 64) × (bit_at word bit ≡ 1) × Marks rows.now p (place * 64 + bit))) }
 {
     let mut rest = word;
     'each: while rest != 0 {
@@ -168,7 +172,9 @@ fn unite_groups(new: &mut [u64], known: &Known, place: usize, word: u64)
     requires place { place < length new.old }
     requires few { length new.old ≤ 16 }
     ensures grown { Grown new.old new.new }
-    ensures exact { (p : ℕ) → IsTrue (has new.new p) ↔ (IsTrue (has new.old p) ⊎ ((bit : ℕ) × (bit < 64) × (bit_at word bit ≡ 1) × Marks known.now.rows.now p (place * 64 + bit))) }
+    ensures exact { (p : ℕ) → IsTrue (has new.new p)
+        ↔ (IsTrue (has new.old p)
+        ⊎ ((bit : ℕ) × (bit < 64) × (bit_at word bit ≡ 1) × Marks known.now.rows.now p (place * 64 + bit))) }
 {
     for group in 0..16 {
         unite_choice(
@@ -186,7 +192,9 @@ fn unite_word(new: &mut [u64], known: &Known, place: usize, word: u64)
     requires place { place < length new.old }
     requires few { length new.old ≤ 16 }
     ensures grown { Grown new.old new.new }
-    ensures exact { (p : ℕ) → IsTrue (has new.new p) ↔ (IsTrue (has new.old p) ⊎ ((bit : ℕ) × (bit < 64) × (bit_at word bit ≡ 1) × Marks known.now.rows.now p (place * 64 + bit))) }
+    ensures exact { (p : ℕ) → IsTrue (has new.new p)
+        ↔ (IsTrue (has new.old p)
+        ⊎ ((bit : ℕ) × (bit < 64) × (bit_at word bit ≡ 1) × Marks known.now.rows.now p (place * 64 + bit))) }
 {
     if known.unions.is_empty() {
         unite_each(new, known.rows, place, word);
@@ -197,7 +205,8 @@ fn unite_word(new: &mut [u64], known: &Known, place: usize, word: u64)
 
 /// The packets of a word of the row that are fresh.
 fn fresh_word(row: &[u64], earlier: &[u64], renewed: &[u64], place: usize) -> u64
-    ensures { (bit : ℕ) → bit < 64 → (bit_at result bit == 1) ≡ is_fresh row.now earlier.now renewed.now (place * 64 + bit) }
+    ensures { (bit : ℕ) → bit < 64
+        → (bit_at result bit == 1) ≡ is_fresh row.now earlier.now renewed.now (place * 64 + bit) }
 {
     let old = less(word_at(earlier, place), word_at(renewed, place));
     less(word_at(row, place), old)
@@ -209,7 +218,9 @@ pub fn unite_fresh(new: &mut [u64], known: &Known, set: &[u64], earlier: &[u64],
     requires few { length new.old ≤ 16 }
     requires same { length set.now ≡ length new.old }
     ensures grown { Grown new.old new.new }
-    ensures exact { (p : ℕ) → IsTrue (has new.new p) ↔ (IsTrue (has new.old p) ⊎ ((m : ℕ) × Marks known.now.rows.now p m × IsTrue (is_fresh set.now earlier.now renewed.now m))) }
+    ensures exact { (p : ℕ) → IsTrue (has new.new p)
+        ↔ (IsTrue (has new.old p)
+        ⊎ ((m : ℕ) × Marks known.now.rows.now p m × IsTrue (is_fresh set.now earlier.now renewed.now m))) }
 {
     for place in 0..set.len() {
         let word = fresh_word(set, earlier, renewed, place);

@@ -1,7 +1,7 @@
 //! What must be complete before what, in every run of a job, and lists that keep that order.
 //!
-//! `Before` is the order relation, worked out round by round as rows of bits. `schedule` gives an order list, or the packets that
-//! can never complete. `rules` says by which rule, each for itself, one packet is before another.
+//! `Before` is the order relation, worked out round by round as rows of bits. `schedule` gives an order list, or
+//! the packets that can never complete. `rules` says by which rule, each for itself, one packet is before another.
 #![tactic(auto)]
 
 mod before;

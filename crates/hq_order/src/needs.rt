@@ -42,9 +42,11 @@ pub fn turn(job: &Job, number: usize) -> usize
 /// Takes in the packets that complete on a dependency of a packet.
 pub fn unite_dependencies(job: &Job, completing: &[Vec<u64>], number: usize, row: &mut [u64])
     requires number { number < length job.now.packets }
-    requires completing { AllAre (λ s set. Completing (plan job.now) s set.items × (length set.items ≡ length row.old)) completing.now }
+    requires completing { AllAre
+        (λ s set. Completing (plan job.now) s set.items × (length set.items ≡ length row.old)) completing.now }
     requires count { length completing.now ≡ length job.now.signals }
-    ensures taken { (e : ℕ) → IsTrue (has row.new e) ↔ (IsTrue (has row.old e) ⊎ OfDependencies (plan job.now) number e) }
+    ensures taken { (e : ℕ) → IsTrue (has row.new e)
+        ↔ (IsTrue (has row.old e) ⊎ OfDependencies (plan job.now) number e) }
     ensures len { length row.new ≡ length row.old }
 {
     job.valid();
@@ -58,7 +60,8 @@ pub fn unite_dependencies(job: &Job, completing: &[Vec<u64>], number: usize, row
 /// Takes in the packets that free the slot of a packet, or that of one submitted before it. Only rings have such.
 fn unite_freeing(job: &Job, freeing: &[Vec<u64>], number: usize, row: &mut [u64])
     requires number { number < length job.now.packets }
-    requires freeing { AllAre (λ k set. Freeing (plan job.now) k set.items × (length set.items ≡ length row.old)) freeing.now }
+    requires freeing { AllAre
+        (λ k set. Freeing (plan job.now) k set.items × (length set.items ≡ length row.old)) freeing.now }
     requires turns { length freeing.now ≡ length job.now.submissions }
     ensures taken { (e : ℕ) → IsTrue (has row.new e) ↔ (IsTrue (has row.old e) ⊎ FreesFor (plan job.now) e number) }
     ensures len { length row.new ≡ length row.old }
@@ -79,9 +82,11 @@ fn insert_needs(
 )
     requires number { number < length job.now.packets }
     requires room { length job.now.packets ≤ length row.old * 64 }
-    requires completing { AllAre (λ s set. Completing (plan job.now) s set.items × (length set.items ≡ length row.old)) completing.now }
+    requires completing { AllAre
+        (λ s set. Completing (plan job.now) s set.items × (length set.items ≡ length row.old)) completing.now }
     requires signals { length completing.now ≡ length job.now.signals }
-    requires freeing { AllAre (λ k set. Freeing (plan job.now) k set.items × (length set.items ≡ length row.old)) freeing.now }
+    requires freeing { AllAre
+        (λ k set. Freeing (plan job.now) k set.items × (length set.items ≡ length row.old)) freeing.now }
     requires turns { length freeing.now ≡ length job.now.submissions }
     ensures taken { (e : ℕ) → IsTrue (has row.new e) ↔ (IsTrue (has row.old e) ⊎ Needs (plan job.now) number e) }
     ensures len { length row.new ≡ length row.old }
@@ -104,7 +109,8 @@ fn needs_row(
 ) -> Result<Vec<u64>, AllocError>
     requires number { number < length job.now.packets }
     requires room { length job.now.packets ≤ words * 64 }
-    requires completing { AllAre (λ s set. Completing (plan job.now) s set.items × (length set.items ≡ words)) completing.now }
+    requires completing { AllAre
+        (λ s set. Completing (plan job.now) s set.items × (length set.items ≡ words)) completing.now }
     requires signals { length completing.now ≡ length job.now.signals }
     requires freeing { AllAre (λ k set. Freeing (plan job.now) k set.items × (length set.items ≡ words)) freeing.now }
     requires turns { length freeing.now ≡ length job.now.submissions }
@@ -125,11 +131,13 @@ pub fn needs(
     words: usize,
 ) -> Result<Vec<Vec<u64>>, AllocError>
     requires room { length job.now.packets ≤ words * 64 }
-    requires completing { AllAre (λ s set. Completing (plan job.now) s set.items × (length set.items ≡ words)) completing.now }
+    requires completing { AllAre
+        (λ s set. Completing (plan job.now) s set.items × (length set.items ≡ words)) completing.now }
     requires signals { length completing.now ≡ length job.now.signals }
     requires freeing { AllAre (λ k set. Freeing (plan job.now) k set.items × (length set.items ≡ words)) freeing.now }
     requires turns { length freeing.now ≡ length job.now.submissions }
-    ensures rows { IfOk result (λ rows. AllAre (λ p row. Needed (plan job.now) p row.items × (length row.items ≡ words)) rows.items) }
+    ensures rows { IfOk result
+        (λ rows. AllAre (λ p row. Needed (plan job.now) p row.items × (length row.items ≡ words)) rows.items) }
     ensures count { IfOk result (λ rows. length rows.items ≡ length job.now.packets) }
 {
     let count = job.packets().len();

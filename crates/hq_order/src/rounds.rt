@@ -1,6 +1,7 @@
 //! One round: what follows by one rule from what is known.
 
-ghost use Rattle.std.specs.Prelude.{OnOk, Some, slice_get, ◌≡◌, ℕ, ◌/◌, ◌<◌, ◌↔◌, ◌⊎◌, ◌*◌, ◌≤◌, ◌||◌, IsTrue, IfOk, false, length};
+ghost use Rattle.std.specs.Prelude.{OnOk, Some, slice_get, ◌≡◌, ℕ, ◌/◌, ◌<◌, ◌↔◌, ◌⊎◌, ◌*◌, ◌≤◌, ◌||◌, IsTrue};
+ghost use Rattle.std.specs.Prelude.{IfOk, false, length};
 ghost use Rattle.hq_job.specs.Plan.{plan};
 ghost use Rattle.hq_model.specs.Job.{IsPacket};
 ghost use Rattle.hq_order.specs.Bits.{has};
@@ -21,7 +22,9 @@ pub fn reached(alloc: Global, set: &[u64], known: &Known) -> Result<Vec<u64>, Al
     requires unions { CanUnite known.now.rows.now (length set.now) known.now.unions.now }
     requires few { length set.now ≤ 16 }
     ensures len { IfOk result (λ reached. length reached.items ≡ length set.now) }
-    ensures exact { IfOk result (λ reached. (p : ℕ) → IsTrue (has reached.items p) ↔ (IsTrue (has set.now p) ⊎ ((m : ℕ) × Marks known.now.rows.now p m × IsTrue (has set.now m)))) }
+    ensures exact { IfOk result
+        (λ reached. (p : ℕ) → IsTrue (has reached.items p)
+        ↔ (IsTrue (has set.now p) ⊎ ((m : ℕ) × Marks known.now.rows.now p m × IsTrue (has set.now m)))) }
 {
     let mut reached = set.to_vec(alloc)?;
     unite_fresh(&mut reached, known, set, &[], &[]);
@@ -61,10 +64,13 @@ fn meet_branch(
 ) -> Result<(), AllocError>
     requires square { Square (length job.now.packets) (length shared.old) known.now.rows.now }
     requires unions { CanUnite known.now.rows.now (length shared.old) known.now.unions.now }
-    requires completing { AllAre (λ s set. Completing (plan job.now) s set.items × (length set.items ≡ length shared.old)) completing.now }
+    requires completing { AllAre
+        (λ s set. Completing (plan job.now) s set.items × (length set.items ≡ length shared.old)) completing.now }
     requires few { length shared.old ≤ 16 }
     requires low { signal < length completing.now }
-    ensures { OnOk result ((p : ℕ) → IsTrue (has shared.new p) ↔ (IsTrue (has shared.old p) × Reaches (plan job.now) (Marks known.now.rows.now) p signal)) }
+    ensures { OnOk result
+        ((p : ℕ) → IsTrue (has shared.new p)
+        ↔ (IsTrue (has shared.old p) × Reaches (plan job.now) (Marks known.now.rows.now) p signal)) }
 {
     let branch = reached(alloc, &completing[signal as usize], known)?;
     bits::meet(shared, &branch);
@@ -82,10 +88,15 @@ fn meet_branches(
 ) -> Result<(), AllocError>
     requires square { Square (length job.now.packets) (length shared.old) known.now.rows.now }
     requires unions { CanUnite known.now.rows.now (length shared.old) known.now.unions.now }
-    requires completing { AllAre (λ s set. Completing (plan job.now) s set.items × (length set.items ≡ length shared.old)) completing.now }
+    requires completing { AllAre
+        (λ s set. Completing (plan job.now) s set.items × (length set.items ≡ length shared.old)) completing.now }
     requires few { length shared.old ≤ 16 }
     requires low { (slot s : ℕ) → slice_get slots.now slot ≡ Some (Some s) → s < length completing.now }
-    ensures { OnOk result ((p : ℕ) → IsTrue (has shared.new p) ↔ (IsTrue (has shared.old p) × ((slot s : ℕ) → slice_get slots.now slot ≡ Some (Some s) → Reaches (plan job.now) (Marks known.now.rows.now) p s))) }
+    ensures { OnOk result
+        ((p : ℕ) → IsTrue (has shared.new p)
+        ↔ (IsTrue (has shared.old p)
+        × ((slot s : ℕ) → slice_get slots.now slot ≡ Some (Some s)
+        → Reaches (plan job.now) (Marks known.now.rows.now) p s))) }
 {
     for slot in slots {
         if let Some(signal) = slot {
@@ -95,8 +106,8 @@ fn meet_branches(
     Ok(())
 }
 
-/// Takes in the packets that are complete whichever dependency of r is over, where r is a barrier-OR. Whether any of them is
-/// new.
+/// Takes in the packets that are complete whichever dependency of r is over, where r is a barrier-OR. Whether any
+/// of them is new.
 pub fn unite_shared(
     alloc: Global,
     new: &mut [u64],
@@ -107,12 +118,15 @@ pub fn unite_shared(
 ) -> Result<bool, AllocError>
     requires square { Square (length job.now.packets) (length new.old) known.now.rows.now }
     requires unions { CanUnite known.now.rows.now (length new.old) known.now.unions.now }
-    requires completing { AllAre (λ s set. Completing (plan job.now) s set.items × (length set.items ≡ length new.old)) completing.now }
+    requires completing { AllAre
+        (λ s set. Completing (plan job.now) s set.items × (length set.items ≡ length new.old)) completing.now }
     requires signals { length completing.now ≡ length job.now.signals }
     requires few { length new.old ≤ 16 }
     requires r_is { IsPacket (plan job.now) r }
     ensures grown { OnOk result (Grown new.old new.new) }
-    ensures exact { OnOk result ((p : ℕ) → IsTrue (has new.new p) ↔ (IsTrue (has new.old p) ⊎ ByOr (plan job.now) (Marks known.now.rows.now) p r)) }
+    ensures exact { OnOk result
+        ((p : ℕ) → IsTrue (has new.new p)
+        ↔ (IsTrue (has new.old p) ⊎ ByOr (plan job.now) (Marks known.now.rows.now) p r)) }
     ensures more { IfOk result (λ more. more ≡ false → (p : ℕ) → IsTrue (has new.new p) → IsTrue (has new.old p)) }
 {
     job.valid();
@@ -148,7 +162,8 @@ fn note(renewed: &mut [u64], r: usize, more: bool)
     }
 }
 
-/// The packets before r by what is known, or by one rule from that. Notes r as renewed where an either gives more than the rows.
+/// The packets before r by what is known, or by one rule from that. Notes r as renewed where an either gives more
+/// than the rows.
 pub fn next_row(
     alloc: Global,
     job: &Job,
@@ -160,15 +175,19 @@ pub fn next_row(
     requires square { Square (length job.now.packets) (length (row known.now.rows.now r)) known.now.rows.now }
     requires unions { CanUnite known.now.rows.now (length (row known.now.rows.now r)) known.now.unions.now }
     requires stepped { Stepped known.now.earlier.now known.now.rows.now known.now.renewed.now }
-    requires completing { AllAre (λ s set. Completing (plan job.now) s set.items × (length set.items ≡ length (row known.now.rows.now r))) completing.now }
+    requires completing { AllAre
+        (λ s set. Completing (plan job.now) s set.items
+        × (length set.items ≡ length (row known.now.rows.now r))) completing.now }
     requires signals { length completing.now ≡ length job.now.signals }
     requires room { length known.now.rows.now ≤ length renewed.old * 64 }
     requires few { length (row known.now.rows.now r) ≤ 16 }
     requires r_is { IsPacket (plan job.now) r }
     ensures grown { IfOk result (λ new. Grown (row known.now.rows.now r) new.items) }
-    ensures exact { IfOk result (λ new. (p : ℕ) → IsTrue (has new.items p) ↔ Next (plan job.now) (Marks known.now.rows.now) p r) }
+    ensures exact { IfOk result
+        (λ new. (p : ℕ) → IsTrue (has new.items p) ↔ Next (plan job.now) (Marks known.now.rows.now) p r) }
     ensures kept { OnOk result ((m : ℕ) → IsTrue (has renewed.old m) → IsTrue (has renewed.new m)) }
-    ensures rests { IfOk result (λ new. (p : ℕ) → IsTrue (has new.items p) → IsTrue (has renewed.new r) ⊎ Through known.now.rows.now p r) }
+    ensures rests { IfOk result
+        (λ new. (p : ℕ) → IsTrue (has new.items p) → IsTrue (has renewed.new r) ⊎ Through known.now.rows.now p r) }
 {
     let mut new = through_row(alloc, known, r)?;
     let more = unite_shared(alloc, &mut new, job, completing, known, r)?;

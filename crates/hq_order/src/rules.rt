@@ -19,7 +19,8 @@ fn is_bit(job: &Job, p: usize, r: usize, j: usize) -> bool
     job.packet(p).queue == queue && placed.queue == queue && placed.packet.head().barrier
 }
 
-/// The least packet by whose barrier bit `p` is before `r`, where there is one. Where the two stand in one queue, so do all between them.
+/// The least packet by whose barrier bit `p` is before `r`, where there is one. Where the two stand in one queue,
+/// so do all between them.
 pub fn bit_between(job: &Job, p: usize, r: usize) -> Option<usize>
     requires p_is { p < length (plan job.now).packets }
     requires r_is { r < length (plan job.now).packets }
@@ -50,7 +51,8 @@ pub fn is_held(job: &Job, p: usize, r: usize) -> bool
 /// The first slot that names the signal.
 fn slot_naming(slots: &[Option<u16>], signal: u16) -> Option<usize>
     ensures few { IfSome result (λ slot. slot < length slots.now) }
-    ensures first { MatchOption result ((slot : ℕ) → slice_get slots.now slot ≡ Some (Some signal) → ⊥) (λ slot. slice_get slots.now slot ≡ Some (Some signal)) }
+    ensures first { MatchOption result ((slot : ℕ) → slice_get slots.now slot ≡ Some (Some signal) → ⊥)
+        (λ slot. slice_get slots.now slot ≡ Some (Some signal)) }
 {
     for (slot, named) in slots.iter().enumerate() {
         if *named == Some(signal) {
@@ -65,7 +67,8 @@ pub fn slot_of(job: &Job, p: usize, r: usize) -> Option<usize>
     requires p_is { p < length (plan job.now).packets }
     requires r_is { r < length (plan job.now).packets }
     ensures few { IfSome result (λ slot. slot < 5) }
-    ensures first { MatchOption result ((slot s : ℕ) → ByAnd (plan job.now) p r slot s → ⊥) (λ slot. (s : ℕ) × ByAnd (plan job.now) p r slot s) }
+    ensures first { MatchOption result ((slot s : ℕ) → ByAnd (plan job.now) p r slot s → ⊥)
+        (λ slot. (s : ℕ) × ByAnd (plan job.now) p r slot s) }
 {
     let waiting = job.packet(r);
     match (job.packet(p).done, &waiting.packet) {

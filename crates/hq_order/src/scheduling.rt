@@ -1,6 +1,7 @@
 //! Lists of packets one by one.
 
-ghost use Rattle.std.specs.Prelude.{◌≡◌, ◌↔◌, IsTrue, not, ◌+◌, ◌*◌, ◌<◌, ◌≤◌, ℕ, length, filter, IfOk, IfErr, MatchOption};
+ghost use Rattle.std.specs.Prelude.{◌≡◌, ◌↔◌, IsTrue, not, ◌+◌, ◌*◌, ◌<◌, ◌≤◌, ℕ, length, filter, IfOk, IfErr};
+ghost use Rattle.std.specs.Prelude.{MatchOption};
 ghost use Rattle.hq_job.specs.Plan.{plan};
 ghost use Rattle.hq_model.specs.Job.{Earlier};
 ghost use Rattle.hq_model.specs.Machine.{listed};
@@ -22,7 +23,8 @@ use std::alloc::{AllocError, Global};
 /// Whether all that complete on one of a packet's dependencies have come.
 fn one_is_over(job: &Job, completing: &[Vec<u64>], come: &[u64], number: usize) -> bool
     requires number { number < length job.now.packets }
-    requires completing { AllAre (λ s set. Completing (plan job.now) s set.items × (length set.items ≡ length come.now)) completing.now }
+    requires completing { AllAre
+        (λ s set. Completing (plan job.now) s set.items × (length set.items ≡ length come.now)) completing.now }
     requires count { length completing.now ≡ length job.now.signals }
     ensures { IsTrue result ↔ OneIsOver (plan job.now) come.now number }
 {
@@ -46,9 +48,11 @@ fn may_follow(
     number: usize,
 ) -> bool
     requires number { number < length job.now.packets }
-    requires completing { AllAre (λ s set. Completing (plan job.now) s set.items × (length set.items ≡ length come.now)) completing.now }
+    requires completing { AllAre
+        (λ s set. Completing (plan job.now) s set.items × (length set.items ≡ length come.now)) completing.now }
     requires signals { length completing.now ≡ length job.now.signals }
-    requires needs { AllAre (λ p set. Needed (plan job.now) p set.items × (length set.items ≡ length come.now)) needs.now }
+    requires needs { AllAre
+        (λ p set. Needed (plan job.now) p set.items × (length set.items ≡ length come.now)) needs.now }
     requires count { length needs.now ≡ length job.now.packets }
     ensures { IsTrue result ↔ MayFollow (plan job.now) come.now number }
 {
@@ -93,12 +97,15 @@ fn next(
     come: &[u64],
     first: usize,
 ) -> Option<usize>
-    requires completing { AllAre (λ s set. Completing (plan job.now) s set.items × (length set.items ≡ length come.now)) completing.now }
+    requires completing { AllAre
+        (λ s set. Completing (plan job.now) s set.items × (length set.items ≡ length come.now)) completing.now }
     requires signals { length completing.now ≡ length job.now.signals }
-    requires needs { AllAre (λ p set. Needed (plan job.now) p set.items × (length set.items ≡ length come.now)) needs.now }
+    requires needs { AllAre
+        (λ p set. Needed (plan job.now) p set.items × (length set.items ≡ length come.now)) needs.now }
     requires count { length needs.now ≡ length job.now.packets }
     requires first { (r : ℕ) → r < first → IsTrue (has come.now r) }
-    ensures { MatchOption result ((p : ℕ) → MayFollow (plan job.now) come.now p → ⊥) (λ p. MayFollow (plan job.now) come.now p × ((r : ℕ) → r < p → MayFollow (plan job.now) come.now r → ⊥)) }
+    ensures { MatchOption result ((p : ℕ) → MayFollow (plan job.now) come.now p → ⊥)
+        (λ p. MayFollow (plan job.now) come.now p × ((r : ℕ) → r < p → MayFollow (plan job.now) come.now r → ⊥)) }
 {
     let mut number = first;
     while number < job.packets().len() {

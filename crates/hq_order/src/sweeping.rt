@@ -1,4 +1,5 @@
-//! All that is before each packet, worked out row by row in the order of a list: quick, and without the rounds that say how it follows.
+//! All that is before each packet, worked out row by row in the order of a list: quick, and without the rounds that
+//! say how it follows.
 
 ghost use Rattle.std.specs.Prelude.{◌≡◌, ◌<◌, [], ℕ, suc, IfOk, IfSome, IsTrue, OnOk, length};
 ghost use Rattle.hq_job.specs.Plan.{plan};
@@ -43,7 +44,8 @@ fn unite_ahead(row: &mut [u64], job: &Job, rows: &[Vec<u64>], r: usize)
     requires row { length row.old ≡ words_for (length job.now.packets) }
     ensures together { StandsTogether (plan job.now) r }
     ensures ahead { (p e : ℕ) → suc e ≡ r → Earlier (plan job.now) e r → Marks rows.now p e → IsTrue (has row.new p) }
-    ensures queue { (p : ℕ) → suc p ≡ r → Earlier (plan job.now) p r → IsBarrier (plan job.now) p → IsTrue (has row.new p) }
+    ensures queue { (p : ℕ) → suc p ≡ r → Earlier (plan job.now) p r → IsBarrier (plan job.now) p
+        → IsTrue (has row.new p) }
     ensures bit { (p : ℕ) → Earlier (plan job.now) p r → IsTrue (packet (plan job.now) r).bit → IsTrue (has row.new p) }
 {
     job.valid();
@@ -71,7 +73,9 @@ fn unite_branch(
 ) -> Result<(), AllocError>
     requires square { IsSquare (length job.now.packets) rows.now }
     requires row { length row.old ≡ words_for (length job.now.packets) }
-    requires completing { AllAre (λ s set. Completing (plan job.now) s set.items × (length set.items ≡ words_for (length job.now.packets))) completing.now }
+    requires completing { AllAre
+        (λ s set. Completing (plan job.now) s set.items
+        × (length set.items ≡ words_for (length job.now.packets))) completing.now }
     requires low { signal < length completing.now }
     ensures kept { OnOk result ((p : ℕ) → IsTrue (has row.old p) → IsTrue (has row.new p)) }
     ensures taken { OnOk result ((p : ℕ) → Reaches (plan job.now) (Marks rows.now) p signal → IsTrue (has row.new p)) }
@@ -93,10 +97,14 @@ fn unite_branches(
     requires r_is { IsPacket (plan job.now) r }
     requires square { IsSquare (length job.now.packets) rows.now }
     requires row { length row.old ≡ words_for (length job.now.packets) }
-    requires completing { AllAre (λ s set. Completing (plan job.now) s set.items × (length set.items ≡ words_for (length job.now.packets))) completing.now }
+    requires completing { AllAre
+        (λ s set. Completing (plan job.now) s set.items
+        × (length set.items ≡ words_for (length job.now.packets))) completing.now }
     requires signals { length completing.now ≡ length job.now.signals }
     ensures kept { OnOk result ((p : ℕ) → IsTrue (has row.old p) → IsTrue (has row.new p)) }
-    ensures taken { OnOk result ((p slot s : ℕ) → Dependency (plan job.now) r slot s → Reaches (plan job.now) (Marks rows.now) p s → IsTrue (has row.new p)) }
+    ensures taken { OnOk result
+        ((p slot s : ℕ) → Dependency (plan job.now) r slot s → Reaches (plan job.now) (Marks rows.now) p s
+        → IsTrue (has row.new p)) }
 {
     job.valid();
     for slot in job.slots(r) {
@@ -119,10 +127,14 @@ fn unite_waits(
     requires r_is { IsPacket (plan job.now) r }
     requires square { IsSquare (length job.now.packets) rows.now }
     requires row { length row.old ≡ words_for (length job.now.packets) }
-    requires completing { AllAre (λ s set. Completing (plan job.now) s set.items × (length set.items ≡ words_for (length job.now.packets))) completing.now }
+    requires completing { AllAre
+        (λ s set. Completing (plan job.now) s set.items
+        × (length set.items ≡ words_for (length job.now.packets))) completing.now }
     requires signals { length completing.now ≡ length job.now.signals }
     ensures kept { OnOk result ((p : ℕ) → IsTrue (has row.old p) → IsTrue (has row.new p)) }
-    ensures ands { OnOk result ((p slot s : ℕ) → (packet (plan job.now) r).kind ≡ BarrierAnd → Dependency (plan job.now) r slot s → Reaches (plan job.now) (Marks rows.now) p s → IsTrue (has row.new p)) }
+    ensures ands { OnOk result
+        ((p slot s : ℕ) → (packet (plan job.now) r).kind ≡ BarrierAnd → Dependency (plan job.now) r slot s
+        → Reaches (plan job.now) (Marks rows.now) p s → IsTrue (has row.new p)) }
     ensures ors { OnOk result ((p : ℕ) → ByOr (plan job.now) (Marks rows.now) p r → IsTrue (has row.new p)) }
 {
     match job.packet(r).packet {
@@ -145,11 +157,14 @@ fn asked_row(
 ) -> Result<Vec<u64>, AllocError>
     requires r_is { IsPacket (plan job.now) r }
     requires square { IsSquare (length job.now.packets) rows.now }
-    requires completing { AllAre (λ s set. Completing (plan job.now) s set.items × (length set.items ≡ words_for (length job.now.packets))) completing.now }
+    requires completing { AllAre
+        (λ s set. Completing (plan job.now) s set.items
+        × (length set.items ≡ words_for (length job.now.packets))) completing.now }
     requires signals { length completing.now ≡ length job.now.signals }
     ensures len { IfOk result (λ row. length row.items ≡ words_for (length job.now.packets)) }
     ensures together { OnOk result (StandsTogether (plan job.now) r) }
-    ensures asked { IfOk result (λ row. (p : ℕ) → Asked (plan job.now) (Marks rows.now) p r → IsTrue (has row.items p)) }
+    ensures asked { IfOk result
+        (λ row. (p : ℕ) → Asked (plan job.now) (Marks rows.now) p r → IsTrue (has row.items p)) }
 {
     let mut row = empty(alloc, words_of(job))?;
     unite_ahead(&mut row, job, rows, r);
@@ -166,7 +181,9 @@ fn renew(
     rows: &mut Vec<Vec<u64>>,
 ) -> Result<(), AllocError>
     requires square { IsSquare (length job.now.packets) rows.old.items }
-    requires completing { AllAre (λ s set. Completing (plan job.now) s set.items × (length set.items ≡ words_for (length job.now.packets))) completing.now }
+    requires completing { AllAre
+        (λ s set. Completing (plan job.now) s set.items
+        × (length set.items ≡ words_for (length job.now.packets))) completing.now }
     requires signals { length completing.now ≡ length job.now.signals }
     ensures { OnOk result (IsSquare (length job.now.packets) rows.new.items) }
 {
@@ -188,7 +205,9 @@ fn have_asked(
     rows: &[Vec<u64>],
 ) -> Result<bool, AllocError>
     requires square { IsSquare (length job.now.packets) rows.now }
-    requires completing { AllAre (λ s set. Completing (plan job.now) s set.items × (length set.items ≡ words_for (length job.now.packets))) completing.now }
+    requires completing { AllAre
+        (λ s set. Completing (plan job.now) s set.items
+        × (length set.items ≡ words_for (length job.now.packets))) completing.now }
     requires signals { length completing.now ≡ length job.now.signals }
     ensures { IfOk result (λ have. IsTrue have → HaveAsked (plan job.now) rows.now) }
 {
@@ -214,8 +233,9 @@ fn empty_rows(alloc: Global, job: &Job) -> Result<Vec<Vec<u64>>, AllocError>
     Ok(rows)
 }
 
-/// Rows that have at least the order of a job: each has all that is before its packet. They are worked out by sweeps in the order of a list,
-/// quickly where that is an order list of the job; without an answer where too many sweeps don't do.
+/// Rows that have at least the order of a job: each has all that is before its packet. They are worked out by
+/// sweeps in the order of a list, quickly where that is an order list of the job; without an answer where too many
+/// sweeps don't do.
 pub fn sweep(alloc: Global, job: &Job, order: &[u16]) -> Result<Option<Vec<Vec<u64>>>, AllocError>
     ensures { IfOk result (λ rows. IfSome rows (λ all. HaveOrder (plan job.now) all.items)) }
 {

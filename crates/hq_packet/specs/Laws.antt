@@ -29,4 +29,5 @@ OneHead = (g h : Head) → head_byte g ≡ head_byte h → g ≡ h
 
 -- Where bytes spell a packet, with the byte of another head they spell the packet with that head.
 abbrev pub AnotherHead : Type 0
-AnotherHead = (bytes : List ℕ) (p : Packet) (head : Head) → PacketText bytes p → PacketText (with_head_byte bytes head) (with_head p head)
+AnotherHead = (bytes : List ℕ) (p : Packet) (head : Head) → PacketText bytes p
+    → PacketText (with_head_byte bytes head) (with_head p head)

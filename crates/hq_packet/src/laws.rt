@@ -1,7 +1,8 @@
 //! What holds between packets and their spellings.
 
 ghost use Rattle.std.specs.Prelude.{◌≡◌, Ok, Some, IfOk, IfErr};
-ghost use Rattle.hq_packet.specs.Laws.{OneSpelling, OnePacket, FaultlessWhereSpelled, HeadStandsSecond, OneHead, AnotherHead};
+ghost use Rattle.hq_packet.specs.Laws.{OneSpelling, OnePacket, FaultlessWhereSpelled, HeadStandsSecond, OneHead};
+ghost use Rattle.hq_packet.specs.Laws.{AnotherHead};
 ghost use Rattle.hq_packet.specs.Faults.{first_fault};
 
 use crate::decoding::decode;

@@ -47,7 +47,8 @@ handle_item comma handle = if handle == 0 then [] else ((if comma then codes ","
 
 -- what a packet reads and writes, or waits for
 abbrev pub work_text : Placed → List ℕ
-work_text p = codes "reads " ++ ranges_text p.work.foot.reads ++ codes " writes " ++ ranges_text (p.work.foot.write ∷ [])
+work_text p = codes "reads " ++ ranges_text p.work.foot.reads ++ codes " writes " ++ ranges_text
+    (p.work.foot.write ∷ [])
 
 abbrev pub doing_of : Packet → List ℕ → List ℕ
 doing_of (packet.Kernel k) work = work

@@ -227,8 +227,8 @@ impl fmt::Display for PlacedText {
     }
 }
 
-/// A packet as `show` prints it: its number, its queue's name, what its header says, its completion signal's handle, and what
-/// it reads and writes or waits for.
+/// A packet as `show` prints it: its number, its queue's name, what its header says, its completion signal's
+/// handle, and what it reads and writes or waits for.
 #[derive(Clone, Copy, Debug)]
 pub struct ShownPacket {
     pub number: usize,

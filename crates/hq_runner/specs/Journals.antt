@@ -1,5 +1,6 @@
 -- The journal of a run that is over, and whose events its are.
-use Rattle.std.specs.Prelude.{◌≡◌, ℕ, ◌<◌, Bool, true, false, List, [], ◌∷◌, ◌++◌, map, filter, length, All, IsTrue, ◌==◌, slice_index}
+use Rattle.std.specs.Prelude.{◌≡◌, ℕ, ◌<◌, Bool, true, false, List, [], ◌∷◌, ◌++◌, map, filter, length, All, IsTrue}
+use Rattle.std.specs.Prelude.{◌==◌, slice_index}
 use Rattle.hq_machine.specs.declared.event.Event.{Event}
 use Rattle.hq_machine.specs.declared.event.Event.TheVariants as event
 use Rattle.hq_machine.specs.Events.{coarse_of}
@@ -71,10 +72,11 @@ pub record Leaves (job : Job) (events : List Event) (memory : List ℕ) : Type 0
 
 -- The memory is what every order of one packet at a time that keeps the job's order leaves.
 abbrev pub IsOneByOne : Job → List ℕ → Type 0
-IsOneByOne job memory = (list : List ℕ) → Extends job list → (b : ℕ) → IsByte job b → slice_index memory b ≡ one_by_one job list b
+IsOneByOne job memory = (list : List ℕ) → Extends job list → (b : ℕ) → IsByte job b
+    → slice_index memory b ≡ one_by_one job list b
 
--- The journal is a run of the job that completes each packet, in which processors and host do their programs, and which ends with
--- its one rest; and this is the memory that it leaves.
+-- The journal is a run of the job that completes each packet, in which processors and host do their programs, and
+-- which ends with its one rest; and this is the memory that it leaves.
 pub record IsWhole (job : Job) (journal : List Event) (memory : List ℕ) : Type 0 where
   pub before : List Event
   pub ends : journal ≡ before ++ event.Rest ∷ []

@@ -8,11 +8,13 @@ use Rattle.hq_kernels.specs.Bodies.{BodyValue}
 use Rattle.hq_kernels.specs.Kits.{value_of}
 
 -- the tasks of bodies, in their order
-abbrev pub tasks_of : {X : Type 0} {Y : X → Type 0} {V : Type 0} {W : V → Type 0} → (DynBox X Global Y → BodyValue) → (DynBox V Global W → BodyValue)
+abbrev pub tasks_of : {X : Type 0} {Y : X → Type 0} {V : Type 0} {W : V → Type 0} → (DynBox X Global Y → BodyValue)
+    → (DynBox V Global W → BodyValue)
     → List (Body X V Y W) → List Task
 tasks_of kernel service bodies = map (λ body. (value_of kernel service body).task) bodies
 
 -- Each body has run.
-pub record AllRan {X : Type 0} {Y : X → Type 0} {V : Type 0} {W : V → Type 0} (kernel : DynBox X Global Y → BodyValue) (service : DynBox V Global W → BodyValue)
+pub record AllRan {X : Type 0} {Y : X → Type 0} {V : Type 0} {W : V → Type 0} (kernel : DynBox X Global Y → BodyValue)
+    (service : DynBox V Global W → BodyValue)
     (bodies : List (Body X V Y W)) : Type 0 where
   pub each : All (λ body. (value_of kernel service body).ran ≡ true) bodies

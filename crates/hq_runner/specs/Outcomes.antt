@@ -15,30 +15,40 @@ use Rattle.hq_runner.specs.Journals.{events_of}
 use Rattle.hq_runner.specs.Kits.{AllRan, tasks_of}
 use Rattle.hq_runner.specs.Lists.{IsProgram}
 
--- Where a body failed: of all pieces that came home by being dropped, this many are its packet's, and so many more it had.
+-- Where a body failed: of all pieces that came home by being dropped, this many are its packet's, and so many more
+-- it had.
 abbrev pub IsCounted : List Placed → RunFault → Type 0
-IsCounted packets (fault.Kernel packet home lost found) = (home ≡ count_by (λ one. one.packet == packet) found.items) × (home + lost ≡ pieces_of (work_of packets packet).task)
+IsCounted packets (fault.Kernel packet home lost found) = (home ≡ count_by (λ one. one.packet == packet) found.items)
+    × (home + lost ≡ pieces_of (work_of packets packet).task)
 IsCounted packets other = Unit {0}
 
 -- No processor met a fault.
-pub record NoFault {X : Type 0} {Y : X → Type 0} {V : Type 0} {W : V → Type 0} (all : List (Ended X V Y W)) : Type 0 where
+pub record NoFault {X : Type 0} {Y : X → Type 0} {V : Type 0} {W : V → Type 0}
+    (all : List (Ended X V Y W)) : Type 0 where
   pub each : All (λ ended. ended.fault ≡ None) all
 
 -- The list of each processor is its queue's in the journal.
-pub record AreReceipts {X : Type 0} {Y : X → Type 0} {V : Type 0} {W : V → Type 0} (job : Job) (events : List Event) (all : List (Ended X V Y W)) : Type 0 where
-  pub each : (q : ℕ) (ended : Ended X V Y W) → q < length all → ended ≡ slice_index_or all q ended → events_of job q events ≡ ended.events.items
+pub record AreReceipts {X : Type 0} {Y : X → Type 0} {V : Type 0} {W : V → Type 0} (job : Job) (events : List Event)
+    (all : List (Ended X V Y W)) : Type 0 where
+  pub each : (q : ℕ) (ended : Ended X V Y W) → q < length all → ended ≡ slice_index_or all q ended
+      → events_of job q events ≡ ended.events.items
 
 -- Each processor that met no fault did all that its queue's does.
-pub record ListsDone {X : Type 0} {Y : X → Type 0} {V : Type 0} {W : V → Type 0} (job : Job) (all : List (Ended X V Y W)) : Type 0 where
+pub record ListsDone {X : Type 0} {Y : X → Type 0} {V : Type 0} {W : V → Type 0} (job : Job)
+    (all : List (Ended X V Y W)) : Type 0 where
   pub count : length all ≡ length job.queues
-  pub each : (q : ℕ) (ended : Ended X V Y W) → q < length all → ended ≡ slice_index_or all q ended → ended.fault ≡ None → IsProgram job q ended.events.items
+  pub each : (q : ℕ) (ended : Ended X V Y W) → q < length all → ended ≡ slice_index_or all q ended → ended.fault ≡ None
+      → IsProgram job q ended.events.items
 
 -- the kits that processors give back
-abbrev pub kits_in : {X : Type 0} {Y : X → Type 0} {V : Type 0} {W : V → Type 0} → List (Ended X V Y W) → List (Kit X V Y W)
+abbrev pub kits_in : {X : Type 0} {Y : X → Type 0} {V : Type 0} {W : V → Type 0} → List (Ended X V Y W)
+    → List (Kit X V Y W)
 kits_in all = map (λ ended. ended.kit) all
 
 -- The bodies of each kit have the tasks of those of the kit in the same place, and have run.
-pub record KitsRan {X : Type 0} {Y : X → Type 0} {V : Type 0} {W : V → Type 0} (kernel : DynBox X Global Y → BodyValue) (service : DynBox V Global W → BodyValue)
+pub record KitsRan {X : Type 0} {Y : X → Type 0} {V : Type 0} {W : V → Type 0} (kernel : DynBox X Global Y → BodyValue)
+    (service : DynBox V Global W → BodyValue)
     (old new : List (Kit X V Y W)) : Type 0 where
-  pub tasks : map (λ kit. tasks_of kernel service kit.bodies.items) new ≡ map (λ kit. tasks_of kernel service kit.bodies.items) old
+  pub tasks : map (λ kit. tasks_of kernel service kit.bodies.items) new ≡ map
+      (λ kit. tasks_of kernel service kit.bodies.items) old
   pub ran : All (λ kit. AllRan kernel service kit.bodies.items) new

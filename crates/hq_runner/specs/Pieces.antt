@@ -16,7 +16,8 @@ pub record AreFor (work : Work) (pieces : List Part) : Type 0 where
   pub count : length pieces ≡ pieces_of work.task
   pub room : 0 < writes_of work.task → length (bytes_written work pieces) ≡ work.foot.write.len
 
--- Where the piece that the work writes is as long as its range, it holds what the task makes of the bytes of those that are read.
+-- Where the piece that the work writes is as long as its range, it holds what the task makes of the bytes of those
+-- that are read.
 pub record IsWorked (work : Work) (pieces : List Part) : Type 0 where
   pub bytes : 0 < writes_of work.task → length (bytes_written work pieces) ≡ work.foot.write.len
       → bytes_written work pieces ≡ result_of work.task work.foot.write.len (bytes_among work.task pieces)

@@ -16,7 +16,8 @@ use hq_ledger::Piece;
 use hq_machine::Event;
 use std::sync::Wait;
 
-/// From where a processor asks: its seat at the board, where it has one, and the list of the events that were answered to it.
+/// From where a processor asks: its seat at the board, where it has one, and the list of the events that were
+/// answered to it.
 #[derive(Drop)]
 pub struct Desk<'b> {
     pub seated: Option<Seated<'b>>,
@@ -92,7 +93,8 @@ pub fn ask_one<R: Wait>(
 ) -> Result<u16, Fault>
     requires { length slots.now < 65536 }
     ensures slot { IfOk result (λ slot. (s : ℕ) × (slice_get slots.now slot ≡ Some (Some s))) }
-    ensures list { IfOk result (λ slot. desk.new.events.items ≡ desk.old.events.items ++ event.Observe packet slot ∷ []) }
+    ensures list { IfOk result
+        (λ slot. desk.new.events.items ≡ desk.old.events.items ++ event.Observe packet slot ∷ []) }
 {
     make_room(&mut desk.events)?;
     let slot = make_one(rt, shared, &mut desk.seated, packet, slots)?;
@@ -109,7 +111,8 @@ pub fn ask_all<R: Wait>(
     slots: &[Option<u16>],
 ) -> Result<(), Fault>
     requires { length slots.now < 65536 }
-    ensures { OnOk result (map coarse_of desk.new.events.items ≡ map coarse_of desk.old.events.items ++ observations packet 0 slots.now) }
+    ensures { OnOk result
+        (map coarse_of desk.new.events.items ≡ map coarse_of desk.old.events.items ++ observations packet 0 slots.now) }
 {
     let mut slot = 0u16;
     while (slot as usize) < slots.len() {

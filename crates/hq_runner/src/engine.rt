@@ -20,15 +20,16 @@ use std::thread::Threads;
 
 /// Runs the accepted job with these kits, one thread for each queue, and where queues are rings one more for the host.
 ///
-/// The journal is a run of the job that completes every packet, in which each processor and the host do their programs, and that ends
-/// with its one rest. The memory is the one that every order of one packet at a time leaves which keeps the job's order. The kits come
-/// back with the tasks that they had, and each of their bodies has run.
+/// The journal is a run of the job that completes every packet, in which each processor and the host do their
+/// programs, and that ends with its one rest. The memory is the one that every order of one packet at a time leaves
+/// which keeps the job's order. The kits come back with the tasks that they had, and each of their bodies has run.
 ///
 /// # Errors
 ///
-/// `Memory`; `Kernel` where a body refused a piece, faulted, or gave other pieces back: the others are stopped, and all pieces that
-/// came home by being dropped are counted; `Split` where the board, by whose words the processors wait, tells another run than the
-/// hall; `Receipts` and `Unfinished` where what the processors say they did isn't what was done.
+/// `Memory`; `Kernel` where a body refused a piece, faulted, or gave other pieces back: the others are stopped, and
+/// all pieces that came home by being dropped are counted; `Split` where the board, by whose words the processors
+/// wait, tells another run than the hall; `Receipts` and `Unfinished` where what the processors say they did isn't
+/// what was done.
 #[tactic(auto, using(crate::proofs::Endings::lists_done, crate::proofs::Endings::kits_ran))]
 pub fn run<R: Threads + Wait + Sync, G: Gate>(
     rt: &R,
@@ -37,10 +38,12 @@ pub fn run<R: Threads + Wait + Sync, G: Gate>(
     kits: Vec<Kit>,
     gate: &G,
 ) -> Result<Outcome, RunFault>
-    requires { KitsFit accepted.now.job (bodies_of (λ b. kernel (b.vtable, b.value)) (λ b. service (b.vtable, b.value)) kits.items) }
+    requires { KitsFit accepted.now.job
+        (bodies_of (λ b. kernel (b.vtable, b.value)) (λ b. service (b.vtable, b.value)) kits.items) }
     ensures whole { IfOk result (λ o. IsWhole (plan accepted.now.job) o.journal o.memory.items) }
     ensures one_by_one { IfOk result (λ o. IsOneByOne (plan accepted.now.job) o.memory.items) }
-    ensures kits { IfOk result (λ o. KitsRan (λ b. kernel (b.vtable, b.value)) (λ b. service (b.vtable, b.value)) kits.items o.kits.items) }
+    ensures kits { IfOk result
+        (λ o. KitsRan (λ b. kernel (b.vtable, b.value)) (λ b. service (b.vtable, b.value)) kits.items o.kits.items) }
     ensures counted { IfErr result (λ e. IsCounted accepted.now.job.packets e) }
 {
     let Ok(hall) = Hall::open(alloc, accepted) else {

@@ -24,7 +24,8 @@ use hq_kernels::Kit;
 use hq_machine::Event;
 use std::alloc::{AllocError, Global};
 
-/// In which place a fault is told among others: want of memory, then bodies by their packets, then that board and hall differ.
+/// In which place a fault is told among others: want of memory, then bodies by their packets, then that board and
+/// hall differ.
 fn rank(fault: Fault) -> u32 {
     match fault {
         Fault::Memory => 0,
@@ -102,7 +103,9 @@ fn check(job: &Job, hall: &Hall, host: &Hosted, all: &[Ended]) -> Result<(), Run
     requires none { NoFault all.now }
     requires none_of_host { host.now.fault ≡ None }
     ensures same { OnOk result (hall.now.job.job ≡ job.now) }
-    ensures complete { OnOk result ((p : ℕ) → IsPacket (plan hall.now.job.job) p → (state_of (plan hall.now.job.job) hall.now.state).phase p ≡ phase.Complete) }
+    ensures complete { OnOk result
+        ((p : ℕ) → IsPacket (plan hall.now.job.job) p
+        → (state_of (plan hall.now.job.job) hall.now.state).phase p ≡ phase.Complete) }
     ensures programs { OnOk result (ArePrograms (plan job.now) hall.now.events) }
     ensures counted { IfErr result (λ e. IsCounted job.now.packets e) }
 {
@@ -155,7 +158,8 @@ fn close(
     kits: Vec<Kit>,
 ) -> Result<Outcome, RunFault>
     requires same { hall.job.job ≡ accepted.now.job }
-    requires complete { (p : ℕ) → IsPacket (plan hall.job.job) p → (state_of (plan hall.job.job) hall.state).phase p ≡ phase.Complete }
+    requires complete { (p : ℕ) → IsPacket (plan hall.job.job) p
+        → (state_of (plan hall.job.job) hall.state).phase p ≡ phase.Complete }
     requires programs { ArePrograms (plan accepted.now.job) hall.events }
     ensures whole { IfOk result (λ o. IsWhole (plan accepted.now.job) o.journal o.memory.items) }
     ensures one_by_one { IfOk result (λ o. IsOneByOne (plan accepted.now.job) o.memory.items) }
@@ -198,7 +202,8 @@ fn leave(
     all: Vec<Ended>,
 ) -> Result<Outcome, RunFault>
     requires same { hall.job.job ≡ accepted.now.job }
-    requires complete { (p : ℕ) → IsPacket (plan hall.job.job) p → (state_of (plan hall.job.job) hall.state).phase p ≡ phase.Complete }
+    requires complete { (p : ℕ) → IsPacket (plan hall.job.job) p
+        → (state_of (plan hall.job.job) hall.state).phase p ≡ phase.Complete }
     requires programs { ArePrograms (plan accepted.now.job) hall.events }
     ensures whole { IfOk result (λ o. IsWhole (plan accepted.now.job) o.journal o.memory.items) }
     ensures one_by_one { IfOk result (λ o. IsOneByOne (plan accepted.now.job) o.memory.items) }

@@ -25,8 +25,9 @@ pub struct Outcome {
 pub enum RunFault {
     /// There is no memory.
     Memory,
-    /// The body of this packet refused a piece, faulted, or gave other pieces back; of several packets it is the least. `found` is all that
-    /// came home by being dropped, `home` how many of these pieces are the packet's, and `lost` how many more it had.
+    /// The body of this packet refused a piece, faulted, or gave other pieces back; of several packets it is the
+    /// least. `found` is all that came home by being dropped, `home` how many of these pieces are the packet's, and
+    /// `lost` how many more it had.
     Kernel {
         packet: u16,
         home: u8,
@@ -35,7 +36,8 @@ pub enum RunFault {
     },
     /// The board and the hall, which are asked for each event of a queue, don't tell the same run.
     Split,
-    /// The list of this queue's processor isn't what the journal has of the queue. The number of queues stands for the host.
+    /// The list of this queue's processor isn't what the journal has of the queue. The number of queues stands for
+    /// the host.
     Receipts(u16),
     /// The run stopped before all was done.
     Unfinished,

@@ -35,8 +35,10 @@ fn run_body(
 ) -> Result<Vec<Piece>, Fault>
     requires { AreFor work pieces.items }
     ensures worked { IfOk result (λ back. IsWorked work back.items) }
-    ensures task { (value_of (λ b. kernel (b.vtable, b.value)) (λ b. service (b.vtable, b.value)) body.new).task ≡ (value_of (λ b. kernel (b.vtable, b.value)) (λ b. service (b.vtable, b.value)) body.old).task }
-    ensures ran { OnOk result ((value_of (λ b. kernel (b.vtable, b.value)) (λ b. service (b.vtable, b.value)) body.new).ran ≡ true) }
+    ensures task { (value_of (λ b. kernel (b.vtable, b.value)) (λ b. service (b.vtable, b.value)) body.new).task ≡ (value_of
+        (λ b. kernel (b.vtable, b.value)) (λ b. service (b.vtable, b.value)) body.old).task }
+    ensures ran { OnOk result
+        ((value_of (λ b. kernel (b.vtable, b.value)) (λ b. service (b.vtable, b.value)) body.new).ran ≡ true) }
 {
     if !same_task(body.task(), work.task) {
         return Err(Fault::Stopped);
@@ -58,8 +60,10 @@ pub fn do_work<R: Wait, G: Gate>(
     desk: &mut Desk,
 ) -> Result<(), Fault>
     ensures list { OnOk result (desk.new.events.items ≡ desk.old.events.items ++ work_events placed.now.queue packet) }
-    ensures task { (value_of (λ b. kernel (b.vtable, b.value)) (λ b. service (b.vtable, b.value)) body.new).task ≡ (value_of (λ b. kernel (b.vtable, b.value)) (λ b. service (b.vtable, b.value)) body.old).task }
-    ensures ran { OnOk result ((value_of (λ b. kernel (b.vtable, b.value)) (λ b. service (b.vtable, b.value)) body.new).ran ≡ true) }
+    ensures task { (value_of (λ b. kernel (b.vtable, b.value)) (λ b. service (b.vtable, b.value)) body.new).task ≡ (value_of
+        (λ b. kernel (b.vtable, b.value)) (λ b. service (b.vtable, b.value)) body.old).task }
+    ensures ran { OnOk result
+        ((value_of (λ b. kernel (b.vtable, b.value)) (λ b. service (b.vtable, b.value)) body.new).ran ≡ true) }
 {
     let work = placed.work;
     ask(rt, shared, desk, Step::Launch(placed.queue))?;
@@ -82,7 +86,10 @@ pub fn do_and<R: Wait, G: Gate>(
     placed: &Placed,
     desk: &mut Desk,
 ) -> Result<(), Fault>
-    ensures { OnOk result (map coarse_of desk.new.events.items ≡ map coarse_of desk.old.events.items ++ (One (machine.Event.Launch placed.now.queue) ∷ observations packet 0 placed.now.slots ++ One (machine.Event.Enter packet) ∷ Complete packet ∷ [])) }
+    ensures { OnOk result
+        (map coarse_of desk.new.events.items ≡ map coarse_of desk.old.events.items ++ (One
+        (machine.Event.Launch placed.now.queue) ∷ observations packet 0 placed.now.slots ++ One
+        (machine.Event.Enter packet) ∷ Complete packet ∷ [])) }
 {
     ask(rt, shared, desk, Step::Launch(placed.queue))?;
     ask_all(rt, shared, desk, packet, &placed.slots)?;

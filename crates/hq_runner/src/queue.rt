@@ -28,7 +28,8 @@ pub struct Ended {
     pub fault: Option<Fault>,
 }
 
-/// Takes a packet through its events, if it is a kernel or agent packet with the next of the bodies. Answers how many bodies have run.
+/// Takes a packet through its events, if it is a kernel or agent packet with the next of the bodies. Answers how
+/// many bodies have run.
 fn do_packet<R: Wait, G: Gate>(
     rt: &R,
     shared: &Shared,
@@ -41,11 +42,15 @@ fn do_packet<R: Wait, G: Gate>(
 ) -> Result<usize, Fault>
     requires packet { packet < length job.now.packets }
     requires next { next ≤ length bodies.old.items }
-    requires ran { AllRan (λ b. kernel (b.vtable, b.value)) (λ b. service (b.vtable, b.value)) (take next bodies.old.items) }
+    requires ran { AllRan (λ b. kernel (b.vtable, b.value)) (λ b. service (b.vtable, b.value))
+        (take next bodies.old.items) }
     ensures list { OnOk result (Did (plan job.now) packet desk.old.events.items desk.new.events.items) }
-    ensures tasks { tasks_of (λ b. kernel (b.vtable, b.value)) (λ b. service (b.vtable, b.value)) bodies.new.items ≡ tasks_of (λ b. kernel (b.vtable, b.value)) (λ b. service (b.vtable, b.value)) bodies.old.items }
+    ensures tasks { tasks_of (λ b. kernel (b.vtable, b.value))
+        (λ b. service (b.vtable, b.value)) bodies.new.items ≡ tasks_of (λ b. kernel (b.vtable, b.value))
+        (λ b. service (b.vtable, b.value)) bodies.old.items }
     ensures next { IfOk result (λ n. n ≤ length bodies.new.items) }
-    ensures ran { IfOk result (λ n. AllRan (λ b. kernel (b.vtable, b.value)) (λ b. service (b.vtable, b.value)) (take n bodies.new.items)) }
+    ensures ran { IfOk result
+        (λ n. AllRan (λ b. kernel (b.vtable, b.value)) (λ b. service (b.vtable, b.value)) (take n bodies.new.items)) }
 {
     let placed = job.packet(packet as usize);
     match &placed.packet {
@@ -80,8 +85,11 @@ fn do_all<R: Wait, G: Gate>(
     requires queue { queue < length job.now.queues }
     requires list { desk.old.events.items ≡ [] }
     ensures list { OnOk result (IsProgram (plan job.now) queue desk.new.events.items) }
-    ensures tasks { tasks_of (λ b. kernel (b.vtable, b.value)) (λ b. service (b.vtable, b.value)) bodies.new.items ≡ tasks_of (λ b. kernel (b.vtable, b.value)) (λ b. service (b.vtable, b.value)) bodies.old.items }
-    ensures ran { OnOk result (AllRan (λ b. kernel (b.vtable, b.value)) (λ b. service (b.vtable, b.value)) bodies.new.items) }
+    ensures tasks { tasks_of (λ b. kernel (b.vtable, b.value))
+        (λ b. service (b.vtable, b.value)) bodies.new.items ≡ tasks_of (λ b. kernel (b.vtable, b.value))
+        (λ b. service (b.vtable, b.value)) bodies.old.items }
+    ensures ran { OnOk result
+        (AllRan (λ b. kernel (b.vtable, b.value)) (λ b. service (b.vtable, b.value)) bodies.new.items) }
 {
     job.valid();
     let span = job.of_queue(queue);
@@ -110,7 +118,8 @@ pub fn process<R: Wait, G: Gate>(
     place: Place,
 ) -> Ended
     requires { queue < length job.now.queues }
-    ensures { Done (λ b. kernel (b.vtable, b.value)) (λ b. service (b.vtable, b.value)) (plan job.now) queue place.entry.kit result }
+    ensures { Done (λ b. kernel (b.vtable, b.value)) (λ b. service (b.vtable, b.value))
+        (plan job.now) queue place.entry.kit result }
 {
     let Place { mut kit, seated } = place;
     let events = Vec::new(alloc);

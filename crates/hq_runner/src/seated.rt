@@ -107,8 +107,8 @@ impl<'b> Seated<'b> {
         }
     }
 
-    /// Makes the step happen at the board and in the hall: a completion in the hall first, so that whoever finds its signal at 0 finds
-    /// it complete there, all else at the board first.
+    /// Makes the step happen at the board and in the hall: a completion in the hall first, so that whoever finds
+    /// its signal at 0 finds it complete there, all else at the board first.
     pub fn make<R: Wait>(&mut self, rt: &R, shared: &Shared, step: Step) -> Result<(), Fault> {
         if let Step::Complete(_) = step {
             let hall = shared.take(rt, step)?;
@@ -120,8 +120,8 @@ impl<'b> Seated<'b> {
         agreed(board, hall)
     }
 
-    /// Looks at the slots in turn up to the first whose signal isn't above 0, if there is one. Answers which, and whether the packet may
-    /// observe it.
+    /// Looks at the slots in turn up to the first whose signal isn't above 0, if there is one. Answers which, and
+    /// whether the packet may observe it.
     fn first(&mut self, packet: u16, slots: &[Option<u16>]) -> Option<(u16, bool)>
         requires { length slots.now < 65536 }
         ensures { IfSome result (λ found. (s : ℕ) × (slice_get slots.now found.0 ≡ Some (Some s))) }

@@ -13,7 +13,8 @@ use hq_ledger::Piece;
 use std::sync::atomic::{AtomicBool, Ordering};
 use std::sync::{Condvar, Mutex, Wait};
 
-/// What the processors share: the hall under its lock, the bell that those of rings wait for, and whether a fault ended the run.
+/// What the processors share: the hall under its lock, the bell that those of rings wait for, and whether a fault
+/// ended the run.
 #[derive(Drop)]
 pub struct Shared<'a> {
     hall: Mutex<Hall<'a>>,
@@ -164,8 +165,8 @@ impl<'a> Shared<'a> {
         fetch(&mut self.hall.lock(rt), packet, work)
     }
 
-    /// Delivers the packet, whose work this is, from the pieces that its body gave back. It waits for no other event: a packet that is
-    /// out may be delivered.
+    /// Delivers the packet, whose work this is, from the pieces that its body gave back. It waits for no other
+    /// event: a packet that is out may be delivered.
     pub fn hand_back<R: Wait>(
         &self,
         rt: &R,

@@ -29,21 +29,24 @@ fn run_queues<R: Threads + Wait + Sync, G: Gate>(
     places: Vec<Place>,
 ) -> Result<Vec<Ended>, AllocError>
     requires { length places.items ≤ length job.now.queues }
-    ensures { IfOk result (λ all. AllDone (λ b. kernel (b.vtable, b.value)) (λ b. service (b.vtable, b.value)) (plan job.now) (map (λ place. place.kit) places.entry.items) all.items) }
+    ensures { IfOk result
+        (λ all. AllDone (λ b. kernel (b.vtable, b.value)) (λ b. service (b.vtable, b.value)) (plan job.now)
+        (map (λ place. place.kit) places.entry.items) all.items) }
 {
     run_each(
         rt,
         alloc,
         &|queue: usize, place: Place| -> Ended
             requires { queue < length job.now.queues }
-            ensures { Done (λ b. kernel (b.vtable, b.value)) (λ b. service (b.vtable, b.value)) (plan job.entry.now) queue place.entry.kit result }
+            ensures { Done (λ b. kernel (b.vtable, b.value)) (λ b. service (b.vtable, b.value))
+                (plan job.entry.now) queue place.entry.kit result }
         { process(rt, alloc, job, shared, gate, queue, place) },
         places,
     )
 }
 
-/// Starts the host too, in a thread of its own, and waits for all. Where queues are rings, processors wait for the host's submissions,
-/// and have no seats.
+/// Starts the host too, in a thread of its own, and waits for all. Where queues are rings, processors wait for the
+/// host's submissions, and have no seats.
 fn run_rings<R: Threads + Wait + Sync, G: Gate>(
     rt: &R,
     alloc: Global,
@@ -54,14 +57,17 @@ fn run_rings<R: Threads + Wait + Sync, G: Gate>(
 ) -> Result<(Hosted, Vec<Ended>), AllocError>
     requires { length places.items ≤ length job.now.queues }
     ensures hosted { IfOk result (λ all. HostDone (plan job.now) all.0) }
-    ensures ended { IfOk result (λ all. AllDone (λ b. kernel (b.vtable, b.value)) (λ b. service (b.vtable, b.value)) (plan job.now) (map (λ place. place.kit) places.entry.items) all.1.items) }
+    ensures ended { IfOk result
+        (λ all. AllDone (λ b. kernel (b.vtable, b.value)) (λ b. service (b.vtable, b.value)) (plan job.now)
+        (map (λ place. place.kit) places.entry.items) all.1.items) }
 {
     let (hosted, ended) = run_beside(
         rt,
         alloc,
         &|queue: usize, place: Place| -> Ended
             requires { queue < length job.now.queues }
-            ensures { Done (λ b. kernel (b.vtable, b.value)) (λ b. service (b.vtable, b.value)) (plan job.entry.now) queue place.entry.kit result }
+            ensures { Done (λ b. kernel (b.vtable, b.value)) (λ b. service (b.vtable, b.value))
+                (plan job.entry.now) queue place.entry.kit result }
         { process(rt, alloc, job, shared, gate, queue, place) },
         places,
         &|| -> Hosted
@@ -82,7 +88,9 @@ fn run_seated<R: Threads + Wait + Sync, G: Gate>(
 ) -> Result<Vec<Ended>, AllocError>
     requires count { length kits.items ≡ length accepted.now.job.queues }
     requires rings { accepted.now.job.rings ≡ false }
-    ensures { IfOk result (λ all. AllDone (λ b. kernel (b.vtable, b.value)) (λ b. service (b.vtable, b.value)) (plan accepted.now.job) kits.items all.items) }
+    ensures { IfOk result
+        (λ all. AllDone (λ b. kernel (b.vtable, b.value)) (λ b. service (b.vtable, b.value))
+        (plan accepted.now.job) kits.items all.items) }
 {
     let Ok((board, seats)) = Board::open(alloc, accepted) else {
         return Err(AllocError);
@@ -102,7 +110,9 @@ pub fn run_all<R: Threads + Wait + Sync, G: Gate>(
 ) -> Result<(Hosted, Vec<Ended>), AllocError>
     requires { length kits.items ≡ length accepted.now.job.queues }
     ensures hosted { IfOk result (λ all. HostDone (plan accepted.now.job) all.0) }
-    ensures ended { IfOk result (λ all. AllDone (λ b. kernel (b.vtable, b.value)) (λ b. service (b.vtable, b.value)) (plan accepted.now.job) kits.items all.1.items) }
+    ensures ended { IfOk result
+        (λ all. AllDone (λ b. kernel (b.vtable, b.value)) (λ b. service (b.vtable, b.value))
+        (plan accepted.now.job) kits.items all.1.items) }
 {
     let job = accepted.job();
     if job.rings() {

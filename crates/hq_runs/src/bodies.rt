@@ -74,7 +74,8 @@ impl KernelBody for Refusing {
     }
 }
 
-/// Faults where it should run. When it is dropped it opens the first piece that it holds, so that this one doesn't come home.
+/// Faults where it should run. When it is dropped it opens the first piece that it holds, so that this one doesn't
+/// come home.
 pub struct Opening(Stock);
 
 impl Opening {

@@ -16,7 +16,8 @@ use std::thread::Threads;
 /// Whose body it is: the queue, and the place among its kit's bodies.
 type Place = (usize, usize);
 
-/// What was told of a fault: the packet, how many of its pieces came home, how many didn't, and how many came home in all.
+/// What was told of a fault: the packet, how many of its pieces came home, how many didn't, and how many came home
+/// in all.
 type Told = (u16, u8, u8, usize);
 
 /// The fault of a run of the job with these bodies in place of stock ones.

@@ -86,8 +86,8 @@ fn are_worked(alloc: Global, work: Work, pieces: &[Piece]) -> Result<bool, Alloc
     }
 }
 
-/// Delivers the packet from these pieces, if there are none, or if they hold what its task makes of them. Answers the fault, and the
-/// pieces that came back.
+/// Delivers the packet from these pieces, if there are none, or if they hold what its task makes of them. Answers
+/// the fault, and the pieces that came back.
 fn deliver(
     alloc: Global,
     hall: &mut Hall,
@@ -142,7 +142,8 @@ fn are_handed(pieces: &[Piece]) -> bool {
     }
 }
 
-/// Delivers the copy's pieces in the wrong order, the last full of sevens. Answers those that came back as wrong, in order again.
+/// Delivers the copy's pieces in the wrong order, the last full of sevens. Answers those that came back as wrong,
+/// in order again.
 fn exchange(alloc: Global, hall: &mut Hall, mut pieces: Vec<Piece>) -> Option<Vec<Piece>> {
     if pieces.len() != 2 {
         return None;
@@ -188,7 +189,8 @@ fn delivers_nothing(alloc: Global, hall: &mut Hall, packet: u16) -> bool {
     }
 }
 
-/// Whether each call that asks for a packet is refused for this one, and a submission, and a launch from a queue that isn't there.
+/// Whether each call that asks for a packet is refused for this one, and a submission, and a launch from a queue
+/// that isn't there.
 fn refuses_all(alloc: Global, hall: &mut Hall, packet: u16) -> bool {
     is_refused(hall.submit())
         && is_refused(hall.launch(1))

@@ -12,8 +12,8 @@ use std::sync::atomic::{AtomicBool, Ordering};
 use std::test::*;
 use std::thread;
 
-/// Puts up its own flag where it should run, and then waits for the other's, for at most a million turns. Where both are up it runs, or
-/// faults.
+/// Puts up its own flag where it should run, and then waits for the other's, for at most a million turns. Where
+/// both are up it runs, or faults.
 #[derive(Drop)]
 struct Meeting {
     stock: Stock,

@@ -8,7 +8,8 @@ pub const HEAD: &[u8] = b"hsaq 1\nagent a\n";
 /// The same, of a job whose queues are rings.
 pub const RINGS: &[u8] = b"hsaq 2\nagent a\n";
 
-/// A buffer of eight bytes, arguments of a fill of its first four with 7 and of a copy of these to the next four, and the kernels.
+/// A buffer of eight bytes, arguments of a fill of its first four with 7 and of a copy of these to the next four,
+/// and the kernels.
 pub const BUFFER: &[u8] = b"buffer b 4096 8
 args k0 256 00100000000000000700000000000000
 args k1 512 00100000000000000410000000000000
@@ -103,7 +104,8 @@ pub const NOP_S: &[u8] =
 pub const AND_NULLS: &[u8] =
     b"packet 03000000000000000000000000000000000000000000000000000000000000000000000000000000000000000000000000000000000000000000000000000000\n";
 
-/// A barrier-OR that waits for one of the signals of handles 10 and 11, with its barrier bit, and an acquire from the system.
+/// A barrier-OR that waits for one of the signals of handles 10 and 11, with its barrier bit, and an acquire from
+/// the system.
 pub const OR_BIT: &[u8] =
     b"packet 05050000000000000a000000000000000b0000000000000000000000000000000000000000000000000000000000000000000000000000000000000000000000\n";
 
@@ -238,7 +240,8 @@ pub const REVERSE: &[&[u8]] = &[
 /// Three services in a ring with one place.
 pub const RING: &[&[u8]] = &[RINGS, b"queue q a 1\n", NOP, NOP, NOP, b"end\n"];
 
-/// Two rings with one place: a barrier-AND and a service behind it in the one, in the other the service that it waits for.
+/// Two rings with one place: a barrier-AND and a service behind it in the one, in the other the service that it
+/// waits for.
 pub const TWO_RINGS: &[&[u8]] = &[
     RINGS,
     b"signal s 9 1\nqueue q a 1\n",

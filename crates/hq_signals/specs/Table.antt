@@ -1,7 +1,8 @@
--- The table of a job's signals, in order of opening: what each starts with, how many packets decrement it, and whether a
--- barrier packet waits on it. That a signal has no more decrementers than its start, and exactly as many where a barrier
--- waits on it, is this project's own rule.
-use Rattle.std.specs.Prelude.{ℕ, ◌+◌, ◌<◌, Bool, true, false, List, ◌∷◌, ◌++◌, map, sum_by, All, Contains, ◌≡◌, ◌==◌, IsTrue, IsNone, Option, Some, ◌↔◌, if◌then◌else◌}
+-- The table of a job's signals, in order of opening: what each starts with, how many packets decrement it, and
+-- whether a barrier packet waits on it. That a signal has no more decrementers than its start, and exactly as many
+-- where a barrier waits on it, is this project's own rule.
+use Rattle.std.specs.Prelude.{ℕ, ◌+◌, ◌<◌, Bool, true, false, List, ◌∷◌, ◌++◌, map, sum_by, All, Contains, ◌≡◌}
+use Rattle.std.specs.Prelude.{◌==◌, IsTrue, IsNone, Option, Some, ◌↔◌, if◌then◌else◌}
 
 -- a signal of the table
 pub record OpenSignal : Type 0 where

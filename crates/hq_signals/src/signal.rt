@@ -5,7 +5,8 @@ ghost use Rattle.std.specs.Prelude.{◌≡◌, ◌-◌, ◌<◌, ◌≤◌, ◌^
 use crate::fault::Undershoot;
 use std::marker::Model;
 
-/// A signal that only completions change, each by one. Its value is its start less the decrements so far, never below 0.
+/// A signal that only completions change, each by one. Its value is its start less the decrements so far, never
+/// below 0.
 ///
 /// A contract sees it as its start and the number of its decrements.
 #[derive(Clone, Copy, Debug, PartialEq, Eq)]
@@ -30,7 +31,8 @@ impl Model for Signal {
 impl Signal {
     ghost use Rattle.hq_signals.specs.Signal.{started, value_of, decremented};
 
-    /// A signal with this start and no decrement yet. A signal's value is a signed 64-bit number, so `start` is below 2^63.
+    /// A signal with this start and no decrement yet. A signal's value is a signed 64-bit number, so `start` is
+    /// below 2^63.
     pub fn new(start: u64) -> Self
         requires { start < 2 ^ 63 }
         ensures { result ≡ started start }

@@ -1,6 +1,7 @@
 //! The table of a job's signals.
 
-ghost use Rattle.std.specs.Prelude.{◌≡◌, ◌≢◌, ◌+◌, ◌<◌, ◌^◌, ◌↔◌, ℕ, [], ◌∷◌, ◌++◌, length, nat_lt, ◌&&◌, slice_get, All, AllPairs, IsTrue, IfOk, IsOk, IsNone, OnOk, OnErr};
+ghost use Rattle.std.specs.Prelude.{◌≡◌, ◌≢◌, ◌+◌, ◌<◌, ◌^◌, ◌↔◌, ℕ, [], ◌∷◌, ◌++◌, length, nat_lt, ◌&&◌};
+ghost use Rattle.std.specs.Prelude.{slice_get, All, AllPairs, IsTrue, IfOk, IsOk, IsNone, OnOk, OnErr};
 
 use crate::fault::SignalFault;
 use indexmap::IndexMap;
@@ -30,7 +31,9 @@ impl Entry {
     }
 
     fn same(&self, other: &Entry) -> bool
-        ensures { IsTrue result ↔ ((self.now.start ≡ other.now.start) × ((self.now.decrementers ≡ other.now.decrementers) × (self.now.waited ≡ other.now.waited))) }
+        ensures { IsTrue result
+            ↔ ((self.now.start ≡ other.now.start)
+            × ((self.now.decrementers ≡ other.now.decrementers) × (self.now.waited ≡ other.now.waited))) }
     {
         self.start == other.start
             && self.decrementers == other.decrementers
@@ -59,7 +62,9 @@ impl Model for SignalTable {
 }
 
 impl SignalTable {
-    ghost use Rattle.hq_signals.specs.Table.{OpenSignal, opened, handles, starts, IsOpen, noted, changed_at, with_decrementer, with_wait, IsUndershot, NeverReachesZero, IsFirst, Finds};
+    ghost use Rattle.hq_signals.specs.Table.{OpenSignal, opened, handles, starts, IsOpen, noted, changed_at};
+    ghost use Rattle.hq_signals.specs.Table.{with_decrementer, with_wait, IsUndershot, NeverReachesZero, IsFirst};
+    ghost use Rattle.hq_signals.specs.Table.{Finds};
 
     /// A table with no signal. It takes no memory.
     pub fn new(alloc: Global) -> Self
@@ -145,8 +150,8 @@ impl SignalTable {
         own_handle == other_handle && entry.same(other_entry)
     }
 
-    /// Whether both tables show the same signals in the same order of opening: the handle, the start and the decrementers of
-    /// each, and whether a barrier waits on it. It takes no memory.
+    /// Whether both tables show the same signals in the same order of opening: the handle, the start and the
+    /// decrementers of each, and whether a barrier waits on it. It takes no memory.
     pub fn same(&self, other: &SignalTable) -> bool
         ensures { IsTrue result ↔ (self.now ≡ other.now) }
     {
@@ -161,8 +166,8 @@ impl SignalTable {
         true
     }
 
-    /// Opens a signal, behind those that are open. A signal's value is a signed 64-bit number, so `start` is below 2^63. An
-    /// `Err` changes nothing.
+    /// Opens a signal, behind those that are open. A signal's value is a signed 64-bit number, so `start` is below
+    /// 2^63. An `Err` changes nothing.
     pub fn open(&mut self, handle: u64, start: u64) -> Result<(), AllocError>
         requires closed { ¬ (IsOpen self.old handle) }
         requires fits { start < 2 ^ 63 }
@@ -224,9 +229,12 @@ impl SignalTable {
     /// Whether no signal has more decrementers than its start, and none that a barrier waits on has fewer. The first
     /// undershot signal in order of opening is named; where there is none, the first that never reaches 0.
     pub fn verdict(&self) -> Result<(), SignalFault>
-        ensures ok { IsOk result ↔ (All (λ s. ¬ (IsUndershot s)) self.now × All (λ s. ¬ (NeverReachesZero s)) self.now) }
-        ensures undershoot { (handle : ℕ) → (result ≡ Err (SignalFault.Undershoot handle)) ↔ IsFirst IsUndershot self.now handle }
-        ensures never_zero { (handle : ℕ) → (result ≡ Err (SignalFault.NeverZero handle)) ↔ (All (λ s. ¬ (IsUndershot s)) self.now × IsFirst NeverReachesZero self.now handle) }
+        ensures ok { IsOk result
+            ↔ (All (λ s. ¬ (IsUndershot s)) self.now × All (λ s. ¬ (NeverReachesZero s)) self.now) }
+        ensures undershoot { (handle : ℕ) → (result ≡ Err (SignalFault.Undershoot handle))
+            ↔ IsFirst IsUndershot self.now handle }
+        ensures never_zero { (handle : ℕ) → (result ≡ Err (SignalFault.NeverZero handle))
+            ↔ (All (λ s. ¬ (IsUndershot s)) self.now × IsFirst NeverReachesZero self.now handle) }
     {
         if let Some(handle) = self.first_undershot() {
             return Err(SignalFault::Undershoot(handle));

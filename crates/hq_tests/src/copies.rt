@@ -6,7 +6,8 @@ use std::test::*;
 
 // Whether there are so many bytes of memory, one agent and one lane.
 fn has(copies: &Copies, bytes: usize) -> bool
-    ensures { IsTrue result → (length copies.now.memory ≡ bytes) × (length copies.now.agents ≡ 1) × (length copies.now.lanes ≡ 1) }
+    ensures { IsTrue result
+        → (length copies.now.memory ≡ bytes) × (length copies.now.agents ≡ 1) × (length copies.now.lanes ≡ 1) }
 {
     copies.memory().len() == bytes && copies.agents() == 1 && copies.lanes() == 1
 }

@@ -65,7 +65,8 @@ fn work_is_left_until_the_end(rt: HostRuntime) -> Result<(), Fail> {
     Ok(())
 }
 
-/// Whether the packet of two, which write eight bytes, is in this phase, and has read this byte; and what it sees in the first place.
+/// Whether the packet of two, which write eight bytes, is in this phase, and has read this byte; and what it sees
+/// in the first place.
 fn shows(state: &State, job: &Job, packet: usize, phase: Phase, read: Option<u8>, seen: u8) -> bool
     requires { IsStateOf (plan job.now) state.now }
 {

@@ -20,7 +20,8 @@ AdmitsAll added s [] new = new ≡ s
 AdmitsAll {S} {R} added s (line ∷ lines) new = (mid : S) × Admits added s line mid × AdmitsAll added mid lines new
 
 -- Of these lines, before which there are so many, the line of this number is refused, behind admitted ones.
-pub record FirstRefused {S R : Type 0} (added : Adds S R) (old : S) (lines : List (List ℕ)) (before number : ℕ) (why : R) : Type 0 where
+pub record FirstRefused {S R : Type 0} (added : Adds S R) (old : S) (lines : List (List ℕ)) (before number : ℕ)
+    (why : R) : Type 0 where
   pub front : List (List ℕ)
   pub line : List ℕ
   pub rest : List (List ℕ)
@@ -30,8 +31,10 @@ pub record FirstRefused {S R : Type 0} (added : Adds S R) (old : S) (lines : Lis
   pub refused : Refuses added mid line why
   pub counted : number ≡ before + length front + 1
 
--- The first fault of a text: of the first line that is refused, counted from 1; or, where all are admitted, what is wrong with a
--- text that ends so, told of the line behind the last.
-pub data FirstFault {S R : Type 0} (added : Adds S R) (unended : S → Option R) (start : S) (lines : List (List ℕ)) (number : ℕ) (why : R) : Type 0 where
+-- The first fault of a text: of the first line that is refused, counted from 1; or, where all are admitted, what is
+-- wrong with a text that ends so, told of the line behind the last.
+pub data FirstFault {S R : Type 0} (added : Adds S R) (unended : S → Option R) (start : S) (lines : List (List ℕ))
+    (number : ℕ) (why : R) : Type 0 where
   faulty : FirstRefused added start lines 0 number why → FirstFault added unended start lines number why
-  endless : (mid : S) → AdmitsAll added start lines mid → unended mid ≡ Some why → number ≡ length lines + 1 → FirstFault added unended start lines number why
+  endless : (mid : S) → AdmitsAll added start lines mid → unended mid ≡ Some why → number ≡ length lines + 1
+      → FirstFault added unended start lines number why

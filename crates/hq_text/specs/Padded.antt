@@ -14,7 +14,12 @@ pub record Padded (a : Inside) : Type 0 where
   pub len : length (take a.len a.bytes) ≡ a.len
   pub zeros : a.bytes ≡ take a.len a.bytes ++ replicate (16 - a.len) 0
 
-same : (bytes name : List ℕ) (n m : ℕ) → m ≡ n → bytes ≡ name ++ replicate (16 - n) 0 → (let made : Inside = record { bytes = name ++ replicate (16 - m) 0; len = m } in let whole : Inside = record { bytes = bytes; len = n } in made ≡ whole)
+same : (bytes name : List ℕ) (n m : ℕ) → m ≡ n → bytes ≡ name ++ replicate (16 - n) 0
+    → (let made : Inside = record {
+      bytes = name ++ replicate
+          (16 - m) 0;
+      len = m;
+    } in let whole : Inside = record { bytes = bytes; len = n } in made ≡ whole)
 same bytes name n m e p = cc
 
 pub padded_written : (a : Inside) → Padded a → padded (written a) ≡ a

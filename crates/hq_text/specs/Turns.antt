@@ -9,7 +9,8 @@ Turn S = S → Option ℕ → List ℕ → S → Type 0
 -- n turns, one after another, each of which gave a byte or more: the reader before and after them, and all their bytes
 pub data Gives (S : Type 0) (T : Turn S) : S → ℕ → List ℕ → S → Type 0 where
   start : (s : S) → Gives S T s 0 [] s
-  more : (s mid new : S) (n count : ℕ) (text buffer : List ℕ) → Gives S T s n text mid → 0 < count → T mid (Some count) buffer new → Gives S T s (n + 1) (text ++ take count buffer) new
+  more : (s mid new : S) (n count : ℕ) (text buffer : List ℕ) → Gives S T s n text mid → 0 < count
+      → T mid (Some count) buffer new → Gives S T s (n + 1) (text ++ take count buffer) new
 
 -- within so many turns the reader gave this text and then its end
 pub record Ends (S : Type 0) (T : Turn S) (turns : ℕ) (old : S) (text : List ℕ) (new : S) : Type 0 where

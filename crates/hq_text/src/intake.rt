@@ -1,6 +1,7 @@
 //! Texts that are taken in line by line, while they come.
 
-ghost use Rattle.std.specs.Prelude.{◌≡◌, ℕ, ◌+◌, ◌<◌, ◌≤◌, ◌⊎◌, ◌++◌, List, [], length, take, IfOk, IfErr, IfSome, OnOk};
+ghost use Rattle.std.specs.Prelude.{◌≡◌, ℕ, ◌+◌, ◌<◌, ◌≤◌, ◌⊎◌, ◌++◌, List, [], length, take, IfOk, IfErr, IfSome};
+ghost use Rattle.std.specs.Prelude.{OnOk};
 ghost use Rattle.hq_text.specs.Intake.{EndsLine, FaultOf, HasRead, Holds, OfText, Stays, TakenOf};
 ghost use Rattle.hq_text.specs.Lines.{lines_of};
 ghost use Rattle.hq_text.specs.Turns.{Fails, Passes};
@@ -43,10 +44,14 @@ pub trait TakesLines: Drop {
     // This is what is wrong with a text of these lines, unless memory ran out.
     ghost Refuses: { List (List ℕ) → Self.Fault → Type 0 };
 
-    /// Takes in all lines of a text, behind those that were taken in. What is wrong with them, is so whatever lines follow.
+    /// Takes in all lines of a text, behind those that were taken in. What is wrong with them, is so whatever lines
+    /// follow.
     fn take_lines(&mut self, alloc: Global, text: &[u8]) -> Result<(), Self::Fault>
-        ensures took { OnOk result ((lines : List (List ℕ)) → Took lines self.old → Took (lines ++ lines_of text.now) self.new) }
-        ensures fault { IfErr result (λ f. (lines more : List (List ℕ)) → Took lines self.old → Refuses (lines ++ (lines_of text.now ++ more)) f) };
+        ensures took { OnOk result
+            ((lines : List (List ℕ)) → Took lines self.old → Took (lines ++ lines_of text.now) self.new) }
+        ensures fault { IfErr result
+            (λ f. (lines more : List (List ℕ)) → Took lines self.old
+            → Refuses (lines ++ (lines_of text.now ++ more)) f) };
 
     /// That there is no memory.
     fn no_memory() -> Self::Fault
@@ -81,7 +86,8 @@ impl<L: TakesLines> Progress<L> {
 
     /// Lets a piece wait.
     fn hold(&mut self, piece: &[u8]) -> Result<(), L::Fault>
-        ensures held { OnOk result ((text : List ℕ) → Holds L.Took self.old text → Holds L.Took self.new (text ++ piece.now)) }
+        ensures held { OnOk result
+            ((text : List ℕ) → Holds L.Took self.old text → Holds L.Took self.new (text ++ piece.now)) }
         ensures memory { IfErr result (λ f. (lines : List (List ℕ)) → L.Refuses lines f) }
     {
         match self.waiting.extend_from_slice(piece) {
@@ -92,10 +98,13 @@ impl<L: TakesLines> Progress<L> {
 
     /// Takes in what waits.
     fn take_waiting(&mut self, alloc: Global) -> Result<(), L::Fault>
-        ensures taken { OnOk result ((text : List ℕ) → Holds L.Took self.old text → L.Took (lines_of text) self.new.taker) }
+        ensures taken { OnOk result
+            ((text : List ℕ) → Holds L.Took self.old text → L.Took (lines_of text) self.new.taker) }
         ensures none { OnOk result (self.new.waiting.items ≡ []) }
         ensures fault { IfErr result (λ f. (text : List ℕ) → Holds L.Took self.old text → L.Refuses (lines_of text) f) }
-        ensures stays { IfErr result (λ f. (text : List ℕ) → EndsLine text → Holds L.Took self.old text → Stays (λ lines. L.Refuses lines f) text) }
+        ensures stays { IfErr result
+            (λ f. (text : List ℕ) → EndsLine text → Holds L.Took self.old text
+            → Stays (λ lines. L.Refuses lines f) text) }
     {
         self.taker.take_lines(alloc, &self.waiting)?;
         self.waiting.clear();
@@ -105,8 +114,11 @@ impl<L: TakesLines> Progress<L> {
     /// Takes in whole lines, the last of which ends a piece.
     fn take_whole(&mut self, alloc: Global, piece: &[u8]) -> Result<(), L::Fault>
         requires { EndsLine piece.now }
-        ensures taken { OnOk result ((text : List ℕ) → Holds L.Took self.old text → Holds L.Took self.new (text ++ piece.now)) }
-        ensures fault { IfErr result (λ f. (text : List ℕ) → Holds L.Took self.old text → Stays (λ lines. L.Refuses lines f) (text ++ piece.now)) }
+        ensures taken { OnOk result
+            ((text : List ℕ) → Holds L.Took self.old text → Holds L.Took self.new (text ++ piece.now)) }
+        ensures fault { IfErr result
+            (λ f. (text : List ℕ) → Holds L.Took self.old text
+            → Stays (λ lines. L.Refuses lines f) (text ++ piece.now)) }
     {
         self.hold(piece)?;
         self.take_waiting(alloc)
@@ -116,8 +128,11 @@ impl<L: TakesLines> Progress<L> {
     fn take_cut(&mut self, alloc: Global, piece: &[u8], whole: usize) -> Result<(), L::Fault>
         requires within { whole ≤ length piece.now }
         requires ends { EndsLine (take whole piece.now) }
-        ensures taken { OnOk result ((text : List ℕ) → Holds L.Took self.old text → Holds L.Took self.new (text ++ piece.now)) }
-        ensures fault { IfErr result (λ f. (text : List ℕ) → Holds L.Took self.old text → Stays (λ lines. L.Refuses lines f) (text ++ piece.now)) }
+        ensures taken { OnOk result
+            ((text : List ℕ) → Holds L.Took self.old text → Holds L.Took self.new (text ++ piece.now)) }
+        ensures fault { IfErr result
+            (λ f. (text : List ℕ) → Holds L.Took self.old text
+            → Stays (λ lines. L.Refuses lines f) (text ++ piece.now)) }
     {
         let (front, rest) = piece.split_at(whole);
         self.take_whole(alloc, front)?;
@@ -126,8 +141,11 @@ impl<L: TakesLines> Progress<L> {
 
     /// Takes in the next piece of the text. Where enough waits, its whole lines are taken in.
     fn take(&mut self, alloc: Global, piece: &[u8]) -> Result<(), L::Fault>
-        ensures taken { OnOk result ((text : List ℕ) → Holds L.Took self.old text → Holds L.Took self.new (text ++ piece.now)) }
-        ensures fault { IfErr result (λ f. (text : List ℕ) → Holds L.Took self.old text → Stays (λ lines. L.Refuses lines f) (text ++ piece.now)) }
+        ensures taken { OnOk result
+            ((text : List ℕ) → Holds L.Took self.old text → Holds L.Took self.new (text ++ piece.now)) }
+        ensures fault { IfErr result
+            (λ f. (text : List ℕ) → Holds L.Took self.old text
+            → Stays (λ lines. L.Refuses lines f) (text ++ piece.now)) }
     {
         if self.waiting.len() < ENOUGH {
             return self.hold(piece);
@@ -147,7 +165,8 @@ impl<L: TakesLines> Progress<L> {
     }
 }
 
-/// What was read so far: a text without a fault, or its first fault. Behind that nothing of the text is held, nor what took it in.
+/// What was read so far: a text without a fault, or its first fault. Behind that nothing of the text is held, nor
+/// what took it in.
 #[derive(Drop)]
 enum Reading<L, F> {
     Taking(Progress<L>),
@@ -165,7 +184,8 @@ impl<L: TakesLines> Reading<L, L::Fault> {
 
     /// Takes in the next piece of the text. Where it is faulty, what took in the lines before it is let go.
     fn take(&mut self, alloc: Global, piece: &[u8])
-        ensures { (text : List ℕ) → HasRead L.Took L.Refuses self.old text → HasRead L.Took L.Refuses self.new (text ++ piece.now) }
+        ensures { (text : List ℕ) → HasRead L.Took L.Refuses self.old text
+            → HasRead L.Took L.Refuses self.new (text ++ piece.now) }
     {
         let Reading::Taking(progress) = self else {
             return;
@@ -177,7 +197,8 @@ impl<L: TakesLines> Reading<L, L::Fault> {
 
     /// What took in the text, which has come to its end, or what is wrong with the text.
     fn finish(self, alloc: Global) -> Result<L, L::Fault>
-        ensures { (text : List ℕ) → HasRead L.Took L.Refuses self text → TakenOf L.Took L.Refuses result (lines_of text) }
+        ensures { (text : List ℕ) → HasRead L.Took L.Refuses self text
+            → TakenOf L.Took L.Refuses result (lines_of text) }
     {
         match self {
             Reading::Taking(progress) => progress.finish(alloc),
@@ -186,9 +207,9 @@ impl<L: TakesLines> Reading<L, L::Fault> {
     }
 }
 
-/// What took in all lines that a source gives up to its end. Of the text no more is held than what waits for the end of its line,
-/// and some 64 KiB; behind the first faulty line nothing is, and what took in the lines before it is let go: the source is only
-/// asked on to its end.
+/// What took in all lines that a source gives up to its end. Of the text no more is held than what waits for the
+/// end of its line, and some 64 KiB; behind the first faulty line nothing is, and what took in the lines before it
+/// is let go: the source is only asked on to its end.
 ///
 /// # Errors
 ///
@@ -199,8 +220,11 @@ pub fn read_lines<S: Source, L: TakesLines>(
     taker: L,
 ) -> Result<L, ReadFault<L::Fault>>
     requires { L.Took [] taker }
-    ensures taken { IfOk result (λ l. OfText S S.Turned TURNS source.old source.new (λ text. L.Took (lines_of text) l)) }
-    ensures fault { IfErr result (λ e. FaultOf e (λ f. OfText S S.Turned TURNS source.old source.new (λ text. L.Refuses (lines_of text) f)) (Fails S S.Turned TURNS source.old source.new ⊎ Passes S S.Turned TURNS source.old source.new)) }
+    ensures taken { IfOk result
+        (λ l. OfText S S.Turned TURNS source.old source.new (λ text. L.Took (lines_of text) l)) }
+    ensures fault { IfErr result
+        (λ e. FaultOf e (λ f. OfText S S.Turned TURNS source.old source.new (λ text. L.Refuses (lines_of text) f))
+        (Fails S S.Turned TURNS source.old source.new ⊎ Passes S S.Turned TURNS source.old source.new)) }
 {
     let mut reading = Reading::new(alloc, taker);
     let mut buffer = [0; TURN_LEN];

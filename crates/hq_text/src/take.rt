@@ -45,7 +45,9 @@ impl<R: Read> Source for R {
 /// All that a source gives up to its end.
 fn take_turns<S: Source>(alloc: Global, source: &mut S) -> Result<Vec<u8>, TextFault>
     ensures taken { IfOk result (λ text. Ends S S.Turned TURNS source.old text.items source.new) }
-    ensures failed { IfErr result (λ e. e ≡ TextFault.Read → Fails S S.Turned TURNS source.old source.new ⊎ Passes S S.Turned TURNS source.old source.new) }
+    ensures failed { IfErr result
+        (λ e. e ≡ TextFault.Read
+        → Fails S S.Turned TURNS source.old source.new ⊎ Passes S S.Turned TURNS source.old source.new) }
 {
     let mut text = Vec::new(alloc);
     let mut buffer = [0; TURN_LEN];
@@ -69,7 +71,10 @@ pub fn take_text<R: Read>(alloc: Global, reader: &mut R) -> Result<Vec<u8>, Text
     ensures turned { IfOk result (λ text. Ends R (ReadTurn R.remaining) TURNS reader.old text.items reader.new) }
     ensures taken { IfOk result (λ text. Consumes (R.remaining reader.old) (R.remaining reader.new) text.items) }
     ensures ended { IfOk result (λ text. IsAtEnd (R.remaining reader.new)) }
-    ensures failed { IfErr result (λ e. e ≡ TextFault.Read → Fails R (ReadTurn R.remaining) TURNS reader.old reader.new ⊎ Passes R (ReadTurn R.remaining) TURNS reader.old reader.new) }
+    ensures failed { IfErr result
+        (λ e. e ≡ TextFault.Read
+        → Fails R (ReadTurn R.remaining) TURNS reader.old reader.new
+        ⊎ Passes R (ReadTurn R.remaining) TURNS reader.old reader.new) }
 {
     take_turns(alloc, reader)
 }

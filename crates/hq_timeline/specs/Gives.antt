@@ -30,7 +30,8 @@ abbrev pub GivesJournal : Result (List Event) TimeFault → List Event → Type 
 GivesJournal (Ok journal) events = journal ≡ events
 GivesJournal (Err f) events = f ≡ no_memory
 
--- What taking in all of these lines answers, behind so many lines that left the old state: how many there are then, or the first fault.
+-- What taking in all of these lines answers, behind so many lines that left the old state: how many there are then,
+-- or the first fault.
 abbrev pub TakesAll : Result ℕ TimeFault → ℕ → List (List ℕ) → State → State → Type 0
 TakesAll (Ok n) before lines old new = (n ≡ before + length lines) × AdmitsAll added old lines new
 TakesAll (Err f) before lines old new = (f ≡ no_memory) ⊎ FirstRefused added old lines before f.line f.reason

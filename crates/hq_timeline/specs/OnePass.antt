@@ -1,5 +1,6 @@
 -- What a line is found to begin with, in one pass over its bytes.
-use Rattle.std.specs.Prelude.{◌≡◌, ℕ, ◌+◌, ◌-◌, ◌*◌, ◌&&◌, List, [], ◌∷◌, false, Option, Some, None, Ok, ◌==◌, nat_le, if◌then◌else◌}
+use Rattle.std.specs.Prelude.{◌≡◌, ℕ, ◌+◌, ◌-◌, ◌*◌, ◌&&◌, List, [], ◌∷◌, false, Option, Some, None, Ok, ◌==◌}
+use Rattle.std.specs.Prelude.{nat_le, if◌then◌else◌}
 use Rattle.hq_text.specs.Lines.{words_of}
 use Rattle.hq_text.specs.Numbers.{is_digit}
 use Rattle.hq_machine.specs.declared.event.Event.{Event}
@@ -10,11 +11,12 @@ abbrev pub words_behind : Option (List ℕ) → List (List ℕ)
 words_behind None = []
 words_behind (Some behind) = words_of behind
 
--- The number that digits are, behind those of n, up to a space or the end, with what stands behind the space; none where that
--- might be above 4294967295.
+-- The number that digits are, behind those of n, up to a space or the end, with what stands behind the space; none
+-- where that might be above 4294967295.
 abbrev pub digits_on : ℕ → List ℕ → Option (ℕ × Option (List ℕ))
 digits_on n [] = Some (n, None)
-digits_on n (d ∷ ds) = if d == 32 then Some (n, Some ds) else if is_digit d && nat_le n 400000000 then digits_on (n * 10 + (d - 48)) ds else None
+digits_on n (d ∷ ds) = if d == 32 then Some (n, Some ds) else if is_digit d && nat_le n 400000000 then digits_on
+    (n * 10 + (d - 48)) ds else None
 
 -- No word is left at the beginning of the text: it is empty, or begins with a space, and behind that there is this.
 abbrev pub EndsWord : List ℕ → Option (List ℕ) → Type 0

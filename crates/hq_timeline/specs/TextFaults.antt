@@ -16,7 +16,8 @@ use Rattle.hq_timeline.specs.Grammar.{event_words, EventFits, IsSmall, head_word
 -- These lines begin a text, and what may come next is the head, an event or the end, or nothing.
 abbrev pub Begins : Stage → List (List (List ℕ)) → Type 0
 Begins stage.Head lines = lines ≡ []
-Begins stage.Events lines = (events : List Event) × (lines ≡ head_words ∷ map event_words events) × AllByRecursion EventFits events
+Begins stage.Events lines = (events : List Event) × (lines ≡ head_words ∷ map event_words events)
+    × AllByRecursion EventFits events
 Begins stage.Ended lines = (events : List Event) × (lines ≡ journal_words events) × AllByRecursion EventFits events
 
 -- ---- a faulty line
@@ -49,11 +50,12 @@ HasForm stage.Head words = words ≡ head_words
 HasForm stage.Events words = HasEventForm words ⊎ (words ≡ end_words)
 HasForm stage.Ended words = ⊥
 
--- The words are refused in this place: they have no form that may stand there; or they have an event's, but not all behind its name
--- are numbers up to 4294967295.
+-- The words are refused in this place: they have no form that may stand there; or they have an event's, but not all
+-- behind its name are numbers up to 4294967295.
 abbrev pub Refused : Stage → List (List ℕ) → TimeReason → Type 0
 Refused place words reason.Word = ¬ HasForm place words
-Refused place words reason.Number = (place ≡ stage.Events) × HasEventForm words × (AllByRecursion IsSmallNumber (operands words) → ⊥)
+Refused place words reason.Number = (place ≡ stage.Events) × HasEventForm words
+    × (AllByRecursion IsSmallNumber (operands words) → ⊥)
 Refused place words reason.NoEnd = ⊥
 Refused place words reason.Memory = ⊥
 
@@ -63,12 +65,14 @@ Refused place words reason.Memory = ⊥
 abbrev pub at_line : ℕ → TimeReason → TimeFault
 at_line line why = record { line = line; reason = why }
 
--- The first fault of a text: of a line that is refused behind lines that begin a text, or that there is no end, told of the line
--- behind the last.
+-- The first fault of a text: of a line that is refused behind lines that begin a text, or that there is no end,
+-- told of the line behind the last.
 pub data FirstFault (lines : List (List ℕ)) : TimeFault → Type 0 where
   faulty : (front : List (List ℕ)) (line : List ℕ) (rest : List (List ℕ)) (place : Stage) (why : TimeReason)
-      → lines ≡ front ++ line ∷ rest → Begins place (map words_of front) → Refused place (words_of line) why → FirstFault lines (at_line (length front + 1) why)
-  endless : (place : Stage) → Begins place (map words_of lines) → (place ≡ stage.Ended → ⊥) → FirstFault lines (at_line (length lines + 1) reason.NoEnd)
+      → lines ≡ front ++ line ∷ rest → Begins place (map words_of front) → Refused place (words_of line) why
+      → FirstFault lines (at_line (length front + 1) why)
+  endless : (place : Stage) → Begins place (map words_of lines) → (place ≡ stage.Ended → ⊥)
+      → FirstFault lines (at_line (length lines + 1) reason.NoEnd)
 
 -- ---- the laws
 
@@ -78,7 +82,8 @@ OneJournal = (lines : List (List ℕ)) (a b : List Event) → TimeText lines a �
 
 -- A journal's text has no fault.
 abbrev pub FaultlessWhereJournal : Type 0
-FaultlessWhereJournal = (lines : List (List ℕ)) (events : List Event) (f : TimeFault) → TimeText lines events → FirstFault lines f → ⊥
+FaultlessWhereJournal = (lines : List (List ℕ)) (events : List Event) (f : TimeFault) → TimeText lines events
+    → FirstFault lines f → ⊥
 
 -- A text has one first fault.
 abbrev pub OneFirstFault : Type 0

@@ -92,7 +92,8 @@ impl Draft {
 
     /// Takes in the next event.
     pub fn push(&mut self, event: Event) -> Result<(), TimeReason>
-        ensures { (state_of self.old).stage ≡ Stage.Events → Gives (λ u. state_of self.new) result (Ok (with_event (state_of self.old) event)) }
+        ensures { (state_of self.old).stage ≡ Stage.Events
+            → Gives (λ u. state_of self.new) result (Ok (with_event (state_of self.old) event)) }
     {
         self.events.push(event)?;
         self.stage = Stage::Events;

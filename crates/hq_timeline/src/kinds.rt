@@ -1,7 +1,8 @@
 //! The kinds of events, by their names and the count of their numbers, and the events that words say.
 
 ghost use Rattle.std.specs.Prelude.{◌≡◌};
-ghost use Rattle.hq_timeline.specs.LineTests.{number_said, one_kind, event_of_one, packet_kind, two_kind, event_of_two, plain_said, one_said, two_said, event_said};
+ghost use Rattle.hq_timeline.specs.LineTests.{number_said, one_kind, event_of_one, packet_kind, two_kind};
+ghost use Rattle.hq_timeline.specs.LineTests.{event_of_two, plain_said, one_said, two_said, event_said};
 ghost use Rattle.hq_timeline.specs.Split.{list_of};
 
 use crate::fault::TimeReason;

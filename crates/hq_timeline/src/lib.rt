@@ -1,7 +1,7 @@
 //! Timelines: the text of a run's journal, printed and parsed.
 //!
-//! A timeline begins `hsat 1`, then has an event a line, and ends with `end`. Nothing here knows whether the events can happen:
-//! that is for a replay to say.
+//! A timeline begins `hsat 1`, then has an event a line, and ends with `end`. Nothing here knows whether the events
+//! can happen: that is for a replay to say.
 #![tactic(auto)]
 
 mod draft;

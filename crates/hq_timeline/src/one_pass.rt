@@ -1,5 +1,5 @@
-//! The commonest lines of single steps, read in one pass over their bytes. A line that isn't read here is left to the readers of
-//! words, which tell what is wrong with it.
+//! The commonest lines of single steps, read in one pass over their bytes. A line that isn't read here is left to
+//! the readers of words, which tell what is wrong with it.
 
 ghost use Rattle.std.specs.Prelude.{◌≡◌, ◌++◌, Some, IfSome, option_map, None};
 ghost use Rattle.hq_text.specs.Lines.{words_of};

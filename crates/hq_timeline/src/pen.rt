@@ -70,7 +70,8 @@ impl Pen {
 
     /// A line of a word and two numbers.
     fn put_two(&mut self, name: &[u8], a: u32, b: u32) -> Result<(), AllocError>
-        ensures { OnOk result (self.new.bytes.items ≡ self.old.bytes.items ++ line_text (name.now ∷ decimal a ∷ decimal b ∷ [])) }
+        ensures { OnOk result
+            (self.new.bytes.items ≡ self.old.bytes.items ++ line_text (name.now ∷ decimal a ∷ decimal b ∷ [])) }
     {
         self.put(name)?;
         self.put_number(a)?;

@@ -19,7 +19,9 @@ const ROOM: usize = 65_536;
 
 /// Writes what was put, where that is much.
 fn spill<W: Write>(pen: &mut Pen, writer: &mut W) -> io::Result<()>
-    ensures { OnOk result (Appends (append_known (W.contents writer.old) pen.old.bytes.items) (append_known (W.contents writer.new) pen.new.bytes.items) []) }
+    ensures { OnOk result
+        (Appends (append_known (W.contents writer.old) pen.old.bytes.items)
+        (append_known (W.contents writer.new) pen.new.bytes.items) []) }
 {
     if pen.bytes().len() >= ROOM {
         writer.write_all(pen.bytes())?;
@@ -29,7 +31,9 @@ fn spill<W: Write>(pen: &mut Pen, writer: &mut W) -> io::Result<()>
 }
 
 fn write_events<W: Write>(pen: &mut Pen, events: &[Event], writer: &mut W) -> io::Result<()>
-    ensures written { OnOk result (Appends (append_known (W.contents writer.old) pen.old.bytes.items) (append_known (W.contents writer.new) pen.new.bytes.items) (lines_text (map event_words events.now))) }
+    ensures written { OnOk result
+        (Appends (append_known (W.contents writer.old) pen.old.bytes.items)
+        (append_known (W.contents writer.new) pen.new.bytes.items) (lines_text (map event_words events.now))) }
     ensures fits { OnOk result (AllByRecursion EventFits events.now) }
 {
     for event in events {
@@ -68,8 +72,8 @@ fn finish<W: Write>(pen: &mut Pen, journal: &Journal, writer: &mut W) -> io::Res
     writer.write_all(pen.bytes())
 }
 
-/// Writes the text of a journal. All memory is taken before the first byte is written. The writer is not flushed; where it fails a
-/// part of the text may be written.
+/// Writes the text of a journal. All memory is taken before the first byte is written. The writer is not flushed;
+/// where it fails a part of the text may be written.
 pub fn print<W: Write>(alloc: Global, journal: &Journal, writer: &mut W) -> Result<(), PrintFault>
     ensures written { OnOk result (Appends (W.contents writer.old) (W.contents writer.new) (text_of journal.now)) }
     // What was written is the text of this journal, and so is read as the same journal.

@@ -17,8 +17,11 @@ use std::io::Read;
 
 /// What a source gives up to its end, as a journal.
 fn read_source<S: Source>(alloc: Global, source: &mut S) -> Result<Journal, ReadFault<TimeFault>>
-    ensures found { IfOk result (λ journal. OfText S S.Turned TURNS source.old source.new (λ text. TimeText (lines_of text) journal)) }
-    ensures fault { IfErr result (λ e. FaultOf e (λ f. OfText S S.Turned TURNS source.old source.new (λ text. HasFault (lines_of text) f)) (Fails S S.Turned TURNS source.old source.new ⊎ Passes S S.Turned TURNS source.old source.new)) }
+    ensures found { IfOk result
+        (λ journal. OfText S S.Turned TURNS source.old source.new (λ text. TimeText (lines_of text) journal)) }
+    ensures fault { IfErr result
+        (λ e. FaultOf e (λ f. OfText S S.Turned TURNS source.old source.new (λ text. HasFault (lines_of text) f))
+        (Fails S S.Turned TURNS source.old source.new ⊎ Passes S S.Turned TURNS source.old source.new)) }
 {
     match read_lines(alloc, source, Progress::new(alloc)) {
         Ok(progress) => progress.finish().map_err(ReadFault::Text),
@@ -26,16 +29,26 @@ fn read_source<S: Source>(alloc: Global, source: &mut S) -> Result<Journal, Read
     }
 }
 
-/// The journal that a reader's text is, or the first faulty line, as `parse` tells them of the whole text. Of the text no more is
-/// held than what waits for the end of its line, and some 64 KiB. The reader gives the text in at most 2,000,000 turns of at
-/// most 512 bytes; where it fails, in any way, or passes its turns, that is the fault, also behind a faulty line.
+/// The journal that a reader's text is, or the first faulty line, as `parse` tells them of the whole text. Of the
+/// text no more is held than what waits for the end of its line, and some 64 KiB. The reader gives the text in at
+/// most 2,000,000 turns of at most 512 bytes; where it fails, in any way, or passes its turns, that is the fault,
+/// also behind a faulty line.
 pub fn read<R: Read>(alloc: Global, reader: &mut R) -> Result<Journal, ReadFault<TimeFault>>
-    ensures found { IfSome (R.remaining reader.old) (λ text. IfOk result (λ journal. TimeText (lines_of text) journal)) }
-    ensures only { IfSome (R.remaining reader.old) (λ text. (events : List Event) → TimeText (lines_of text) events → GivesUnlessRead no_memory result events) }
-    ensures fault { IfSome (R.remaining reader.old) (λ text. IfErr result (λ e. FaultOf e (λ f. HasFault (lines_of text) f) (Unit {0}))) }
+    ensures found { IfSome (R.remaining reader.old)
+        (λ text. IfOk result (λ journal. TimeText (lines_of text) journal)) }
+    ensures only { IfSome (R.remaining reader.old)
+        (λ text. (events : List Event) → TimeText (lines_of text) events → GivesUnlessRead no_memory result events) }
+    ensures fault { IfSome (R.remaining reader.old)
+        (λ text. IfErr result (λ e. FaultOf e (λ f. HasFault (lines_of text) f) (Unit {0}))) }
     // The same of the turns that the reader was asked.
-    ensures turned { IfOk result (λ journal. OfText R (ReadTurn R.remaining) TURNS reader.old reader.new (λ text. TimeText (lines_of text) journal)) }
-    ensures failed { IfErr result (λ e. FaultOf e (λ f. OfText R (ReadTurn R.remaining) TURNS reader.old reader.new (λ text. HasFault (lines_of text) f)) (Fails R (ReadTurn R.remaining) TURNS reader.old reader.new ⊎ Passes R (ReadTurn R.remaining) TURNS reader.old reader.new)) }
+    ensures turned { IfOk result
+        (λ journal. OfText R (ReadTurn R.remaining) TURNS reader.old reader.new
+        (λ text. TimeText (lines_of text) journal)) }
+    ensures failed { IfErr result
+        (λ e. FaultOf e
+        (λ f. OfText R (ReadTurn R.remaining) TURNS reader.old reader.new (λ text. HasFault (lines_of text) f))
+        (Fails R (ReadTurn R.remaining) TURNS reader.old reader.new
+        ⊎ Passes R (ReadTurn R.remaining) TURNS reader.old reader.new)) }
 {
     read_source(alloc, reader)
 }

@@ -26,7 +26,8 @@ pub const NO_MEMORY: TimeFault = TimeFault {
 
 /// A fault at a line, or out of memory at line 0.
 fn fault_at(line: usize, reason: TimeReason) -> TimeFault
-    ensures { ((reason ≡ TimeReason.Memory) × (result ≡ no_memory)) ⊎ ((¬ (reason ≡ TimeReason.Memory)) × (result ≡ at_line line reason)) }
+    ensures { ((reason ≡ TimeReason.Memory) × (result ≡ no_memory))
+        ⊎ ((¬ (reason ≡ TimeReason.Memory)) × (result ≡ at_line line reason)) }
 {
     match reason {
         TimeReason::Memory => NO_MEMORY,
@@ -76,7 +77,8 @@ pub fn take_lines(draft: &mut Draft, before: usize, text: &[u8]) -> Result<usize
 
 /// The journal of a text of so many lines, all of them taken in; or that it has no end.
 pub fn finished(draft: Draft, count: usize) -> Result<Journal, TimeFault>
-    ensures { (lines : List (List ℕ)) → count ≡ length lines → AdmitsAll added start lines (state_of draft) → ReadOf result lines }
+    ensures { (lines : List (List ℕ)) → count ≡ length lines → AdmitsAll added start lines (state_of draft)
+        → ReadOf result lines }
 {
     if draft.is_ended() {
         return Ok(draft.journal());

@@ -47,8 +47,8 @@ fn start(alloc: Global, job: &Job) -> Result<State, ReplayFault>
     }
 }
 
-/// The bytes of memory after the events of a journal, each of which has to be enabled after those before it. The job needn't be
-/// one that a certificate orders.
+/// The bytes of memory after the events of a journal, each of which has to be enabled after those before it. The
+/// job needn't be one that a certificate orders.
 ///
 /// # Errors
 ///

@@ -21,8 +21,8 @@ use Rattle.hq_witness.specs.declared.origin.Origin.{Origin}
 use Rattle.hq_witness.specs.declared.place.Place.{Place}
 use Rattle.hq_witness.specs.Origins.{named, origin_at, IsPlace}
 
--- What contracts see of a witness: the conflict that an audit refuses; two runs, where they differ, and the origin there
--- in each.
+-- What contracts see of a witness: the conflict that an audit refuses; two runs, where they differ, and the origin
+-- there in each.
 pub record WitnessValue : Type 0 where
   pub p : ℕ
   pub r : ℕ

@@ -82,7 +82,8 @@ fn exchanged(
     }
 }
 
-/// Two runs of a conflict whose packets are ordered, but not by fences: one by one, and with the byte written back late.
+/// Two runs of a conflict whose packets are ordered, but not by fences: one by one, and with the byte written back
+/// late.
 fn delayed(
     alloc: Global,
     job: &Job,
@@ -103,8 +104,8 @@ fn delayed(
     }
 }
 
-/// Two runs that differ in the target's byte, if those that are built for it do. Where packets aren't ordered, but can't be exchanged
-/// since they need each other's slot, they may be shown as if they were.
+/// Two runs that differ in the target's byte, if those that are built for it do. Where packets aren't ordered, but
+/// can't be exchanged since they need each other's slot, they may be shown as if they were.
 pub fn attempt(
     alloc: Global,
     job: &Job,

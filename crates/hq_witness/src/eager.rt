@@ -238,7 +238,8 @@ pub fn in_order(alloc: Global, job: &Job, order: &[u16], byte: u32) -> Result<Re
     }
 }
 
-/// The run that takes two packets in this order, as early as may be and one behind the other, and all others one by one.
+/// The run that takes two packets in this order, as early as may be and one behind the other, and all others one by
+/// one.
 pub fn with_first(
     alloc: Global,
     job: &Job,

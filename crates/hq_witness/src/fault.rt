@@ -9,8 +9,8 @@ use hq_fence::{Kind, Why};
 use std::alloc::{AllocError, AllocFailed};
 use thiserror::Error;
 
-/// Why there is no witness: the job is ordered; packets can never complete, by number, rising; the conflict of packet `p` with packet
-/// `r` isn't ordered, and no two runs were found that show it; or there is no memory.
+/// Why there is no witness: the job is ordered; packets can never complete, by number, rising; the conflict of
+/// packet `p` with packet `r` isn't ordered, and no two runs were found that show it; or there is no memory.
 #[derive(Debug, Drop, Error)]
 pub enum WitnessNo {
     #[error("the job is ordered")]

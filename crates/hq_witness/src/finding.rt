@@ -40,7 +40,8 @@ struct Attempts {
     of_pair: u32,
 }
 
-/// What an attempt needs of the job: its order, and how many bytes of memory it has; and how many attempts are made of one pair.
+/// What an attempt needs of the job: its order, and how many bytes of memory it has; and how many attempts are made
+/// of one pair.
 #[derive(Clone, Copy)]
 struct Known<'a> {
     before: &'a Before<'a>,
@@ -120,7 +121,8 @@ fn target_of(known: Known, a: usize, b: usize) -> Option<Target>
     }
 }
 
-/// Two runs that show a conflict of a packet with one above it, if asked so only one in which a packet reads what the other writes.
+/// Two runs that show a conflict of a packet with one above it, if asked so only one in which a packet reads what
+/// the other writes.
 fn show_row(
     alloc: Global,
     job: &Job,
@@ -272,13 +274,14 @@ fn witness_of(
     })
 }
 
-/// Two runs of a job that isn't ordered in which an entry that a packet reads, or a byte of memory at the end, comes from elsewhere.
+/// Two runs of a job that isn't ordered in which an entry that a packet reads, or a byte of memory at the end,
+/// comes from elsewhere.
 ///
 /// # Errors
 ///
-/// `Ordered`, exactly where the job is ordered. `Stuck` with the packets that can never complete, as an
-/// audit says them. `None` with the conflict that an audit refuses, where no two runs were found; nothing is said of whether there are
-/// some. `Memory`.
+/// `Ordered`, exactly where the job is ordered. `Stuck` with the packets that can never complete, as an audit says
+/// them. `None` with the conflict that an audit refuses, where no two runs were found; nothing is said of whether
+/// there are some. `Memory`.
 pub fn witness(alloc: Global, job: &Job) -> Result<Witness, WitnessNo>
     ensures is { IfOk result (λ w. IsWitness (plan job.now) w) }
     ensures no { IfErr result (λ no. IsNo (plan job.now) no) }

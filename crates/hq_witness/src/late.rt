@@ -1,4 +1,5 @@
-//! A run in which a byte is taken early and written back late: of a conflict whose packets are ordered, but not by fences.
+//! A run in which a byte is taken early and written back late: of a conflict whose packets are ordered, but not by
+//! fences.
 
 ghost use Rattle.std.specs.Prelude.{◌≤◌, IfOk, OnOk};
 ghost use Rattle.hq_job.specs.Plan.{plan};
@@ -16,8 +17,8 @@ use hq_order::Before;
 use hq_packet::Scope;
 use std::alloc::{AllocError, Global};
 
-/// How well a packet goes ahead of the target's second one, the least first: what doesn't write the first one's byte back goes before what
-/// does, and then what lets go of more copies that the second one may see.
+/// How well a packet goes ahead of the target's second one, the least first: what doesn't write the first one's
+/// byte back goes before what does, and then what lets go of more copies that the second one may see.
 fn rank(job: &Job, before: &Before, target: &Target, packet: u32) -> u32 {
     let late = if writes_back(job, before, target, packet) {
         3
@@ -54,8 +55,8 @@ fn kept(job: &Job, target: &Target, packet: u32) -> u32
 }
 
 impl Recording {
-    /// Gives the target's second packet and its agent copies of the byte, where they have none, and what is below isn't what the first
-    /// packet wrote.
+    /// Gives the target's second packet and its agent copies of the byte, where they have none, and what is below
+    /// isn't what the first packet wrote.
     fn keep_old(&mut self, job: &Job, target: &Target) -> Result<(), AllocError>
         requires { IsRecording (plan job.now) self.old }
         ensures { OnOk result (IsRecording (plan job.now) self.new) }
@@ -103,7 +104,8 @@ impl Recording {
         Ok(())
     }
 
-    /// Of two writes, writes what the target's second packet wrote down to memory, and what the first one wrote over it.
+    /// Of two writes, writes what the target's second packet wrote down to memory, and what the first one wrote
+    /// over it.
     fn overwrite(&mut self, job: &Job, target: &Target, packet: u32) -> Result<(), AllocError>
         requires { IsRecording (plan job.now) self.old }
         ensures { OnOk result (IsRecording (plan job.now) self.new) }
@@ -217,8 +219,8 @@ impl Recording {
     }
 }
 
-/// The run in which the target's second packet keeps what it can see of the byte as long as may be, and what the first packet wrote there
-/// is written back as late as may be; all others are taken one by one.
+/// The run in which the target's second packet keeps what it can see of the byte as long as may be, and what the
+/// first packet wrote there is written back as late as may be; all others are taken one by one.
 pub fn late(
     alloc: Global,
     job: &Job,

@@ -1,9 +1,10 @@
 //! Two runs of a refused job in which a byte comes from elsewhere.
 //!
-//! The *origin* of a byte is the packet whose store it is, or the start; copies carry it as they carry the byte. A *witness* of a job
-//! that isn't ordered is two runs of it that complete every packet and to which no work is left, after which an entry that some packet
-//! has read, or a byte of memory, has one origin in the one run and another in the other. `witness` looks for one for the conflict that
-//! an audit refuses. The runs are made by the machine's own steps, one by one.
+//! The *origin* of a byte is the packet whose store it is, or the start; copies carry it as they carry the byte. A
+//! *witness* of a job that isn't ordered is two runs of it that complete every packet and to which no work is left,
+//! after which an entry that some packet has read, or a byte of memory, has one origin in the one run and another
+//! in the other. `witness` looks for one for the conflict that an audit refuses. The runs are made by the machine's
+//! own steps, one by one.
 #![tactic(auto)]
 
 mod attempt;

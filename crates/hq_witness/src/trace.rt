@@ -1,6 +1,7 @@
 //! Where one byte comes from, along a run.
 
-ghost use Rattle.std.specs.Prelude.{◌≡◌, ◌<◌, ◌==◌, ◌↔◌, IfOk, IfSome, IsTrue, OnOk, if◌then◌else◌, length, slice_index, slice_index_or};
+ghost use Rattle.std.specs.Prelude.{◌≡◌, ◌<◌, ◌==◌, ◌↔◌, IfOk, IfSome, IsTrue, OnOk, if◌then◌else◌, length};
+ghost use Rattle.std.specs.Prelude.{slice_index, slice_index_or};
 ghost use Rattle.hq_job.specs.Plan.{plan};
 ghost use Rattle.hq_machine.specs.Events.{single_of};
 ghost use Rattle.hq_machine.specs.View.{IsStateOf, state_of};
@@ -58,7 +59,8 @@ impl Trace {
         requires is { IsStateOf (plan job.now) state.now }
         requires fits { IsTraceOf (plan job.now) self.now }
         requires agent { agent < (plan job.now).agents }
-        ensures { (o : Origins) → TellsCopies (plan job.now) o self.now → agent_origin (state_of (plan job.now) state.now) o agent self.now.byte ≡ named result }
+        ensures { (o : Origins) → TellsCopies (plan job.now) o self.now
+            → agent_origin (state_of (plan job.now) state.now) o agent self.now.byte ≡ named result }
     {
         job.valid();
         if state.agent_holds(agent, self.byte as usize) {
@@ -73,7 +75,8 @@ impl Trace {
         requires is { IsStateOf (plan job.now) state.now }
         requires fits { IsTraceOf (plan job.now) self.now }
         requires packet { IsPacket (plan job.now) packet }
-        ensures { (o : Origins) → TellsCopies (plan job.now) o self.now → lane_origin (plan job.now) (state_of (plan job.now) state.now) o packet self.now.byte ≡ named result }
+        ensures { (o : Origins) → TellsCopies (plan job.now) o self.now
+            → lane_origin (plan job.now) (state_of (plan job.now) state.now) o packet self.now.byte ≡ named result }
     {
         job.valid();
         if state.lane_holds(packet, self.byte as usize) {
@@ -107,7 +110,8 @@ impl Trace {
         requires fits { IsTraceOf (plan job.now) self.old }
         requires packet { IsPacket (plan job.now) packet }
         requires entry { entry < length (packet_of (plan job.now) packet).reads }
-        ensures { OnOk result (Follows (plan job.now) self.old (Read packet entry) (state_of (plan job.now) state.now) self.new) }
+        ensures { OnOk result
+            (Follows (plan job.now) self.old (Read packet entry) (state_of (plan job.now) state.now) self.new) }
     {
         if !self.is_read_as(job, packet as usize, entry as usize) {
             return Ok(());
@@ -126,7 +130,10 @@ impl Trace {
         requires fits { IsTraceOf (plan job.now) self.old }
         requires packet { IsPacket (plan job.now) packet }
         requires entry { entry < length (packet_of (plan job.now) packet).writes }
-        ensures { self.new ≡ record self.old { lanes = noted self.old (slice_index (packet_of (plan job.now) packet).writes entry) self.old.lanes packet (StoredBy packet) } }
+        ensures { self.new ≡ record self.old {
+          lanes = noted self.old
+              (slice_index (packet_of (plan job.now) packet).writes entry) self.old.lanes packet (StoredBy packet);
+        } }
     {
         if write_at(job, packet as usize, entry as usize) == self.byte as usize {
             self.lanes.put(packet as usize, Origin::StoredBy { packet });
@@ -137,7 +144,10 @@ impl Trace {
     fn note_lane_push(&mut self, job: &Job, packet: u32, byte: u32)
         requires fits { IsTraceOf (plan job.now) self.old }
         requires packet { IsPacket (plan job.now) packet }
-        ensures { self.new ≡ record self.old { agents = noted self.old byte self.old.agents (agent_of (plan job.now) packet) (slice_index_or self.old.lanes packet Start) } }
+        ensures { self.new ≡ record self.old {
+          agents = noted self.old byte self.old.agents
+              (agent_of (plan job.now) packet) (slice_index_or self.old.lanes packet Start);
+        } }
     {
         job.valid();
         if byte == self.byte {
@@ -149,7 +159,8 @@ impl Trace {
     /// Notes that an agent's copy was written back to memory.
     fn note_agent_push(&mut self, agent: u32, byte: u32)
         requires { agent < length self.old.agents }
-        ensures { self.new ≡ record self.old { memory = if byte == self.old.byte then slice_index_or self.old.agents agent Start else self.old.memory } }
+        ensures { self.new ≡ record self.old
+            { memory = if byte == self.old.byte then slice_index_or self.old.agents agent Start else self.old.memory } }
     {
         if byte == self.byte {
             self.memory = self.agents.get(agent as usize);
@@ -161,7 +172,10 @@ impl Trace {
         requires is { IsStateOf (plan job.now) state.now }
         requires fits { IsTraceOf (plan job.now) self.old }
         requires packet { IsPacket (plan job.now) packet }
-        ensures { (x : OriginOf) × (self.new ≡ record self.old { lanes = noted self.old byte self.old.lanes packet x }) × ((o : Origins) → TellsCopies (plan job.now) o self.old → agent_origin (state_of (plan job.now) state.now) o (agent_of (plan job.now) packet) self.old.byte ≡ named x) }
+        ensures { (x : OriginOf) × (self.new ≡ record self.old { lanes = noted self.old byte self.old.lanes packet x })
+            × ((o : Origins) → TellsCopies (plan job.now) o self.old
+            → agent_origin (state_of (plan job.now) state.now) o
+            (agent_of (plan job.now) packet) self.old.byte ≡ named x) }
     {
         job.valid();
         let origin = self.seen_by_agent(job, state, agent_of(job, packet as usize));
@@ -185,7 +199,9 @@ impl Trace {
         requires is { IsStateOf (plan job.now) state.now }
         requires fits { IsTraceOf (plan job.now) self.old }
         requires comes { IfSome (single_of event) (λ e. Comes (plan job.now) e (state_of (plan job.now) state.now)) }
-        ensures { OnOk result (IfSome (single_of event) (λ e. Follows (plan job.now) self.old e (state_of (plan job.now) state.now) self.new)) }
+        ensures { OnOk result
+            (IfSome (single_of event)
+            (λ e. Follows (plan job.now) self.old e (state_of (plan job.now) state.now) self.new)) }
     {
         match event {
             Event::Read { packet, entry } => return self.note_read(job, state, packet, entry),

@@ -8,7 +8,8 @@ use hq_fence::{Kind, Why};
 use hq_machine::Journal;
 use std::marker::Model;
 
-/// Two runs of a job that isn't ordered in which a place has another origin, and the conflict that an audit of the job refuses.
+/// Two runs of a job that isn't ordered in which a place has another origin, and the conflict that an audit of the
+/// job refuses.
 #[derive(Drop)]
 pub struct Witness {
     pub(crate) p: u16,
@@ -27,7 +28,17 @@ impl Model for Witness {
 
     ghost Value = { WitnessValue };
 
-    ghost view = { λ w. record { p = w.p; r = w.r; kind = w.kind; why = w.why; place = w.place; good = w.good; good_origin = w.good_origin; bad = w.bad; bad_origin = w.bad_origin } };
+    ghost view = { λ w. record {
+      p = w.p;
+      r = w.r;
+      kind = w.kind;
+      why = w.why;
+      place = w.place;
+      good = w.good;
+      good_origin = w.good_origin;
+      bad = w.bad;
+      bad_origin = w.bad_origin;
+    } };
 }
 
 impl Witness {
@@ -60,8 +71,8 @@ impl Witness {
         self.place
     }
 
-    /// The run that goes right first: where the packets of the conflict are ordered, the one that takes all packets one by one, and
-    /// otherwise the one that takes them in their order.
+    /// The run that goes right first: where the packets of the conflict are ordered, the one that takes all packets
+    /// one by one, and otherwise the one that takes them in their order.
     pub fn good(&self) -> &Journal
         ensures { result.now ≡ self.now.good }
     {

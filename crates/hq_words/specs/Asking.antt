@@ -3,7 +3,8 @@ use Rattle.std.specs.Prelude.{◌≡◌, Bool, false, List, [], ◌∷◌, Optio
 use Rattle.std.specs.Str.{bytes_eq}
 use Rattle.clap.specs.Words.{Row, Text, first_of, all_of}
 use Rattle.hq_words.specs.declared.words.Asked.{Asked}
-use Rattle.hq_words.specs.declared.words.Asked.TheVariants.{Show, Pack, Audit, Check, Run, Replay, Chart, Graph, Explain, Witness, Fix, Trim}
+use Rattle.hq_words.specs.declared.words.Asked.TheVariants.{Show, Pack, Audit, Check, Run, Replay, Chart, Graph}
+use Rattle.hq_words.specs.declared.words.Asked.TheVariants.{Explain, Witness, Fix, Trim}
 use Rattle.hq_words.specs.declared.words.WordsFault.{WordsFault}
 use Rattle.hq_words.specs.declared.words.WordsFault.TheVariants.{Words, Memory}
 
@@ -17,26 +18,35 @@ abbrev pub is_set : Option Text → Bool
 is_set None = false
 is_set (Some word) = bytes_eq word (codes "true")
 
--- a command that takes files, with the words for these: a job, a certificate, a timeline to read, a file to write one to; whether copies are
--- asked for; which pair is, by its first packet and its second, and whether all are
-abbrev pub AsksWith : Text → Option Text → Option Text → Option Text → Option Text → Option Text → Option Text → Option Text → Option Text → Asked → Type 0
+-- a command that takes files, with the words for these: a job, a certificate, a timeline to read, a file to write
+-- one to; whether copies are asked for; which pair is, by its first packet and its second, and whether all are
+abbrev pub AsksWith : Text → Option Text → Option Text → Option Text → Option Text → Option Text → Option Text
+    → Option Text → Option Text → Asked → Type 0
 AsksWith name job certificate timeline out copies pair second all (Show a) = (name ≡ codes "show") × (job ≡ Some a.now)
 AsksWith name job certificate timeline out copies pair second all (Pack words) = ⊥
 AsksWith name job certificate timeline out copies pair second all (Witness a b c) = ⊥
-AsksWith name job certificate timeline out copies pair second all (Audit a) = (name ≡ codes "audit") × (job ≡ Some a.now)
-AsksWith name job certificate timeline out copies pair second all (Check a b) = (name ≡ codes "check") × (job ≡ Some a.now) × (certificate ≡ Some b.now)
-AsksWith name job certificate timeline out copies pair second all (Run a b) = (name ≡ codes "run") × (job ≡ Some a.now) × (out ≡ option_map (λ o. o.now) b)
-AsksWith name job certificate timeline out copies pair second all (Replay a b) = (name ≡ codes "replay") × (job ≡ Some a.now) × (timeline ≡ Some b.now)
-AsksWith name job certificate timeline out copies pair second all (Chart a b c) = (name ≡ codes "chart") × (job ≡ Some a.now) × (timeline ≡ Some b.now) × (c ≡ is_set copies)
-AsksWith name job certificate timeline out copies pair second all (Graph a) = (name ≡ codes "graph") × (job ≡ Some a.now)
+AsksWith name job certificate timeline out copies pair second all (Audit a) = (name ≡ codes "audit")
+    × (job ≡ Some a.now)
+AsksWith name job certificate timeline out copies pair second all (Check a b) = (name ≡ codes "check")
+    × (job ≡ Some a.now) × (certificate ≡ Some b.now)
+AsksWith name job certificate timeline out copies pair second all (Run a b) = (name ≡ codes "run") × (job ≡ Some a.now)
+    × (out ≡ option_map (λ o. o.now) b)
+AsksWith name job certificate timeline out copies pair second all (Replay a b) = (name ≡ codes "replay")
+    × (job ≡ Some a.now) × (timeline ≡ Some b.now)
+AsksWith name job certificate timeline out copies pair second all (Chart a b c) = (name ≡ codes "chart")
+    × (job ≡ Some a.now) × (timeline ≡ Some b.now) × (c ≡ is_set copies)
+AsksWith name job certificate timeline out copies pair second all (Graph a) = (name ≡ codes "graph")
+    × (job ≡ Some a.now)
 AsksWith name job certificate timeline out copies pair second all (Fix a) = (name ≡ codes "fix") × (job ≡ Some a.now)
 AsksWith name job certificate timeline out copies pair second all (Trim a) = (name ≡ codes "trim") × (job ≡ Some a.now)
-AsksWith name job certificate timeline out copies pair second all (Explain a b c d) = (name ≡ codes "explain") × (job ≡ Some a.now) × (pair ≡ option_map (λ p. p.now) b) × (second ≡ option_map (λ p. p.now) c) × (d ≡ is_set all)
+AsksWith name job certificate timeline out copies pair second all (Explain a b c d) = (name ≡ codes "explain")
+    × (job ≡ Some a.now) × (pair ≡ option_map (λ p. p.now) b) × (second ≡ option_map (λ p. p.now) c) × (d ≡ is_set all)
 
 -- a command that takes a job alone, whatever other words there are
 abbrev pub AsksAlone : Text → Text → Asked → Type 0
 AsksAlone name job asked =
-    (certificate timeline out copies pair second all : Option Text) → AsksWith name (Some job) certificate timeline out copies pair second all asked
+    (certificate timeline out copies pair second all : Option Text)
+    → AsksWith name (Some job) certificate timeline out copies pair second all asked
 
 -- a command that takes a job and a second file, whatever is said of pairs
 abbrev pub AsksOfTwo : Text → Text → Option Text → Option Text → Option Text → Option Text → Asked → Type 0
@@ -46,14 +56,18 @@ AsksOfTwo name job certificate timeline out copies asked =
 -- so it is with the words that stand for the arguments
 abbrev pub AsksOf : Text → List Row → Asked → Type 0
 AsksOf name rows asked =
-    AsksWith name (first_of (codes "JOB") rows) (first_of (codes "CERT") rows) (first_of (codes "TIMELINE") rows) (first_of (codes "OUT") rows) (first_of (codes "COPIES") rows) (first_of (codes "PAIR") rows)
+    AsksWith name (first_of (codes "JOB") rows) (first_of (codes "CERT") rows) (first_of (codes "TIMELINE") rows)
+    (first_of (codes "OUT") rows) (first_of (codes "COPIES") rows) (first_of (codes "PAIR") rows)
     (first_of (codes "SECOND") rows) (first_of (codes "ALL") rows) asked
 
 -- the command of this name, with these arguments, is what is asked for
 abbrev pub AsksFor : Text → List Row → Asked → Type 0
-AsksFor name rows (Pack words) = (name ≡ codes "pack") × (all_of (codes "WORDS") rows ≡ Some (map (λ w. w.now) words.items))
+AsksFor name rows (Pack words) = (name ≡ codes "pack")
+    × (all_of (codes "WORDS") rows ≡ Some (map (λ w. w.now) words.items))
 AsksFor name rows (Witness a b c) =
-    (name ≡ codes "witness") × (first_of (codes "JOB") rows ≡ Some a.now) × (first_of (codes "GOOD") rows ≡ option_map (λ o. o.now) b) × (first_of (codes "BAD") rows ≡ option_map (λ o. o.now) c)
+    (name ≡ codes "witness") × (first_of (codes "JOB") rows ≡ Some a.now)
+    × (first_of (codes "GOOD") rows ≡ option_map (λ o. o.now) b)
+    × (first_of (codes "BAD") rows ≡ option_map (λ o. o.now) c)
 AsksFor name rows (Show a) = AsksOf name rows (Show a)
 AsksFor name rows (Audit a) = AsksOf name rows (Audit a)
 AsksFor name rows (Check a b) = AsksOf name rows (Check a b)

@@ -47,7 +47,8 @@ abbrev pub all_rule : Rule
 all_rule = record (new_rule (codes "ALL")) { long = Some (codes "all"); action = Some SetTrue }
 
 abbrev pub explain_app : App
-explain_app = with_rule (with_rule (with_rule (with_rule (new_app (codes "explain")) job_rule) pair_rule) second_rule) all_rule
+explain_app = with_rule
+    (with_rule (with_rule (with_rule (new_app (codes "explain")) job_rule) pair_rule) second_rule) all_rule
 
 -- not words by their places, but the ones behind `--good` and `--bad`
 abbrev pub good_rule : Rule
@@ -84,7 +85,8 @@ program_app =
     let new = new_app (codes "hsaq") in
     record new { top = record new.top { has_version = true; no_binary_name = true; subcommand_required = true } }
 
--- the program with the commands that judge a job, then those of runs, those that explain a job, those that change it, and all
+-- the program with the commands that judge a job, then those of runs, those that explain a job, those that change
+-- it, and all
 abbrev pub judging_app : App
 judging_app = with_subcommand (with_subcommand program_app audit_app.top) check_app.top
 
@@ -92,7 +94,8 @@ abbrev pub running_app : App
 running_app = with_subcommand (with_subcommand (with_subcommand judging_app run_app.top) replay_app.top) chart_app.top
 
 abbrev pub telling_app : App
-telling_app = with_subcommand (with_subcommand (with_subcommand running_app graph_app.top) explain_app.top) witness_app.top
+telling_app = with_subcommand
+    (with_subcommand (with_subcommand running_app graph_app.top) explain_app.top) witness_app.top
 
 abbrev pub changing_app : App
 changing_app = with_subcommand (with_subcommand telling_app fix_app.top) trim_app.top

@@ -3,7 +3,11 @@
 ghost use Rattle.std.specs.Prelude.{◌≡◌, IfOk, IsOkAnd, false};
 ghost use Rattle.clap.specs.Words.{app_of, new_app, rule_of, with_rule, with_subcommand};
 ghost use Rattle.clap.specs.declared.builder.command.Command.TheViews.{out-Command as fields_of};
-ghost use Rattle.hq_words.specs.Commands.{job_rule, file_rule, timeline_rule, show_app, audit_app, check_app, out_rule, pack_app, replay_app, copies_rule, chart_app, graph_app, pair_rule, second_rule, all_rule, words_rule, explain_app, good_rule, bad_rule, witness_app, fix_app, trim_app, run_app, program_app, judging_app, running_app, telling_app, changing_app, hsaq_app};
+ghost use Rattle.hq_words.specs.Commands.{job_rule, file_rule, timeline_rule, show_app, audit_app, check_app};
+ghost use Rattle.hq_words.specs.Commands.{out_rule, pack_app, replay_app, copies_rule, chart_app, graph_app};
+ghost use Rattle.hq_words.specs.Commands.{pair_rule, second_rule, all_rule, words_rule, explain_app, good_rule};
+ghost use Rattle.hq_words.specs.Commands.{bad_rule, witness_app, fix_app, trim_app, run_app, program_app};
+ghost use Rattle.hq_words.specs.Commands.{judging_app, running_app, telling_app, changing_app, hsaq_app};
 
 use clap::{Arg, ArgAction, Command};
 use std::alloc::{AllocError, Global};
@@ -158,7 +162,9 @@ fn good<'a>(alloc: Global) -> Arg<'a>
         .long("good")
         .value_name("OUT")
         .action(ArgAction::Set)
-        .help("Writes the timeline of the run that goes right to the file OUT, as `replay` reads it")
+        .help(
+            "Writes the timeline of the run that goes right to the file OUT, as `replay` reads it",
+        )
 }
 
 /// The option `--bad OUT`.
@@ -207,8 +213,12 @@ fn taking<'a>(
     command: Result<Command<'a>, AllocError>,
     argument: Arg<'a>,
 ) -> Result<Command<'a>, AllocError>
-    ensures app { IfOk result (λ c. IsOkAnd command.entry (λ w. argument.entry.global ≡ false → app_of c ≡ with_rule (app_of w) (rule_of argument.entry))) }
-    ensures local { IfOk result (λ c. IsOkAnd command.entry (λ w. argument.entry.global ≡ false → (fields_of w).has_globals ≡ false → (fields_of c).has_globals ≡ false)) }
+    ensures app { IfOk result
+        (λ c. IsOkAnd command.entry
+        (λ w. argument.entry.global ≡ false → app_of c ≡ with_rule (app_of w) (rule_of argument.entry))) }
+    ensures local { IfOk result
+        (λ c. IsOkAnd command.entry
+        (λ w. argument.entry.global ≡ false → (fields_of w).has_globals ≡ false → (fields_of c).has_globals ≡ false)) }
 {
     command?.arg(argument)
 }
@@ -411,7 +421,10 @@ fn with<'a>(
     command: Result<Command<'a>, AllocError>,
     below: Result<Command<'a>, AllocError>,
 ) -> Result<Command<'a>, AllocError>
-    ensures { IfOk result (λ c. IsOkAnd command.entry (λ w. IsOkAnd below.entry (λ b. (fields_of b).has_globals ≡ false → app_of c ≡ with_subcommand (app_of w) (app_of b).top))) }
+    ensures { IfOk result
+        (λ c. IsOkAnd command.entry
+        (λ w. IsOkAnd below.entry
+        (λ b. (fields_of b).has_globals ≡ false → app_of c ≡ with_subcommand (app_of w) (app_of b).top))) }
 {
     let below = below?;
     command?.subcommand(below)

@@ -73,7 +73,8 @@ pub enum Asked<'a> {
     },
 }
 
-/// Why nothing is asked for. `Words` has what `clap` says of the words: a fault, or the help or version that they ask for.
+/// Why nothing is asked for. `Words` has what `clap` says of the words: a fault, or the help or version that they
+/// ask for.
 #[derive(Debug, Drop)]
 pub enum WordsFault {
     Words(Error),
@@ -95,7 +96,8 @@ static AUDIT: [&str; 2] = ["audit", "@"];
 
 /// What `clap` makes of the words.
 fn matches_of<'a>(alloc: Global, words: &'a [&'a str]) -> Result<ArgMatches<'a>, WordsFault>
-    ensures found { IfOk result (λ m. subcommand_rows_of m ≡ subcommand_of hsaq_app (map (λ w. w.now) words.entry.now)) }
+    ensures found { IfOk result
+        (λ m. subcommand_rows_of m ≡ subcommand_of hsaq_app (map (λ w. w.now) words.entry.now)) }
     ensures refused { IfErr result (λ f. IsWords f → takes hsaq_app (map (λ w. w.now) words.entry.now) ≢ true) }
 {
     let command = hsaq(alloc)?;
@@ -110,7 +112,8 @@ fn matches_of<'a>(alloc: Global, words: &'a [&'a str]) -> Result<ArgMatches<'a>,
 
 /// The values of WORDS.
 fn pack_words<'a>(alloc: Global, own: &ArgMatches<'a>) -> Result<Vec<&'a str>, AllocError>
-    ensures { IfOk result (λ words. all_of (codes "WORDS") (rows_of (found_of own.now)) ≡ Some (map (λ w. w.now) words.items)) }
+    ensures { IfOk result
+        (λ words. all_of (codes "WORDS") (rows_of (found_of own.now)) ≡ Some (map (λ w. w.now) words.items)) }
 {
     match own.get_strs("WORDS") {
         Some(words) => Vec::from_slice(alloc, words),
@@ -198,7 +201,10 @@ fn asked_of_two<'a>(
     out: Option<&'a str>,
     copies: Option<&'a str>,
 ) -> Option<Asked<'a>>
-    ensures { IfSome result (AsksOfTwo name.now job.entry.now (option_map (λ c. c.now) certificate.entry) (option_map (λ t. t.now) timeline.entry) (option_map (λ o. o.now) out.entry) (option_map (λ f. f.now) copies.entry)) }
+    ensures { IfSome result
+        (AsksOfTwo name.now job.entry.now (option_map (λ c. c.now) certificate.entry)
+        (option_map (λ t. t.now) timeline.entry) (option_map (λ o. o.now) out.entry)
+        (option_map (λ f. f.now) copies.entry)) }
 {
     if name == "run" {
         return Some(Asked::Run { job, timeline: out });
@@ -235,7 +241,11 @@ fn asked_of_files<'a>(
     second: Option<&'a str>,
     all: Option<&'a str>,
 ) -> Option<Asked<'a>>
-    ensures { IfSome result (AsksWith name.now (option_map (λ j. j.now) job.entry) (option_map (λ c. c.now) certificate.entry) (option_map (λ t. t.now) timeline.entry) (option_map (λ o. o.now) out.entry) (option_map (λ f. f.now) copies.entry) (option_map (λ p. p.now) pair.entry) (option_map (λ p. p.now) second.entry) (option_map (λ f. f.now) all.entry)) }
+    ensures { IfSome result
+        (AsksWith name.now (option_map (λ j. j.now) job.entry) (option_map (λ c. c.now) certificate.entry)
+        (option_map (λ t. t.now) timeline.entry) (option_map (λ o. o.now) out.entry)
+        (option_map (λ f. f.now) copies.entry) (option_map (λ p. p.now) pair.entry)
+        (option_map (λ p. p.now) second.entry) (option_map (λ f. f.now) all.entry)) }
 {
     let job = job?;
     if name == "explain" {
@@ -268,8 +278,8 @@ fn asked_of<'a>(alloc: Global, words: &'a [&'a str]) -> Result<Asked<'a>, WordsF
     }
 }
 
-/// What the words behind the program's name ask for; no words at all ask for `audit @`. `Words` comes only where there are
-/// words and `clap`'s definition takes none of this form.
+/// What the words behind the program's name ask for; no words at all ask for `audit @`. `Words` comes only where
+/// there are words and `clap`'s definition takes none of this form.
 pub fn command_of<'a>(alloc: Global, words: &'a [&'a str]) -> Result<Asked<'a>, WordsFault>
     ensures asked { IfOk result (Asks (subcommand_of hsaq_app (words_or_audit (map (λ w. w.now) words.entry.now)))) }
     ensures some { IfErr result (λ f. IsWords f → words.entry.now ≢ []) }
