@@ -38,16 +38,16 @@ impl Range {
         self.end() <= 1 << 64
     }
 
-    /// Whether both ranges have bytes, and each begins before the other ends.
+    /// Whether both ranges have bytes, and each begins before the other ends. Only the one that begins first can end too early.
+    #[inline(always)]
     fn meets(self, other: Range) -> bool
         ensures { IsTrue result ↔ Overlap self other }
     {
-        if self.len == 0 || other.len == 0 {
-            return false;
+        if self.at < other.at {
+            other.len != 0 && other.at - self.at < self.len
+        } else {
+            self.len != 0 && self.at - other.at < other.len
         }
-        let before = (self.at as u128) < other.end();
-        let after = (other.at as u128) < self.end();
-        before && after
     }
 
     /// Whether some byte is in both ranges.
