@@ -8,7 +8,7 @@ use Rattle.hq_machine.specs.declared.event.Event.TheVariants as event
 use Rattle.hq_timeline.specs.Grammar.{EventFits, event_words, end_words, journal_words}
 use Rattle.hq_timeline.specs.Printed.{ReadBack}
 
-plain_event : (e : Event) → EventFits e → PlainLine (event_words e)
+pub plain_event : (e : Event) → EventFits e → PlainLine (event_words e)
 plain_event event.Submit h = plain_line _ [] refl tt
 plain_event (event.Launch a) h = plain_line _ _ refl (plain_number a h, tt)
 plain_event (event.Observe a b) h = plain_line _ _ refl (plain_number a h.0, (plain_number b h.1, tt))

@@ -1,112 +1,115 @@
--- What one pass over a line finds is what its words say.
-use Rattle.std.proofs.Common.{◌≡◌, ◌≢◌, ℕ, ◌+◌, ◌-◌, ◌*◌, ◌<◌, ◌≤◌, ◌&&◌, Bool, true, false, cond, List, [], ◌∷◌, Option, Some, None, Ok, refl, sym, ap, subst, ◌∙◌, arith, eqb, leb, ltb, codes, ◌++◌}
-use Rattle.std.specs.List.{onto_first}
+-- What one pass over a text finds, and that it is taken in.
+use Rattle.std.proofs.Common.{◌≡◌, ◌≢◌, ℕ, ◌+◌, ◌-◌, ◌*◌, ◌^◌, ◌<◌, ◌≤◌, ◌&&◌, Bool, true, false, cond, List, [], ◌∷◌, ◌++◌, length, get_or, take, Option, Some, None, Ok, refl, sym, ap, subst, ◌∙◌, arith, ltb, append_assoc, append-nil, length-append, zero, suc, add-one, eqb}
+use Rattle.std.proofs.Math.Nat.{pow-suc, pow-le-pow_right}
+use Rattle.std.specs.Prelude.{MatchOption, IfSome, codes}
+use Rattle.std.specs.Fmt.{decimal}
 use Rattle.std.specs.Bool.{Decides}
-use Rattle.std.specs.Prelude.{MatchOption, IfSome}
-use Rattle.std.proofs.lemmas.Bool.{leb-true, lt-ltb, eqb-true, ne_eqb, eq-eqb, cond-true, cond-false}
-use Rattle.hq_text.specs.Lines.{words_of}
-use Rattle.hq_text.specs.Numbers.{is_digit, read_on, number_of}
-use Rattle.hq_text.proofs.InTurn.{both}
-use Rattle.hq_timeline.specs.declared.kinds.TwoNumbers.{TwoNumbers}
-use Rattle.hq_timeline.specs.declared.kinds.TwoNumbers.TheVariants as two
-use Rattle.hq_timeline.specs.declared.draft.Stage.TheVariants as stage
-use Rattle.hq_timeline.specs.LineTests.{number_said, small, two_kind, event_of_two, two_said, event_said, is_last}
-use Rattle.hq_timeline.specs.TextStates.{State, added, add_content, add_event, with_event}
-use Rattle.hq_timeline.specs.OnePass.{words_behind, digits_on, EndsWord, NumberAhead, BothNumbers, EventAhead}
+use Rattle.std.proofs.lemmas.Bool.{lt-ltb, le-leb, eqb-true, ne_eqb, eq-eqb, cond-true, cond-false}
+use Rattle.std.proofs.lemmas.Fmt.{decimal_digit}
+use Rattle.std.proofs.lemmas.List.{take_more}
+use Rattle.hq_text.specs.LineByLine.{AdmitsAll}
+use Rattle.hq_text.specs.Lines.{lines_of}
+use Rattle.hq_text.specs.Numbers.{is_digit, read_on, number_of, IsNumber}
+use Rattle.hq_text.specs.Printed.{spaced, line_text}
+use Rattle.hq_text.proofs.LineByLine.{Taken, admits_both, admits_more}
+use Rattle.hq_text.proofs.NumberLaws.{number_tells}
+use Rattle.hq_text.proofs.Printed.{line_first}
 use Rattle.hq_machine.specs.declared.event.Event.{Event}
+use Rattle.hq_machine.specs.declared.event.Event.TheVariants as event
+use Rattle.hq_timeline.specs.declared.draft.Stage.TheVariants as stage
+use Rattle.hq_timeline.specs.Gives.{TakesAll}
+use Rattle.hq_timeline.specs.Grammar.{event_words, EventFits}
+use Rattle.hq_timeline.specs.OnePass.{DigitsAhead, NumberAhead, BothNumbers, EventAhead, TakenFrom}
+use Rattle.hq_timeline.specs.TextStates.{State, added, add_content, add_event, with_event}
+use Rattle.hq_timeline.proofs.Again.{plain_event}
+use Rattle.hq_timeline.proofs.Parts.{event_is, not_last}
 
--- the word that digits are
-record Found (n : ℕ) (ds : List ℕ) (m : ℕ) (behind : Option (List ℕ)) : Type 0 where
-  word : List ℕ
-  cut : words_of ds ≡ word ∷ words_behind behind
-  reads : read_on n word ≡ Some m
-  fits : m < 4294967296
+-- ---- digits
 
-number_in : Option (ℕ × Option (List ℕ)) → ℕ
-number_in None = 0
-number_in (Some t) = t.0
+-- one digit more
+read_more : (n m d : ℕ) (ds : List ℕ) → read_on n ds ≡ Some m → is_digit d ≡ true → m * 10 + (d - 48) < 18446744073709551616 → read_on n (ds ++ d ∷ []) ≡ Some (m * 10 + (d - 48))
+read_more n m d [] e digit l =
+    let same : n ≡ m = cc in
+    let test : (is_digit d && ltb (n * 10 + (d - 48)) 18446744073709551616) ≡ true = ap (λ b. b && ltb (n * 10 + (d - 48)) 18446744073709551616) digit ∙ lt-ltb (n * 10 + (d - 48)) 18446744073709551616 (subst (λ (k : ℕ). k * 10 + (d - 48) < 18446744073709551616) (sym same) l) in
+    cond-true _ (Some (n * 10 + (d - 48))) None test ∙ ap (λ k. Some (k * 10 + (d - 48))) same
+read_more n m d (x ∷ ds) e digit l = by (is_digit x && ltb (n * 10 + (x - 48)) 18446744073709551616) (λ h. read_more (n * 10 + (x - 48)) m d ds h digit l) e where
+  by : (b : Bool) → (read_on (n * 10 + (x - 48)) ds ≡ Some m → read_on (n * 10 + (x - 48)) (ds ++ d ∷ []) ≡ Some (m * 10 + (d - 48))) → cond b (read_on (n * 10 + (x - 48)) ds) None ≡ Some m
+      → cond b (read_on (n * 10 + (x - 48)) (ds ++ d ∷ [])) None ≡ Some (m * 10 + (d - 48))
+  by true more e = more e
+  by false more e = absurd cc
 
-behind_in : Option (ℕ × Option (List ℕ)) → Option (List ℕ)
-behind_in None = None
-behind_in (Some t) = t.1
+-- a digit, by its distance from `0`
+is_digit_at : (d : ℕ) → 48 ≤ d → d ≤ 57 → is_digit d ≡ true
+is_digit_at d lo hi = rw (le-leb 48 d lo, le-leb d 57 hi) refl
 
-same_pair : (a b : ℕ) (x y : Option (List ℕ)) → ◌≡◌ {A = Option (ℕ × Option (List ℕ))} (Some (a, x)) (Some (b, y)) → (a ≡ b) × (x ≡ y)
-unfolding number_in behind_in
-same_pair a b x y e = (ap number_in e, ap behind_in e)
+-- the digits up to i are the number so far
+pub record ReadSoFar (text : List ℕ) (i number : ℕ) : Type 0 where
+  pub reads : read_on 0 (take i text) ≡ Some number
+  pub bound : number < 10 ^ i
 
-small_digit : (d : ℕ) → is_digit d ≡ true → d ≤ 57
-small_digit d e = leb-true d 57 (both (leb 48 d) (leb d 57) e).1
-
-cut_at : (d : ℕ) (ds : List ℕ) (b : Bool) → eqb d 32 ≡ b → words_of (d ∷ ds) ≡ cond b ([] ∷ words_of ds) (onto_first d (words_of ds))
-cut_at d ds b e = ap (λ t. cond t ([] ∷ words_of ds) (onto_first d (words_of ds))) e
-
-reads_digit : (n d : ℕ) (ds : List ℕ) (m : Option ℕ) → is_digit d ≡ true → n * 10 + (d - 48) < 18446744073709551616 → read_on (n * 10 + (d - 48)) ds ≡ m → read_on n (d ∷ ds) ≡ m
-reads_digit n d ds m e l r = cond-true _ (read_on (n * 10 + (d - 48)) ds) None (ap (λ b. b && ltb (n * 10 + (d - 48)) 18446744073709551616) e ∙ lt-ltb (n * 10 + (d - 48)) 18446744073709551616 l) ∙ r
-
-found : (n : ℕ) (ds : List ℕ) (m : ℕ) (behind : Option (List ℕ)) → n < 4294967296 → digits_on n ds ≡ Some (m, behind) → Found n ds m behind
-found n [] m behind l e =
-    let same = same_pair n m None behind e in
-    record { word = []; cut = ap (λ b. [] ∷ words_behind b) same.1; reads = ap (λ k. Some k) same.0; fits = subst (λ k. k < 4294967296) same.0 l }
-found n (d ∷ ds) m behind l e =
-    at (eqb d 32) (is_digit d && leb n 400000000) refl refl e (λ le. found (n * 10 + (d - 48)) ds m behind le)
-  where
-    at : (b t : Bool) → eqb d 32 ≡ b → (is_digit d && leb n 400000000) ≡ t
-        → cond b (Some (n, Some ds)) (cond t (digits_on (n * 10 + (d - 48)) ds) None) ≡ Some (m, behind)
-        → (n * 10 + (d - 48) < 4294967296 → digits_on (n * 10 + (d - 48)) ds ≡ Some (m, behind) → Found (n * 10 + (d - 48)) ds m behind)
-        → Found n (d ∷ ds) m behind
-    at true t is test h more =
-        let same = same_pair n m (Some ds) behind h in
-        record { word = []; cut = cut_at d ds true is ∙ ap (λ b. [] ∷ words_behind b) same.1; reads = ap (λ k. Some k) same.0; fits = subst (λ k. k < 4294967296) same.0 l }
-    at false true is test h more =
-        let both = both (is_digit d) (leb n 400000000) test in
-        let digit = small_digit d both.0 in
-        let low = leb-true n 400000000 both.1 in
-        let f = more (omega (arith, digit, low)) h in
-        record { word = d ∷ f.word; cut = cut_at d ds false is ∙ ap (onto_first d) f.cut; reads = reads_digit n d f.word (Some m) both.0 (omega (arith, digit, low)) f.reads; fits = f.fits }
-    at false false is test h more = absurd cc
-
-number_reads : (d : ℕ) (ds : List ℕ) (m : ℕ) → d ≢ 48 → read_on 0 (d ∷ ds) ≡ Some m → m < 4294967296 → number_said (d ∷ ds) ≡ Ok m
-unfolding number_said number_of
-number_reads d ds m other r l =
-    let test : number_of (d ∷ ds) ≡ Some m = cond-false (eqb d 48) _ (read_on 0 (d ∷ ds)) (ne_eqb d 48 other) ∙ r in
-    ap small test ∙ cond-true (ltb m 4294967296) (Ok m) _ (lt-ltb m 4294967296 l)
-
--- A word of one character, at which no digit stands.
-one_word : (d : ℕ) (rest : List ℕ) (behind : Option (List ℕ)) → d ≢ 32 → EndsWord rest behind → words_of (d ∷ rest) ≡ (d ∷ []) ∷ words_behind behind
-one_word d rest behind other ends = cut_at d rest false (ne_eqb d 32 other) ∙ ap (onto_first d) ends
-
-zero_said : number_said (48 ∷ []) ≡ Ok 0
-unfolding number_said number_of
-zero_said = refl
-
-pub zero_ahead : (text rest : List ℕ) (d : ℕ) (behind : Option (List ℕ)) → text ≡ d ∷ rest → d ≡ 48 → EndsWord rest behind → NumberAhead text 0 behind
-zero_ahead text rest d behind is zero ends =
+pub one_read : (text : List ℕ) (i number digit b : ℕ) → ReadSoFar text i number → i < length text → b ≡ get_or text i 0 → 48 + digit ≡ b → digit ≤ 9 → number * 10 + digit < 4294967296 → ReadSoFar text (i + 1) (number * 10 + digit)
+one_read text i number digit b so lt is at le small =
+    let found : b - 48 ≡ digit = omega arith in
+    let more : read_on 0 (take i text ++ b ∷ []) ≡ Some (number * 10 + (b - 48)) = read_more 0 number b (take i text) so.reads (is_digit_at b (omega arith) (omega arith)) (omega arith) in
     record {
-      word = 48 ∷ [];
-      cut = ap words_of (is ∙ ap (λ c. c ∷ rest) zero) ∙ one_word 48 rest behind (λ e. absurd (omega (arith, e))) ends;
-      said = zero_said;
+      reads = ap (read_on 0) (take_more text i 0 lt ∙ ap (λ c. take i text ++ c ∷ []) (sym is)) ∙ more ∙ ap (λ k. Some (number * 10 + k)) found;
+      bound = let p : 10 ^ (i + 1) ≡ 10 ^ i * 10 = rw add-one (pow-suc 10 i) in let low = so.bound in omega arith;
     }
 
--- one digit is read
-digit_first : (n d m : ℕ) (ds : List ℕ) (behind : Option (List ℕ)) → d ≢ 32 → digits_on n (d ∷ ds) ≡ Some (m, behind)
-    → (is_digit d ≡ true) × (n ≤ 400000000) × (digits_on (n * 10 + (d - 48)) ds ≡ Some (m, behind))
-digit_first n d m ds behind other e = by (is_digit d && leb n 400000000) refl (sym (cond-false (eqb d 32) (Some (n, Some ds)) _ (ne_eqb d 32 other)) ∙ e)
-  where
-    by : (t : Bool) → (is_digit d && leb n 400000000) ≡ t → cond t (digits_on (n * 10 + (d - 48)) ds) None ≡ Some (m, behind)
-        → (is_digit d ≡ true) × (n ≤ 400000000) × (digits_on (n * 10 + (d - 48)) ds ≡ Some (m, behind))
-    by true test h = let both = both (is_digit d) (leb n 400000000) test in (both.0, leb-true n 400000000 both.1, h)
-    by false test h = absurd cc
+-- eight digits have 32 bits
+eight : (i number : ℕ) → i ≤ 8 → number < 10 ^ i → number < 100000000
+eight i number le l = let p : 10 ^ i ≤ 100000000 = pow-le-pow_right {n = 10} (omega arith) le in omega arith
 
-pub digits_ahead : (text rest : List ℕ) (d m : ℕ) (behind : Option (List ℕ)) → text ≡ d ∷ rest → d ≢ 48 → d ≢ 32 → digits_on 0 text ≡ Some (m, behind) → NumberAhead text m behind
-digits_ahead text rest d m behind is no_zero no_space e =
-    let one = digit_first 0 d m rest behind no_space (ap (digits_on 0) (sym is) ∙ e) in
-    let digit = small_digit d one.0 in
-    let f = found (0 * 10 + (d - 48)) rest m behind (omega (arith, digit)) one.2 in
-    record {
-      word = d ∷ f.word;
-      cut = ap words_of is ∙ cut_at d rest false (ne_eqb d 32 no_space) ∙ ap (onto_first d) f.cut;
-      said = number_reads d f.word m no_zero (reads_digit 0 d f.word (Some m) one.0 (omega (arith, digit)) f.reads) f.fits;
-    }
+pub room_left : (text : List ℕ) (i number digit : ℕ) → ReadSoFar text i number → i < 9 → digit ≤ 9 → number * 10 + digit < 4294967296
+room_left text i number digit so lt le = let low = eight i number (omega arith) so.bound in omega arith
+
+-- digits of which the first isn't `0`
+word_reads : (d : ℕ) (ds : List ℕ) (n : ℕ) → d ≢ 48 → read_on 0 (d ∷ ds) ≡ Some n → d ∷ ds ≡ decimal n
+unfolding number_of
+word_reads d ds n other e =
+    let found : IsNumber (d ∷ ds) n = number_tells (d ∷ ds) (Some n) (sym (cond-false (eqb d 48) _ (read_on 0 (d ∷ ds)) (ne_eqb d 48 other) ∙ e)) in found.0
+
+pub digits_end : (text : List ℕ) (i number : ℕ) → 10 ≤ length text → i < 9 → 0 < i → get_or text 0 0 ≢ 48 → ReadSoFar text i number → DigitsAhead text number i
+digits_end [] i number long lt some other so = absurd (omega arith)
+digits_end (d ∷ more) zero number long lt some other so = absurd (omega arith)
+digits_end (d ∷ more) (suc i) number long lt some other so =
+    let low = eight (suc i) number (omega arith) so.bound in record { goes_on = omega arith; are = word_reads d (take i more) number other so.reads; small = omega arith }
+
+pub zero_digit : (text : List ℕ) → 10 ≤ length text → get_or text 0 0 ≡ 48 → DigitsAhead text 0 1
+zero_digit [] long e = absurd (omega arith)
+zero_digit (d ∷ more) long e = record { goes_on = omega arith; are = ap (λ c. c ∷ []) e ∙ sym (decimal_digit 0 (omega arith)); small = omega arith }
+
+-- ---- words of a line
+
+last_word : (text w rest : List ℕ) → text ≡ w ++ 10 ∷ rest → text ≡ line_text (w ∷ []) ++ rest
+last_word text w rest e = e ∙ sym (append_assoc w (10 ∷ []) rest)
+
+-- a word and its space in front
+word_more : (text w t rest v : List ℕ) (ws : List (List ℕ)) → text ≡ w ++ 32 ∷ t → t ≡ line_text (v ∷ ws) ++ rest → text ≡ line_text (w ∷ v ∷ ws) ++ rest
+word_more text w t rest v ws e f =
+    e ∙ ap (λ r. w ++ 32 ∷ r) f ∙ ap (λ r. w ++ 32 ∷ (r ++ rest)) (sym (append_assoc v (spaced ws) (10 ∷ []))) ∙ sym (append_assoc w (32 ∷ ((v ++ spaced ws) ++ 10 ∷ [])) rest)
+
+-- a name and two numbers
+two_words : (name text t rest : List ℕ) (m n : ℕ) → text ≡ name ++ 32 ∷ t → BothNumbers t m n rest → text ≡ line_text (name ∷ decimal m ∷ decimal n ∷ []) ++ rest
+two_words name text t rest m n e h =
+    word_more text name t rest (decimal m) (decimal n ∷ []) e (word_more t (decimal m) h.mid rest (decimal n) [] h.first.is (last_word h.mid (decimal n) rest h.second.is))
+
+pub read_ahead : (text t rest : List ℕ) (m n : ℕ) → text ≡ codes "read " ++ t → BothNumbers t m n rest → EventAhead text (event.Read m n) rest
+read_ahead text t rest m n e h = record { is = two_words (codes "read") text t rest m n e h; fits = (h.first.small, h.second.small) }
+
+pub store_ahead : (text t rest : List ℕ) (m n : ℕ) → text ≡ codes "store " ++ t → BothNumbers t m n rest → EventAhead text (event.Store m n) rest
+store_ahead text t rest m n e h = record { is = two_words (codes "store") text t rest m n e h; fits = (h.first.small, h.second.small) }
+
+pub lane_ahead : (text t rest : List ℕ) (m n : ℕ) → text ≡ codes "pushlane " ++ t → BothNumbers t m n rest → EventAhead text (event.PushLane m n) rest
+lane_ahead text t rest m n e h = record { is = two_words (codes "pushlane") text t rest m n e h; fits = (h.first.small, h.second.small) }
+
+pub agent_ahead : (text t rest : List ℕ) (m n : ℕ) → text ≡ codes "pushagent " ++ t → BothNumbers t m n rest → EventAhead text (event.PushAgent m n) rest
+agent_ahead text t rest m n e h = record { is = two_words (codes "pushagent") text t rest m n e h; fits = (h.first.small, h.second.small) }
+
+pub both_ahead : (text mid rest : List ℕ) (m n : ℕ) → NumberAhead text m 32 mid → NumberAhead mid n 10 rest → BothNumbers text m n rest
+both_ahead text mid rest m n a b = record { mid = mid; first = a; second = b }
+
+-- ---- prefixes
 
 pub from_match : {X : Type 0} (P : X → Type 0) (N : Type 0) (r : Option X) → MatchOption r N P → IfSome r P
 from_match P N None m = tt
@@ -115,45 +118,40 @@ from_match P N (Some x) m = m
 pub nat_tells : (a b : ℕ) → Decides (eqb a b) (a ≡ b)
 nat_tells a b = (eqb-true a b, eq-eqb a b)
 
--- an event of a name and two numbers
-two_words : (name : List ℕ) (kind : TwoNumbers) (words : List (List ℕ)) (text : List ℕ) (m n : ℕ) → two_kind name ≡ Ok kind → words ≡ name ∷ words_of text → BothNumbers text m n → EventAhead words (event_of_two kind m n)
-unfolding event_said two_said is_last
-two_words name kind words text m n named cut both =
-    let whole : words ≡ name ∷ both.first ∷ both.second ∷ [] = cut ∙ ap (λ ws. name ∷ ws) both.cut in
+-- ---- lines taken in
+
+pub none_taken_from : (text : List ℕ) (s t : State) → s ≡ t → TakenFrom text text 0 s t
+none_taken_from text s t e = record { front = []; whole = refl; counted = refl; admitted = sym e; short = omega arith }
+
+event_added : (s : State) (e : Event) → s.stage ≡ stage.Events → EventFits e → added s (event_words e) ≡ Ok (with_event s e)
+unfolding added add_content add_event
+event_added s e at h = rw (at, not_last e, event_is e h) refl
+
+pub event_taken : (text rest behind : List ℕ) (count : ℕ) (old mid new : State) (e : Event) → TakenFrom text rest count old mid → mid.stage ≡ stage.Events → EventAhead rest e behind → new ≡ with_event mid e → TakenFrom text behind (count + 1) old new
+event_taken text rest behind count old mid new e so at ahead is =
+    let words = event_words e in
+    let first = line_first words behind (plain_event e ahead.fits) in
+    let line = first.line in
     record {
-      said = ap event_said whole ∙ rw (named, both.first_said, both.second_said) refl;
-      inside = ap is_last whole;
+      front = so.front ++ line ∷ [];
+      whole = so.whole ∙ ap (λ r. so.front ++ lines_of r) ahead.is ∙ ap (λ r. so.front ++ r) first.cut ∙ sym (append_assoc so.front (line ∷ []) (lines_of behind));
+      counted = length-append so.front (line ∷ []) ∙ ap (λ n. n + 1) so.counted;
+      admitted = admits_more added so.front old mid new line so.admitted (ap (added mid) first.again ∙ event_added mid e at ahead.fits ∙ ap (λ s. Ok s) (sym is));
+      short = let l = so.short in let n = ap length ahead.is ∙ length-append (line_text words) behind in let some = first.some in omega arith;
     }
 
-read_kind : two_kind (codes "read") ≡ Ok two.Read
-unfolding two_kind
-read_kind = refl
+-- the lines of one pass behind those before
+pub more_taken : (all text rest : List ℕ) (before count taken next : ℕ) (old mid new : State) → Taken added (lines_of all) (lines_of text) before count old mid → TakenFrom text rest taken mid new → next ≡ count + taken → Taken added (lines_of all) (lines_of rest) before next old new
+more_taken all text rest before count taken next old mid new so more number =
+    record {
+      front = so.front ++ more.front;
+      whole = so.whole ∙ ap (λ r. so.front ++ r) more.whole ∙ sym (append_assoc so.front more.front (lines_of rest));
+      counted = let long = length-append so.front more.front in let a = so.counted in let b = more.counted in omega arith;
+      admitted = admits_both added so.front more.front old mid new so.admitted more.admitted;
+    }
 
-store_kind : two_kind (codes "store") ≡ Ok two.Store
-unfolding two_kind
-store_kind = refl
-
-lane_kind : two_kind (codes "pushlane") ≡ Ok two.PushLane
-unfolding two_kind
-lane_kind = refl
-
-agent_kind : two_kind (codes "pushagent") ≡ Ok two.PushAgent
-unfolding two_kind
-agent_kind = refl
-
-pub read_ahead : (text rest : List ℕ) (m n : ℕ) → text ≡ codes "read " ++ rest → BothNumbers rest m n → EventAhead (words_of text) (event_of_two two.Read m n)
-read_ahead text rest m n is both = two_words (codes "read") two.Read (words_of text) rest m n read_kind (ap words_of is) both
-
-pub store_ahead : (text rest : List ℕ) (m n : ℕ) → text ≡ codes "store " ++ rest → BothNumbers rest m n → EventAhead (words_of text) (event_of_two two.Store m n)
-store_ahead text rest m n is both = two_words (codes "store") two.Store (words_of text) rest m n store_kind (ap words_of is) both
-
-pub lane_ahead : (text rest : List ℕ) (m n : ℕ) → text ≡ codes "pushlane " ++ rest → BothNumbers rest m n → EventAhead (words_of text) (event_of_two two.PushLane m n)
-lane_ahead text rest m n is both = two_words (codes "pushlane") two.PushLane (words_of text) rest m n lane_kind (ap words_of is) both
-
-pub agent_ahead : (text rest : List ℕ) (m n : ℕ) → text ≡ codes "pushagent " ++ rest → BothNumbers rest m n → EventAhead (words_of text) (event_of_two two.PushAgent m n)
-agent_ahead text rest m n is both = two_words (codes "pushagent") two.PushAgent (words_of text) rest m n agent_kind (ap words_of is) both
-
--- an event behind the first line
-pub event_added : (s : State) (words : List (List ℕ)) (event : Event) → s.stage ≡ stage.Events → EventAhead words event → added s words ≡ Ok (with_event s event)
-unfolding added add_content add_event
-event_added s words event at ahead = rw (at, ahead.inside, ahead.said) refl
+pub all_taken : (all left : List ℕ) (before n : ℕ) (old s : State) → Taken added (lines_of all) (lines_of left) before n old s → true ≡ eqb (length left) 0 → TakesAll (Ok n) before (lines_of all) old s
+all_taken all [] before n old s t e =
+    let whole = t.whole ∙ append-nil t.front in
+    (sym t.counted ∙ ap (λ ls. before + length ls) (sym whole), subst (λ (ls : List (List ℕ)). AdmitsAll added old ls s) (sym whole) t.admitted)
+all_taken all (b ∷ left) before n old s t e = let none = eqb-true (length (b ∷ left)) 0 (sym e) in absurd (omega arith)

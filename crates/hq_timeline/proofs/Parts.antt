@@ -122,7 +122,7 @@ event_ok (name ∷ a ∷ b ∷ []) event e = two_ok name a b event e
 event_ok (name ∷ a ∷ b ∷ c ∷ more) event e = absurd cc
 
 -- and what is said, the tests give
-event_is : (event : Event) → EventFits event → event_said (event_words event) ≡ Ok event
+pub event_is : (event : Event) → EventFits event → event_said (event_words event) ≡ Ok event
 unfolding event_said plain_said one_said two_said one_kind two_kind
 event_is event.Submit h = refl
 event_is (event.Launch a) h = rw (number_is a h) refl

@@ -12,7 +12,6 @@ use Rattle.hq_model.specs.Job.{Job}
 use Rattle.hq_model.specs.Machine.{State, listed, start}
 use Rattle.hq_model.specs.Journal.{Coarse, Happens, Journal}
 use Rattle.hq_timeline.specs.declared.fault.ReplayFault.{ReplayFault}
-use Rattle.hq_timeline.specs.declared.fault.ReplayFault.TheVariants as fault
 use Rattle.hq_timeline.specs.Replays.{Goes, Stops, FaultOf, Replayed}
 
 -- one event more behind those that led to a state

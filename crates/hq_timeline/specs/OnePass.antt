@@ -1,42 +1,56 @@
+<<<<<<< HEAD
 -- What a line is found to begin with, in one pass over its bytes.
 use Rattle.std.specs.Prelude.{◌≡◌, ℕ, ◌+◌, ◌-◌, ◌*◌, ◌&&◌, List, [], ◌∷◌, false, Option, Some, None, Ok, ◌==◌}
 use Rattle.std.specs.Prelude.{nat_le, if◌then◌else◌}
 use Rattle.hq_text.specs.Lines.{words_of}
 use Rattle.hq_text.specs.Numbers.{is_digit}
+=======
+-- What a text is found to begin with, in one pass over its bytes.
+use Rattle.std.specs.Prelude.{◌≡◌, ℕ, ◌+◌, ◌<◌, ◌≤◌, List, ◌∷◌, ◌++◌, length, take}
+use Rattle.std.specs.Fmt.{decimal}
+use Rattle.hq_text.specs.LineByLine.{AdmitsAll}
+use Rattle.hq_text.specs.Lines.{lines_of}
+use Rattle.hq_text.specs.Printed.{line_text}
+>>>>>>> check/main
 use Rattle.hq_machine.specs.declared.event.Event.{Event}
-use Rattle.hq_timeline.specs.LineTests.{number_said, event_said, is_last}
+use Rattle.hq_timeline.specs.Grammar.{IsSmall, event_words, EventFits}
+use Rattle.hq_timeline.specs.TextStates.{State, added}
 
--- the words behind a word's space; none where there is no space
-abbrev pub words_behind : Option (List ℕ) → List (List ℕ)
-words_behind None = []
-words_behind (Some behind) = words_of behind
+-- the text begins with so many digits, which are the number n, and goes on
+pub record DigitsAhead (text : List ℕ) (n count : ℕ) : Type 0 where
+  pub goes_on : count < length text
+  pub are : take count text ≡ decimal n
+  pub small : IsSmall n
 
+<<<<<<< HEAD
 -- The number that digits are, behind those of n, up to a space or the end, with what stands behind the space; none
 -- where that might be above 4294967295.
 abbrev pub digits_on : ℕ → List ℕ → Option (ℕ × Option (List ℕ))
 digits_on n [] = Some (n, None)
 digits_on n (d ∷ ds) = if d == 32 then Some (n, Some ds) else if is_digit d && nat_le n 400000000 then digits_on
     (n * 10 + (d - 48)) ds else None
+=======
+-- the text is the number n, a byte that ends it, and the rest
+pub record NumberAhead (text : List ℕ) (n stop : ℕ) (rest : List ℕ) : Type 0 where
+  pub is : text ≡ decimal n ++ stop ∷ rest
+  pub small : IsSmall n
+>>>>>>> check/main
 
--- No word is left at the beginning of the text: it is empty, or begins with a space, and behind that there is this.
-abbrev pub EndsWord : List ℕ → Option (List ℕ) → Type 0
-EndsWord text behind = words_of text ≡ [] ∷ words_behind behind
+-- the text is two numbers, a space between them, a line feed, and the rest
+pub record BothNumbers (text : List ℕ) (m n : ℕ) (rest : List ℕ) : Type 0 where
+  pub mid : List ℕ
+  pub first : NumberAhead text m 32 mid
+  pub second : NumberAhead mid n 10 rest
 
--- The text's first word is the number n, and behind its space there is this.
-pub record NumberAhead (text : List ℕ) (n : ℕ) (behind : Option (List ℕ)) : Type 0 where
-  pub word : List ℕ
-  pub cut : words_of text ≡ word ∷ words_behind behind
-  pub said : number_said word ≡ Ok n
+-- the text is the line of an event, and the rest
+pub record EventAhead (text : List ℕ) (event : Event) (rest : List ℕ) : Type 0 where
+  pub is : text ≡ line_text (event_words event) ++ rest
+  pub fits : EventFits event
 
--- The text is two numbers.
-pub record BothNumbers (text : List ℕ) (m n : ℕ) : Type 0 where
-  pub first : List ℕ
-  pub second : List ℕ
-  pub cut : words_of text ≡ first ∷ second ∷ []
-  pub first_said : number_said first ≡ Ok m
-  pub second_said : number_said second ≡ Ok n
-
--- The words say this event, and aren't those of the last line.
-pub record EventAhead (words : List (List ℕ)) (event : Event) : Type 0 where
-  pub said : event_said words ≡ Ok event
-  pub inside : is_last words ≡ false
+-- So many lines of the text were taken in, and the rest is left.
+pub record TakenFrom (text rest : List ℕ) (count : ℕ) (old new : State) : Type 0 where
+  pub front : List (List ℕ)
+  pub whole : lines_of text ≡ front ++ lines_of rest
+  pub counted : length front ≡ count
+  pub admitted : AdmitsAll added old front new
+  pub short : count + length rest ≤ length text

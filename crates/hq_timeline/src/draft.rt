@@ -1,13 +1,15 @@
 //! A journal as far as it is read.
 
-ghost use Rattle.std.specs.Prelude.{◌≡◌, Ok, IsTrue};
+ghost use Rattle.std.specs.Prelude.{◌≡◌, IfOk, IfErr};
 ghost use Rattle.hq_timeline.specs.DraftView.{state_of};
 ghost use Rattle.hq_timeline.specs.Gives.{Gives};
+ghost use Rattle.hq_timeline.specs.OnePass.{TakenFrom};
 ghost use Rattle.hq_timeline.specs.Split.{list_of};
-ghost use Rattle.hq_timeline.specs.TextStates.{start, is_ended, add_head, add_event, add_content, added, with_event};
+ghost use Rattle.hq_timeline.specs.TextStates.{start, is_ended, add_head, add_event, add_content, added};
 
 use crate::fault::TimeReason;
 use crate::kinds::event_said;
+use crate::one_pass;
 use crate::words::Words;
 use hq_machine::{Event, Journal};
 use std::alloc::Global;
@@ -83,21 +85,43 @@ impl Draft {
         }
     }
 
-    /// Whether an event may come next.
-    pub fn is_open(&self) -> bool
-        ensures { IsTrue result → (state_of self.now).stage ≡ Stage.Events }
+    /// Takes in the events that a text begins with, up to a line that isn't in a common form. Answers how many they
+    /// are, and what is left.
+    fn take_events<'a>(&mut self, text: &'a [u8]) -> Result<(usize, &'a [u8]), TimeReason>
+        requires { self.old.stage ≡ Stage.Events }
+        ensures taken { IfOk result (λ t. TakenFrom text.now t.1.now t.0 (state_of self.old) (state_of self.new)) }
+        ensures memory { IfErr result (λ e. e ≡ TimeReason.Memory) }
     {
-        matches!(self.stage, Stage::Events)
+        let mut rest = text;
+        let mut taken = 0;
+        loop {
+            let Some((event, behind)) = one_pass::event(rest) else {
+                return Ok((taken, rest));
+            };
+            self.events.push(event)?;
+            rest = behind;
+            taken += 1;
+        }
     }
 
+<<<<<<< HEAD
     /// Takes in the next event.
     pub fn push(&mut self, event: Event) -> Result<(), TimeReason>
         ensures { (state_of self.old).stage ≡ Stage.Events
             → Gives (λ u. state_of self.new) result (Ok (with_event (state_of self.old) event)) }
+=======
+    /// Takes in the lines that a text begins with, as long as they are in a common form. Answers how many they are,
+    /// and what is left.
+    #[tactic(auto, using(crate::proofs::OnePass::none_taken_from))]
+    pub fn take<'a>(&mut self, text: &'a [u8]) -> Result<(usize, &'a [u8]), TimeReason>
+        ensures taken { IfOk result (λ t. TakenFrom text.now t.1.now t.0 (state_of self.old) (state_of self.new)) }
+        ensures memory { IfErr result (λ e. e ≡ TimeReason.Memory) }
+>>>>>>> check/main
     {
-        self.events.push(event)?;
-        self.stage = Stage::Events;
-        Ok(())
+        match self.stage {
+            Stage::Events => self.take_events(text),
+            _ => Ok((0, text)),
+        }
     }
 
     /// Whether the end was read.

@@ -12,7 +12,6 @@ ghost use Rattle.hq_timeline.specs.TextStates.{added, start};
 
 use crate::draft::Draft;
 use crate::fault::{TimeFault, TimeReason};
-use crate::one_pass;
 use crate::words::Words;
 use hq_machine::Journal;
 use hq_text::first_line;
@@ -39,21 +38,16 @@ fn fault_at(line: usize, reason: TimeReason) -> TimeFault
 fn take_line(draft: &mut Draft, line: &[u8]) -> Result<(), TimeReason>
     ensures { Gives (λ u. state_of draft.new) result (added (state_of draft.old) (words_of line.now)) }
 {
-    if draft.is_open() {
-        if let Some(event) = one_pass::event(line) {
-            return draft.push(event);
-        }
-    }
     draft.add(Words::of_line(line))
 }
 
-/// The number behind a line's.
-fn next_number(line: usize) -> Result<usize, TimeFault>
-    ensures found { IfOk result (λ n. n ≡ line + 1) }
+/// So many lines more.
+fn counted(count: usize, more: usize) -> Result<usize, TimeFault>
+    ensures found { IfOk result (λ n. n ≡ count + more) }
     ensures memory { IfErr result (λ f. f ≡ no_memory) }
 {
-    match line.checked_add(1) {
-        Some(next) => Ok(next),
+    match count.checked_add(more) {
+        Some(sum) => Ok(sum),
         None => Err(NO_MEMORY),
     }
 }
@@ -65,8 +59,16 @@ pub fn take_lines(draft: &mut Draft, before: usize, text: &[u8]) -> Result<usize
     let mut rest = text;
     let mut count = before;
     while !rest.is_empty() {
-        let (line, behind) = first_line(rest);
-        count = next_number(count)?;
+        let (taken, left) = match draft.take(rest) {
+            Ok(found) => found,
+            Err(reason) => return Err(fault_at(count, reason)),
+        };
+        count = counted(count, taken)?;
+        if left.is_empty() {
+            return Ok(count);
+        }
+        let (line, behind) = first_line(left);
+        count = counted(count, 1)?;
         if let Err(reason) = take_line(draft, line) {
             return Err(fault_at(count, reason));
         }
@@ -83,7 +85,7 @@ pub fn finished(draft: Draft, count: usize) -> Result<Journal, TimeFault>
     if draft.is_ended() {
         return Ok(draft.journal());
     }
-    let line = next_number(count)?;
+    let line = counted(count, 1)?;
     Err(TimeFault {
         line,
         reason: TimeReason::NoEnd,

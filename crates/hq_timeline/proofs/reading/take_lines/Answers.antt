@@ -1,16 +1,29 @@
 use Rattle.hq_text.specs.Lines.{lines_of}
 use Rattle.hq_timeline.specs.DraftView.{state_of}
+use Rattle.hq_timeline.proofs.OnePass.{more_taken, all_taken}
 use Rattle.hq_text.proofs.LineByLine.{one_taken}
 use Rattle.hq_timeline.specs.TextStates.{added}
 use Rattle.hq_timeline.proofs.Turns.{none_more}
 use Rattle.hq_timeline.proofs.reading.take_lines.Goals as goal
 
-pub returns-in-Err : goal.returns-in-Err
-returns-in-Err c =
-    none_more (lines_of c.args.text.now) (lines_of c.loop-rest.rest.now) (lines_of c.first_line.result.1.now) c.first_line.result.0.now c.args.before c.loop-rest.count c.in_ok-count.count (state_of c.args.draft.now) (state_of c.loop-rest.draft) (state_of c.take_line.new.draft) c.in-Err.reason
-    c.fault_at.result c.loop-rest.invariant c.first_line.ensures.cut c.in_ok-count.ensures.found c.in-Err.ensures c.fault_at.ensures
+pub returns-then-is_empty : goal.returns-then-is_empty
+returns-then-is_empty c =
+    let text = c.args.text.now in
+    let old = state_of c.args.draft.now in
+    let taken = more_taken text c.loop-rest.rest.now c.in-Ok.found.1.now c.args.before c.loop-rest.count c.in-Ok.found.0 c.in_ok-count.count old (state_of c.loop-rest.draft) (state_of c.take.new.self) c.loop-rest.invariant c.in-Ok.ensures.taken c.in_ok-count.ensures.found in
+    all_taken text c.in-Ok.found.1.now c.args.before c.in_ok-count.count old (state_of c.take.new.self) taken c.if-is_empty.ensures
+
+pub returns-in-Err-take_line : goal.returns-in-Err-take_line
+returns-in-Err-take_line c =
+    let text = c.args.text.now in
+    let old = state_of c.args.draft.now in
+    let taken = more_taken text c.loop-rest.rest.now c.in-Ok.found.1.now c.args.before c.loop-rest.count c.in-Ok.found.0 c.in_ok-count.count old (state_of c.loop-rest.draft) (state_of c.take.new.self) c.loop-rest.invariant c.in-Ok.ensures.taken c.in_ok-count.ensures.found in
+    none_more (lines_of text) (lines_of c.in-Ok.found.1.now) (lines_of c.first_line.result.1.now) c.first_line.result.0.now c.args.before c.in_ok-count.count c.in_ok-count-2.count old (state_of c.take.new.self) (state_of c.take_line.new.draft) c.in-Err-take_line.reason
+    c.fault_at-in-Err-take_line.result taken c.first_line.ensures.cut c.in_ok-count-2.ensures.found c.in-Err-take_line.ensures c.fault_at-in-Err-take_line.ensures
 
 pub loop-rest-preserved : goal.loop-rest-preserved
 loop-rest-preserved c =
-    one_taken added (lines_of c.args.text.now) (lines_of c.loop-rest.rest.now) (lines_of c.first_line.result.1.now) c.first_line.result.0.now c.args.before c.loop-rest.count c.in_ok-count.count (state_of c.args.draft.now) (state_of c.loop-rest.draft) (state_of c.take_line.new.draft) c.loop-rest.invariant
-    c.first_line.ensures.cut c.in_ok-count.ensures.found c.in_default.ensures
+    let text = c.args.text.now in
+    let old = state_of c.args.draft.now in
+    let taken = more_taken text c.loop-rest.rest.now c.in-Ok.found.1.now c.args.before c.loop-rest.count c.in-Ok.found.0 c.in_ok-count.count old (state_of c.loop-rest.draft) (state_of c.take.new.self) c.loop-rest.invariant c.in-Ok.ensures.taken c.in_ok-count.ensures.found in
+    one_taken added (lines_of text) (lines_of c.in-Ok.found.1.now) (lines_of c.first_line.result.1.now) c.first_line.result.0.now c.args.before c.in_ok-count.count c.in_ok-count-2.count old (state_of c.take.new.self) (state_of c.take_line.new.draft) taken c.first_line.ensures.cut c.in_ok-count-2.ensures.found c.in_default.ensures

@@ -1,6 +1,0 @@
-use Rattle.std.proofs.Common.{ap, ◌∙◌, ◌++◌}
-use Rattle.hq_timeline.proofs.OnePass.{agent_ahead}
-use Rattle.hq_timeline.proofs.one_pass.push_agent.Goals as goal
-
-pub returns : goal.returns
-returns c = agent_ahead c.args.line.now c.in_ok-behind.field-0.now c.in_ok-agent.agent c.in_ok-agent.byte (c.in_ok-behind.ensures ∙ ap (λ t. t ++ c.in_ok-behind.field-0.now) c.as_slice.ensures) c.in_ok-agent.ensures
