@@ -1,17 +1,9 @@
-<<<<<<< HEAD
--- What a line is found to begin with, in one pass over its bytes.
-use Rattle.std.specs.Prelude.{◌≡◌, ℕ, ◌+◌, ◌-◌, ◌*◌, ◌&&◌, List, [], ◌∷◌, false, Option, Some, None, Ok, ◌==◌}
-use Rattle.std.specs.Prelude.{nat_le, if◌then◌else◌}
-use Rattle.hq_text.specs.Lines.{words_of}
-use Rattle.hq_text.specs.Numbers.{is_digit}
-=======
 -- What a text is found to begin with, in one pass over its bytes.
 use Rattle.std.specs.Prelude.{◌≡◌, ℕ, ◌+◌, ◌<◌, ◌≤◌, List, ◌∷◌, ◌++◌, length, take}
 use Rattle.std.specs.Fmt.{decimal}
 use Rattle.hq_text.specs.LineByLine.{AdmitsAll}
 use Rattle.hq_text.specs.Lines.{lines_of}
 use Rattle.hq_text.specs.Printed.{line_text}
->>>>>>> check/main
 use Rattle.hq_machine.specs.declared.event.Event.{Event}
 use Rattle.hq_timeline.specs.Grammar.{IsSmall, event_words, EventFits}
 use Rattle.hq_timeline.specs.TextStates.{State, added}
@@ -22,19 +14,10 @@ pub record DigitsAhead (text : List ℕ) (n count : ℕ) : Type 0 where
   pub are : take count text ≡ decimal n
   pub small : IsSmall n
 
-<<<<<<< HEAD
--- The number that digits are, behind those of n, up to a space or the end, with what stands behind the space; none
--- where that might be above 4294967295.
-abbrev pub digits_on : ℕ → List ℕ → Option (ℕ × Option (List ℕ))
-digits_on n [] = Some (n, None)
-digits_on n (d ∷ ds) = if d == 32 then Some (n, Some ds) else if is_digit d && nat_le n 400000000 then digits_on
-    (n * 10 + (d - 48)) ds else None
-=======
 -- the text is the number n, a byte that ends it, and the rest
 pub record NumberAhead (text : List ℕ) (n stop : ℕ) (rest : List ℕ) : Type 0 where
   pub is : text ≡ decimal n ++ stop ∷ rest
   pub small : IsSmall n
->>>>>>> check/main
 
 -- the text is two numbers, a space between them, a line feed, and the rest
 pub record BothNumbers (text : List ℕ) (m n : ℕ) (rest : List ℕ) : Type 0 where

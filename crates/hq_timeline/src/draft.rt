@@ -104,19 +104,12 @@ impl Draft {
         }
     }
 
-<<<<<<< HEAD
-    /// Takes in the next event.
-    pub fn push(&mut self, event: Event) -> Result<(), TimeReason>
-        ensures { (state_of self.old).stage ≡ Stage.Events
-            → Gives (λ u. state_of self.new) result (Ok (with_event (state_of self.old) event)) }
-=======
     /// Takes in the lines that a text begins with, as long as they are in a common form. Answers how many they are,
     /// and what is left.
     #[tactic(auto, using(crate::proofs::OnePass::none_taken_from))]
     pub fn take<'a>(&mut self, text: &'a [u8]) -> Result<(usize, &'a [u8]), TimeReason>
         ensures taken { IfOk result (λ t. TakenFrom text.now t.1.now t.0 (state_of self.old) (state_of self.new)) }
         ensures memory { IfErr result (λ e. e ≡ TimeReason.Memory) }
->>>>>>> check/main
     {
         match self.stage {
             Stage::Events => self.take_events(text),

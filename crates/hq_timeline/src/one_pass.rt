@@ -1,10 +1,5 @@
-<<<<<<< HEAD
-//! The commonest lines of single steps, read in one pass over their bytes. A line that isn't read here is left to
-//! the readers of words, which tell what is wrong with it.
-=======
 //! The commonest lines of single steps, read in one pass over their bytes. A line that isn't read here is left to the
 //! readers of words, which tell what is wrong with it.
->>>>>>> check/main
 
 ghost use Rattle.std.specs.Prelude.{◌≡◌, ◌++◌, IfSome};
 ghost use Rattle.hq_timeline.specs.OnePass.{DigitsAhead, NumberAhead, BothNumbers, EventAhead};
