@@ -130,8 +130,8 @@ fn say_heads(rt: &HostRuntime, changed: &Changed) -> Counts {
 
 /// Says which heads were changed; where the job goes without what it doesn't need, how much that is. Where standard
 /// error fails, nothing is said.
-pub fn say_changes(rt: &HostRuntime, changed: &Changed, aim: Aim) {
-    let counts = say_heads(rt, changed);
+pub fn say_changes(rt: &HostRuntime, changed: Changed, aim: Aim) {
+    let counts = say_heads(rt, &changed);
     if aim == Aim::Trim {
         let _ = eprintln!(rt; "hsaq: {counts}");
     }

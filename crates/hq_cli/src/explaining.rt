@@ -16,7 +16,7 @@ const DRAWN_STUCK: &str = "the packets drawn in red can never complete, in any r
 const DRAWN_CONFLICT: &str = "nothing orders the conflicts that are drawn in red";
 
 /// What the codes of refusals mean. A number that stands behind a code goes behind its meaning.
-const MEANINGS: [(&str, &str); 44] = [
+static MEANINGS: [(&str, &str); 44] = [
     (
         "J1",
         "a byte that is neither printable ASCII nor a line feed",
@@ -112,8 +112,28 @@ fn meaning_of(word: &str) -> Option<&'static str> {
     None
 }
 
+/// A word of an answer in plain words, in its place behind the answer's first.
+#[derive(Clone, Copy)]
+struct Word<'a> {
+    text: &'a str,
+    place: usize,
+    word: &'a str,
+}
+
+impl<'a> fmt::Display for Word<'a> {
+    fn fmt<W: fmt::Write>(&self, f: &mut fmt::Formatter<W>) -> fmt::Result {
+        let Word { text, place, word } = *self;
+        match meaning_of(word) {
+            Some(meaning) if place == 0 => f.write_str(meaning),
+            Some(meaning) => write!(f, ": {meaning}"),
+            None if word == "line" => write!(f, "in the {text}, line"),
+            None => write!(f, " {word}"),
+        }
+    }
+}
+
 /// A refusal of a text in plain words, by the answer's first line.
-#[derive(Clone, Copy, Debug)]
+#[derive(Clone, Copy)]
 struct Refusal<'a> {
     text: &'a str,
     answer: &'a str,
@@ -122,20 +142,16 @@ struct Refusal<'a> {
 impl<'a> fmt::Display for Refusal<'a> {
     fn fmt<W: fmt::Write>(&self, f: &mut fmt::Formatter<W>) -> fmt::Result {
         let words = self.answer.split_ascii_whitespace().skip(1);
+        let text = self.text;
         for (place, word) in words.enumerate() {
-            match meaning_of(word) {
-                Some(meaning) if place == 0 => write!(f, "{meaning}")?,
-                Some(meaning) => write!(f, ": {meaning}")?,
-                None if word == "line" => write!(f, "in the {}, line", self.text)?,
-                None => write!(f, " {word}")?,
-            }
+            write!(f, "{}", Word { text, place, word })?;
         }
         Ok(())
     }
 }
 
 /// A conflict of packets `p` and `r` in plain words, by the answer's words.
-#[derive(Clone, Copy, Debug)]
+#[derive(Clone, Copy)]
 struct Conflict<'a> {
     p: &'a str,
     r: &'a str,
@@ -156,16 +172,38 @@ impl<'a> Conflict<'a> {
     }
 }
 
-impl<'a> fmt::Display for Conflict<'a> {
+/// What two packets do that conflicts, by the word for the kind.
+#[derive(Clone, Copy)]
+struct Clash<'a> {
+    p: &'a str,
+    r: &'a str,
+    kind: &'a str,
+}
+
+impl<'a> fmt::Display for Clash<'a> {
     fn fmt<W: fmt::Write>(&self, f: &mut fmt::Formatter<W>) -> fmt::Result {
-        let Conflict { p, r, kind, why } = *self;
+        let Clash { p, r, kind } = *self;
         if kind == "wr" {
-            write!(f, "packet {r} reads what packet {p} writes, but ")?;
+            write!(f, "packet {r} reads what packet {p} writes")
         } else if kind == "ww" {
-            write!(f, "packets {p} and {r} write the same bytes, but ")?;
+            write!(f, "packets {p} and {r} write the same bytes")
         } else {
-            write!(f, "packet {r} writes what packet {p} reads, but ")?;
+            write!(f, "packet {r} writes what packet {p} reads")
         }
+    }
+}
+
+/// What two packets lack, by the word for the reason.
+#[derive(Clone, Copy)]
+struct Lack<'a> {
+    p: &'a str,
+    r: &'a str,
+    why: &'a str,
+}
+
+impl<'a> fmt::Display for Lack<'a> {
+    fn fmt<W: fmt::Write>(&self, f: &mut fmt::Formatter<W>) -> fmt::Result {
+        let Lack { p, r, why } = *self;
         if why == "Unordered" {
             write!(
                 f,
@@ -182,6 +220,13 @@ impl<'a> fmt::Display for Conflict<'a> {
                 "no acquire fence lets packet {r} see what packet {p} released"
             )
         }
+    }
+}
+
+impl<'a> fmt::Display for Conflict<'a> {
+    fn fmt<W: fmt::Write>(&self, f: &mut fmt::Formatter<W>) -> fmt::Result {
+        let Conflict { p, r, kind, why } = *self;
+        write!(f, "{}, but {}", Clash { p, r, kind }, Lack { p, r, why })
     }
 }
 
@@ -261,7 +306,7 @@ pub fn explain_unopened(rt: &HostRuntime, path: &str, error: &io::Error) {
 }
 
 /// Where a byte comes from, by the word for its origin.
-#[derive(Clone, Copy, Debug)]
+#[derive(Clone, Copy)]
 struct Origin<'a>(&'a str);
 
 impl<'a> fmt::Display for Origin<'a> {
@@ -276,7 +321,7 @@ impl<'a> fmt::Display for Origin<'a> {
 }
 
 /// Where two runs differ in plain words, by the words of the answer's second line.
-#[derive(Clone, Copy, Debug)]
+#[derive(Clone, Copy)]
 struct Difference<'a> {
     what: &'a str,
     first: &'a str,

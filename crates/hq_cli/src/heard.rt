@@ -15,7 +15,7 @@ fn first_of(text: &str) -> &str {
 }
 
 /// How an answer begins.
-#[derive(Clone, Copy, Debug)]
+#[derive(Clone, Copy)]
 struct Start {
     bytes: [u8; KEPT],
     count: usize,

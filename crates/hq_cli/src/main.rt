@@ -18,14 +18,14 @@ use hq_engines::{
 };
 use hq_explain::Which;
 use hq_job::Job;
-use hq_kernels::stock_kits;
+use hq_kernels::{Kit, stock_kits};
 use hq_text::number_of;
 use hq_words::{Asked, WordsFault, command_of};
-use input::{open, open_file};
+use input::{Input, open, open_file};
 use output::{Output, create};
 use progress::{Progress, Settling};
 use std::alloc::{AllocError, Global};
-use std::io::{BufWriter, Write};
+use std::io::{BufReader, BufWriter, Write};
 use std::process::ExitCode;
 use std::sync::Wait;
 use std::thread::Threads;
@@ -53,10 +53,36 @@ fn say_unopened<W: Write>(
     }
 }
 
+/// The file of a path, or standard input for `@`; or the status, where it can't be opened, which is written then.
+fn opened<W: Write>(
+    rt: &HostRuntime,
+    path: &str,
+    writer: &mut W,
+) -> Result<BufReader<Input>, Status> {
+    match open(rt, path) {
+        Ok(input) => Ok(input),
+        Err(error) => Err(say_unopened(rt, path, &error, writer)),
+    }
+}
+
+/// A job, and the file of a path beside it, both opened before either is read; or the status, where one can't be.
+fn opened_both<W: Write>(
+    rt: &HostRuntime,
+    job: &str,
+    path: &str,
+    writer: &mut W,
+) -> Result<(BufReader<Input>, BufReader<Input>), Status> {
+    let input = opened(rt, job, writer)?;
+    match open_file(rt, path) {
+        Ok(file) => Ok((input, file)),
+        Err(error) => Err(say_unopened(rt, path, &error, writer)),
+    }
+}
+
 fn show<W: Write>(rt: &HostRuntime, job: &str, writer: &mut W) -> Status {
-    match open(rt, job) {
+    match opened(rt, job, writer) {
         Ok(mut input) => show_engine(rt.alloc(), &mut input, writer),
-        Err(error) => say_unopened(rt, job, &error, writer),
+        Err(status) => status,
     }
 }
 
@@ -66,13 +92,12 @@ fn audit<W: Write>(
     job: &str,
     writer: &mut W,
 ) -> Status {
-    match open(rt, job) {
+    match opened(rt, job, writer) {
         Ok(mut input) => audit_wide_engine(threads, rt.alloc(), &mut input, writer),
-        Err(error) => say_unopened(rt, job, &error, writer),
+        Err(status) => status,
     }
 }
 
-/// Opens both files before it reads either.
 fn check<W: Write>(
     rt: &HostRuntime,
     threads: &(impl Threads + Sync),
@@ -80,25 +105,21 @@ fn check<W: Write>(
     certificate: &str,
     writer: &mut W,
 ) -> Status {
-    match (open(rt, job), open_file(rt, certificate)) {
-        (Ok(mut input), Ok(mut file)) => {
+    match opened_both(rt, job, certificate, writer) {
+        Ok((mut input, mut file)) => {
             check_engine(threads, rt.alloc(), &mut input, &mut file, writer)
         }
-        (Err(error), _) => say_unopened(rt, job, &error, writer),
-        (_, Err(error)) => say_unopened(rt, certificate, &error, writer),
+        Err(status) => status,
     }
 }
 
-/// Opens both files before it reads either.
 fn replay<W: Write>(rt: &HostRuntime, job: &str, timeline: &str, writer: &mut W) -> Status {
-    match (open(rt, job), open_file(rt, timeline)) {
-        (Ok(mut input), Ok(mut file)) => replay_engine(rt.alloc(), &mut input, &mut file, writer),
-        (Err(error), _) => say_unopened(rt, job, &error, writer),
-        (_, Err(error)) => say_unopened(rt, timeline, &error, writer),
+    match opened_both(rt, job, timeline, writer) {
+        Ok((mut input, mut file)) => replay_engine(rt.alloc(), &mut input, &mut file, writer),
+        Err(status) => status,
     }
 }
 
-/// Opens both files before it reads either.
 fn chart<W: Write>(
     rt: &HostRuntime,
     job: &str,
@@ -106,36 +127,44 @@ fn chart<W: Write>(
     copies: bool,
     writer: &mut W,
 ) -> Status {
-    match (open(rt, job), open_file(rt, timeline)) {
-        (Ok(mut input), Ok(mut file)) => {
+    match opened_both(rt, job, timeline, writer) {
+        Ok((mut input, mut file)) => {
             chart_engine(rt.alloc(), &mut input, &mut file, copies, writer)
         }
-        (Err(error), _) => say_unopened(rt, job, &error, writer),
-        (_, Err(error)) => say_unopened(rt, timeline, &error, writer),
+        Err(status) => status,
     }
 }
 
 fn graph<W: Write>(rt: &HostRuntime, job: &str, writer: &mut W) -> Status {
-    match open(rt, job) {
+    match opened(rt, job, writer) {
         Ok(mut input) => graph_engine(rt.alloc(), &mut input, writer),
-        Err(error) => say_unopened(rt, job, &error, writer),
+        Err(status) => status,
     }
+}
+
+/// Prints the job of a reader with other heads, and says which.
+fn change_opened<W: Write>(
+    rt: &HostRuntime,
+    input: &mut BufReader<Input>,
+    aim: Aim,
+    writer: &mut W,
+) -> Status {
+    let settling = Settling::new(rt);
+    let (status, changed) = change_engine(rt.alloc(), input, writer, aim, &settling);
+    settling.clear();
+    match changed {
+        Some(changed) => say_changes(rt, changed, aim),
+        None => say_unmended(rt, status, aim),
+    }
+    status
 }
 
 /// Prints a job with other heads, and says which.
 fn change<W: Write>(rt: &HostRuntime, job: &str, aim: Aim, writer: &mut W) -> Status {
-    let mut input = match open(rt, job) {
-        Ok(input) => input,
-        Err(error) => return say_unopened(rt, job, &error, writer),
-    };
-    let settling = Settling::new(rt);
-    let (status, changed) = change_engine(rt.alloc(), &mut input, writer, aim, &settling);
-    settling.clear();
-    match changed {
-        Some(changed) => say_changes(rt, &changed, aim),
-        None => say_unmended(rt, status, aim),
+    match opened(rt, job, writer) {
+        Ok(mut input) => change_opened(rt, &mut input, aim, writer),
+        Err(status) => status,
     }
-    status
 }
 
 /// The pair of two words, where these are numbers.
@@ -156,9 +185,9 @@ fn which_of(pair: Option<&str>, second: Option<&str>, all: bool) -> Option<Which
 }
 
 fn explain_job<W: Write>(rt: &HostRuntime, job: &str, which: Which, writer: &mut W) -> Status {
-    match open(rt, job) {
+    match opened(rt, job, writer) {
         Ok(mut input) => explain_engine(rt.alloc(), &mut input, which, writer),
-        Err(error) => say_unopened(rt, job, &error, writer),
+        Err(status) => status,
     }
 }
 
@@ -177,13 +206,32 @@ fn explain_asked<W: Write>(
     }
 }
 
-/// The file that a timeline is asked for in, if it is.
-fn create_timeline(rt: &HostRuntime, timeline: Option<&str>) -> io::Result<Option<Output>> {
-    match timeline {
-        Some(path) => Ok(Some(create(rt, path)?)),
-        None => Ok(None),
+/// The file that a timeline is asked for in, if it is; or the status, where it can't be made, which is written then.
+fn created<W: Write>(
+    rt: &HostRuntime,
+    timeline: Option<&str>,
+    writer: &mut W,
+) -> Result<Option<Output>, Status> {
+    let Some(path) = timeline else {
+        return Ok(None);
+    };
+    match create(rt, path) {
+        Ok(out) => Ok(Some(out)),
+        Err(error) => Err(say_unopened(rt, path, &error, writer)),
     }
 }
+
+/// The job of a path; or the status, where there is none, which is written then. Its file is closed again.
+fn job_of<W: Write>(rt: &HostRuntime, job: &str, writer: &mut W) -> Result<Job, Status> {
+    let mut input = opened(rt, job, writer)?;
+    job_engine(rt.alloc(), &mut input, writer)
+}
+
+/// Drops a job. In a proof a call is one step, and a drop among others takes as long as a hundred.
+fn let_go(_job: Job) {}
+
+/// Drops kits.
+fn let_kits_go(_kits: Vec<Kit>) {}
 
 /// Runs a job with stock bodies. The timeline's file is made before the job is audited.
 fn run_found<W: Write>(
@@ -194,11 +242,16 @@ fn run_found<W: Write>(
     writer: &mut W,
 ) -> Status {
     let Ok(kits) = stock_kits(rt.alloc(), &job) else {
+        let_go(job);
         return say_memory(writer);
     };
-    let mut out = match create_timeline(rt, timeline) {
+    let mut out = match created(rt, timeline, writer) {
         Ok(out) => out,
-        Err(error) => return say_unopened(rt, timeline.unwrap_or(""), &error, writer),
+        Err(status) => {
+            let_go(job);
+            let_kits_go(kits);
+            return status;
+        }
     };
     let progress = Progress::new(rt, job.packets().len());
     let status = run_engine(threads, rt.alloc(), job, kits, &progress, &mut out, writer);
@@ -214,11 +267,7 @@ fn run<W: Write>(
     timeline: Option<&str>,
     writer: &mut W,
 ) -> Status {
-    let mut input = match open(rt, job) {
-        Ok(input) => input,
-        Err(error) => return say_unopened(rt, job, &error, writer),
-    };
-    match job_engine(rt.alloc(), &mut input, writer) {
+    match job_of(rt, job, writer) {
         Ok(job) => run_found(rt, threads, job, timeline, writer),
         Err(status) => status,
     }
@@ -232,13 +281,13 @@ fn witness_found<W: Write>(
     bad: Option<&str>,
     writer: &mut W,
 ) -> Status {
-    let mut right = match create_timeline(rt, good) {
+    let mut right = match created(rt, good, writer) {
         Ok(out) => out,
-        Err(error) => return say_unopened(rt, good.unwrap_or(""), &error, writer),
+        Err(status) => return status,
     };
-    let mut wrong = match create_timeline(rt, bad) {
+    let mut wrong = match created(rt, bad, writer) {
         Ok(out) => out,
-        Err(error) => return say_unopened(rt, bad.unwrap_or(""), &error, writer),
+        Err(status) => return status,
     };
     witness_engine(rt.alloc(), job, &mut right, &mut wrong, writer)
 }
@@ -251,12 +300,12 @@ fn witness<W: Write>(
     bad: Option<&str>,
     writer: &mut W,
 ) -> Status {
-    let mut input = match open(rt, job) {
-        Ok(input) => input,
-        Err(error) => return say_unopened(rt, job, &error, writer),
-    };
-    match job_engine(rt.alloc(), &mut input, writer) {
-        Ok(job) => witness_found(rt, &job, good, bad, writer),
+    match job_of(rt, job, writer) {
+        Ok(job) => {
+            let status = witness_found(rt, &job, good, bad, writer);
+            let_go(job);
+            status
+        }
         Err(status) => status,
     }
 }

@@ -38,7 +38,8 @@ impl Range {
         self.end() <= 1 << 64
     }
 
-    /// Whether both ranges have bytes, and each begins before the other ends. Only the one that begins first can end too early.
+    /// Whether both ranges have bytes, and each begins before the other ends. Only the one that begins first can
+    /// end too early.
     #[inline(always)]
     fn meets(self, other: Range) -> bool
         ensures { IsTrue result ↔ Overlap self other }
