@@ -15,7 +15,7 @@ ghost use Rattle.hq_board.specs.declared.entry.Entry.TheVariants.{DidEnter, DidC
 
 use crate::words::Token;
 use hq_job::{Job, Placed};
-use hq_machine::packets::{dependency, has_bit, is_barrier};
+use hq_machine::packets::dependency;
 use hq_machine::{Phase, nothing_observed};
 use hq_packet::Packet;
 use std::alloc::{AllocError, Global};
@@ -113,7 +113,7 @@ fn is_held(job: &Job, known: &Known) -> bool
     }
     job.valid();
     let last = known.launched - 1;
-    is_barrier(job, known.first + last) && !known.is_in(last, Phase::Complete)
+    job.is_barrier(known.first + last) && !known.is_in(last, Phase::Complete)
 }
 
 /// Whether the barrier bit of the next packet lets it be launched.
@@ -123,7 +123,7 @@ fn bit_lets(job: &Job, known: &Known) -> bool
     ensures { IsTrue result ↔ BitLets (plan job.now) known.now }
 {
     job.valid();
-    !has_bit(job, known.first + known.launched) || known.completed == known.launched
+    !job.has_bit(known.first + known.launched) || known.completed == known.launched
 }
 
 /// Whether there is a next packet, and it may be launched.
@@ -159,7 +159,7 @@ fn is_open(job: &Job, known: &Known, place: usize, slot: usize) -> bool
         ↔ IsOpen (plan job.now) (after (plan job.now) (log_of known.now)) (known.now.first + place) slot }
 {
     job.valid();
-    is_barrier(job, known.first + place)
+    job.is_barrier(known.first + place)
         && known.is_in(place, Phase::Launched)
         && !known.observed[place][slot]
 }

@@ -17,7 +17,7 @@ ghost use Rattle.hq_witness.specs.Traces.{Comes, Follows, IsTraceOf, Tells, Tell
 use crate::origin::Origin;
 use crate::table::Table;
 use hq_job::Job;
-use hq_machine::packets::{agent_of, read_at, write_at};
+use hq_machine::packets::{read_at, write_at};
 use hq_machine::{Event, State};
 use std::alloc::{AllocError, Global};
 
@@ -82,7 +82,7 @@ impl Trace {
         if state.lane_holds(packet, self.byte as usize) {
             self.lanes.get(packet)
         } else {
-            self.seen_by_agent(job, state, agent_of(job, packet))
+            self.seen_by_agent(job, state, job.agent_of(packet))
         }
     }
 
@@ -152,7 +152,7 @@ impl Trace {
         job.valid();
         if byte == self.byte {
             let origin = self.lanes.get(packet as usize);
-            self.agents.put(agent_of(job, packet as usize), origin);
+            self.agents.put(job.agent_of(packet as usize), origin);
         }
     }
 
@@ -178,7 +178,7 @@ impl Trace {
             (agent_of (plan job.now) packet) self.old.byte ≡ named x) }
     {
         job.valid();
-        let origin = self.seen_by_agent(job, state, agent_of(job, packet as usize));
+        let origin = self.seen_by_agent(job, state, job.agent_of(packet as usize));
         if byte == self.byte {
             self.lanes.put(packet as usize, origin);
         }
