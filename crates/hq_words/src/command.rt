@@ -126,9 +126,8 @@ fn pair<'a>(alloc: Global) -> Arg<'a>
 {
     Arg::new(alloc, "PAIR")
         .long("pair")
-        .value_name("P")
         .action(ArgAction::Set)
-        .help("With a second number R behind it: explains packets P and R alone")
+        .help("With a second number behind it: explains these two packets alone")
 }
 
 /// The argument R, behind `--pair P`.
@@ -137,7 +136,6 @@ fn second<'a>(alloc: Global) -> Arg<'a>
     ensures local { result.global ≡ false }
 {
     Arg::new(alloc, "SECOND")
-        .value_name("R")
         .action(ArgAction::Set)
         .help("The second packet of --pair")
 }
@@ -153,30 +151,26 @@ fn all<'a>(alloc: Global) -> Arg<'a>
         .help("Explains all pairs that conflict, and not only the first hundred")
 }
 
-/// The option `--good OUT`.
+/// The option `--good GOOD`.
 fn good<'a>(alloc: Global) -> Arg<'a>
     ensures rule { rule_of result ≡ good_rule }
     ensures local { result.global ≡ false }
 {
     Arg::new(alloc, "GOOD")
         .long("good")
-        .value_name("OUT")
         .action(ArgAction::Set)
-        .help(
-            "Writes the timeline of the run that goes right to the file OUT, as `replay` reads it",
-        )
+        .help("Writes the timeline of the run that goes right to GOOD, as `replay` reads it")
 }
 
-/// The option `--bad OUT`.
+/// The option `--bad BAD`.
 fn bad<'a>(alloc: Global) -> Arg<'a>
     ensures rule { rule_of result ≡ bad_rule }
     ensures local { result.global ≡ false }
 {
     Arg::new(alloc, "BAD")
         .long("bad")
-        .value_name("OUT")
         .action(ArgAction::Set)
-        .help("Writes the timeline of the other run to the file OUT")
+        .help("Writes the timeline of the other run to BAD")
 }
 
 /// The argument WORDS.
@@ -347,7 +341,7 @@ fn explain<'a>(alloc: Global) -> Result<Command<'a>, AllocError>
     taking(of_pair, all(alloc))
 }
 
-/// `witness JOB [--good OUT] [--bad OUT]`
+/// `witness JOB [--good GOOD] [--bad BAD]`
 fn witness<'a>(alloc: Global) -> Result<Command<'a>, AllocError>
     ensures app { IfOk result (λ c. app_of c ≡ witness_app) }
     ensures local { IfOk result (λ c. (fields_of c).has_globals ≡ false) }
@@ -356,7 +350,7 @@ fn witness<'a>(alloc: Global) -> Result<Command<'a>, AllocError>
         alloc,
         "witness",
         "Shows two runs of a job that isn't ordered in which a byte comes from elsewhere",
-        "hsaq witness <JOB> [--good <OUT>] [--bad <OUT>]",
+        "hsaq witness <JOB> [--good <GOOD>] [--bad <BAD>]",
         WITNESS_STATUS,
     );
     taking(taking(of_job, good(alloc)), bad(alloc))
