@@ -12,7 +12,7 @@ use changing::{say_changes, say_unmended};
 use explaining::{explain, explain_explained, explain_unopened, explain_witness};
 use heard::Heard;
 use hq_engines::{
-    Aim, Status, audit_wide_engine, change_engine, chart_engine, check_engine, explain_engine,
+    Aim, Status, audit_engine, change_engine, chart_engine, check_engine, explain_engine,
     graph_engine, job_engine, pack_engine, replay_engine, run_engine, say_file, say_memory,
     show_engine, witness_engine,
 };
@@ -86,14 +86,9 @@ fn show<W: Write>(rt: &HostRuntime, job: &str, writer: &mut W) -> Status {
     }
 }
 
-fn audit<W: Write>(
-    rt: &HostRuntime,
-    threads: &(impl Threads + Sync),
-    job: &str,
-    writer: &mut W,
-) -> Status {
+fn audit<W: Write>(rt: &HostRuntime, job: &str, writer: &mut W) -> Status {
     match opened(rt, job, writer) {
-        Ok(mut input) => audit_wide_engine(threads, rt.alloc(), &mut input, writer),
+        Ok(mut input) => audit_engine(rt.alloc(), &mut input, writer),
         Err(status) => status,
     }
 }
@@ -320,7 +315,7 @@ fn answer<W: Write>(
     match asked {
         Asked::Show { job } => show(rt, job, writer),
         Asked::Pack { words } => pack_engine(rt.alloc(), words, writer),
-        Asked::Audit { job } => audit(rt, threads, job, writer),
+        Asked::Audit { job } => audit(rt, job, writer),
         Asked::Check { job, certificate } => check(rt, threads, job, certificate, writer),
         Asked::Run { job, timeline } => run(rt, threads, job, *timeline, writer),
         Asked::Replay { job, timeline } => replay(rt, job, timeline, writer),
