@@ -1,7 +1,6 @@
 pub mod Rests
 pub mod Parts
 pub mod Kept
-pub mod Marked
 pub mod Paired
 pub mod Drafted
 pub mod Rowed

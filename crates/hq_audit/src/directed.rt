@@ -1,9 +1,11 @@
 //! Two packets in the direction in which they are ordered.
 
-ghost use Rattle.std.specs.Prelude.{◌<◌, MatchResult, length};
+ghost use Rattle.std.specs.Prelude.{◌<◌, IfSome, MatchResult, length};
+ghost use Rattle.hq_job.specs.Conflicts.{HasConflicts};
 ghost use Rattle.hq_audit.specs.Refused.{IsDirected, IsUnshown, IsUntold};
 
-use hq_fence::{NotShown, Shown, judge};
+use hq_fence::{NotShown, Shown, judge, judge_at_once, judge_kinds};
+use hq_footprint::Kinds;
 use hq_order::Before;
 
 /// Two packets all of whose conflicts are ordered, and how.
@@ -22,14 +24,16 @@ pub struct Unshown {
     pub fault: NotShown,
 }
 
-/// Judges p with r, p first, and where that isn't ordered r with p. What isn't ordered is told of p with r.
-fn direct_from(before: &Before, p: usize, r: usize) -> Result<Directed, Unshown>
+/// Judges p with r, p first, and where that isn't ordered r with p. What isn't ordered is told of p with r. `kinds`
+/// says how p conflicts with r.
+fn direct_from(before: &Before, p: usize, r: usize, kinds: Kinds) -> Result<Directed, Unshown>
     requires p_is { p < length before.now.packets }
     requires r_is { r < length before.now.packets }
+    requires kinds { HasConflicts before.now p r kinds }
     ensures { MatchResult result (λ d. IsDirected before.now p r d) (λ u. IsUntold before.now p r u) }
 {
     before.job().valid();
-    let fault = match judge(before, p, r) {
+    let fault = match judge_kinds(before, p, r, kinds) {
         Ok(shown) => {
             return Ok(Directed {
                 first: p,
@@ -59,9 +63,36 @@ pub fn direct(before: &Before, a: usize, b: usize) -> Result<Directed, Unshown>
     requires b_is { b < length before.now.packets }
     ensures { MatchResult result (λ d. IsDirected before.now a b d) (λ u. IsUnshown before.now a b u) }
 {
+    direct_kinds(before, a, b, before.job().kinds(a, b))
+}
+
+/// The same, where it is known how a conflicts with b.
+pub fn direct_kinds(before: &Before, a: usize, b: usize, kinds: Kinds) -> Result<Directed, Unshown>
+    requires a_is { a < length before.now.packets }
+    requires b_is { b < length before.now.packets }
+    requires kinds { HasConflicts before.now a b kinds }
+    ensures { MatchResult result (λ d. IsDirected before.now a b d) (λ u. IsUnshown before.now a b u) }
+{
     if before.holds(b, a) {
-        direct_from(before, b, a)
+        direct_from(before, b, a, before.job().kinds(b, a))
     } else {
-        direct_from(before, a, b)
+        direct_from(before, a, b, kinds)
     }
+}
+
+/// What `direct` answers, where that costs little to find out; else None, and it is not said whether there is such a
+/// direction.
+#[inline(always)]
+pub fn direct_at_once(before: &Before, a: usize, b: usize, kinds: Kinds) -> Option<Directed>
+    requires a_is { a < length before.now.packets }
+    requires b_is { b < length before.now.packets }
+    requires kinds { HasConflicts before.now a b kinds }
+    ensures { IfSome result (IsDirected before.now a b) }
+{
+    let shown = judge_at_once(before, a, b, kinds)?;
+    Some(Directed {
+        first: a,
+        second: b,
+        shown,
+    })
 }

@@ -1,6 +1,7 @@
 //! Pair lines as pairs are judged, before the lines that they cite have numbers.
 
 ghost use Rattle.std.specs.Prelude.{◌≡◌, ◌<◌, ◌⊎◌, IfErr, IfOk, OnOk, IfSome, IsSome, IsTrue, length};
+ghost use Rattle.hq_job.specs.Conflicts.{HasConflicts};
 ghost use Rattle.hq_model.specs.Job.{IsPacket};
 ghost use Rattle.hq_model.specs.Order as order;
 ghost use Rattle.hq_model.specs.Fence as model;
@@ -13,13 +14,14 @@ ghost use Rattle.hq_audit.specs.Paired.{pairs_of, HasPairIn, HasAll, RowPaired, 
 ghost use Rattle.hq_audit.specs.Parts.{AreParts};
 ghost use Rattle.hq_audit.specs.Refused.{ShownOneWay, RowShown, PairRefused, RowRefused, AllRefused};
 
-use crate::directed::direct;
+use crate::directed::{Directed, direct_at_once, direct_kinds};
 use crate::fault::AuditNo;
 use crate::marking::need_shown;
 use crate::needs::Needs;
 use crate::parts::Parts;
 use hq_cert::{Citation, Fences, Pair, ReadChain, WriteChain};
 use hq_fence::{Acquire, Release, Shown};
+use hq_footprint::Kinds;
 use hq_order::Before;
 use std::alloc::{AllocError, Global};
 
@@ -28,6 +30,7 @@ const LATER: u32 = 0;
 
 /// The first and the last packet of a release, and `=` where they are one, else what stands for the line from one
 /// to the other.
+#[inline(always)]
 fn release_parts(release: Release) -> (u32, u32, Citation)
     ensures { release_by result.0 result.1 (cited result.2) ≡ release }
 {
@@ -38,6 +41,7 @@ fn release_parts(release: Release) -> (u32, u32, Citation)
 }
 
 /// The same of an acquire.
+#[inline(always)]
 fn acquire_parts(acquire: Acquire) -> (u32, u32, Citation)
     ensures { acquire_by result.0 result.1 (cited result.2) ≡ acquire }
 {
@@ -100,6 +104,7 @@ fn write_read(
 }
 
 /// What orders two writes: how p is released before r.
+#[inline(always)]
 fn write_write(
     alloc: Global,
     before: &Before,
@@ -130,6 +135,7 @@ fn write_write(
 }
 
 /// Adds a pair line of p with r.
+#[inline(always)]
 fn push_pair(
     pairs: &mut Vec<Pair>,
     before: &Before,
@@ -155,6 +161,7 @@ fn push_pair(
 }
 
 /// Adds the pair line of a write that r reads, if there is one.
+#[inline(always)]
 fn add_write_read(
     pairs: &mut Vec<Pair>,
     alloc: Global,
@@ -178,6 +185,7 @@ fn add_write_read(
 }
 
 /// Adds the pair line of two writes, if there is one.
+#[inline(always)]
 fn add_write_write(
     pairs: &mut Vec<Pair>,
     alloc: Global,
@@ -201,6 +209,7 @@ fn add_write_write(
 }
 
 /// Adds the pair line of a read of what r writes, if there is one.
+#[inline(always)]
 fn add_read_write(
     pairs: &mut Vec<Pair>,
     before: &Before,
@@ -222,6 +231,7 @@ fn add_read_write(
 }
 
 /// Adds the pair lines of p with r, p first.
+#[inline(always)]
 fn add_shown(
     pairs: &mut Vec<Pair>,
     alloc: Global,
@@ -243,7 +253,55 @@ fn add_shown(
     Ok(())
 }
 
-/// Judges a and b, notes which lines their pair lines need, and adds these.
+/// Adds the pair lines of two packets in their direction, and notes which lines these need.
+#[inline(always)]
+fn add_directed(
+    pairs: &mut Vec<Pair>,
+    needs: &mut Needs,
+    alloc: Global,
+    before: &Before,
+    direction: Directed,
+) -> Result<(), AllocError>
+    requires drafted { AllDrafted before.now (pairs_of pairs.old) }
+    requires p_is { IsPacket before.now direction.first }
+    requires r_is { IsPacket before.now direction.second }
+    requires shows { Shows before.now direction.first direction.second direction.shown }
+    ensures goes { OnOk result (DraftsGo before.now (pairs_of pairs.old) (pairs_of pairs.new)) }
+    ensures has { OnOk result (HasAll before.now (pairs_of pairs.new) direction.first direction.second) }
+{
+    let (p, r) = (direction.first, direction.second);
+    need_shown(needs, before, p, r, direction.shown);
+    add_shown(pairs, alloc, before, p, r, direction.shown)?;
+    Ok(())
+}
+
+/// Judges a and b, notes which lines their pair lines need, and adds these. `kinds` says how a conflicts with b.
+fn add_judged(
+    pairs: &mut Vec<Pair>,
+    needs: &mut Needs,
+    alloc: Global,
+    before: &Before,
+    a: usize,
+    b: usize,
+    kinds: Kinds,
+) -> Result<(), AuditNo>
+    requires drafted { AllDrafted before.now (pairs_of pairs.old) }
+    requires a_is { IsPacket before.now a }
+    requires b_is { IsPacket before.now b }
+    requires kinds { HasConflicts before.now a b kinds }
+    ensures goes { OnOk result (DraftsGo before.now (pairs_of pairs.old) (pairs_of pairs.new)) }
+    ensures has { OnOk result
+        (HasAll before.now (pairs_of pairs.new) a b ⊎ HasAll before.now (pairs_of pairs.new) b a) }
+    ensures shown { OnOk result (ShownOneWay before.now a b) }
+    ensures refused { IfErr result (PairRefused before.now a b) }
+{
+    let direction = direct_kinds(before, a, b, kinds)?;
+    add_directed(pairs, needs, alloc, before, direction)?;
+    Ok(())
+}
+
+/// Does so, and at once where that costs little.
+#[inline(always)]
 fn add_pair(
     pairs: &mut Vec<Pair>,
     needs: &mut Needs,
@@ -261,10 +319,11 @@ fn add_pair(
     ensures shown { OnOk result (ShownOneWay before.now a b) }
     ensures refused { IfErr result (PairRefused before.now a b) }
 {
-    let direction = direct(before, a, b)?;
-    let (p, r) = (direction.first, direction.second);
-    need_shown(needs, before, p, r, direction.shown);
-    add_shown(pairs, alloc, before, p, r, direction.shown)?;
+    let kinds = before.job().kinds(a, b);
+    let Some(direction) = direct_at_once(before, a, b, kinds) else {
+        return add_judged(pairs, needs, alloc, before, a, b, kinds);
+    };
+    add_directed(pairs, needs, alloc, before, direction)?;
     Ok(())
 }
 

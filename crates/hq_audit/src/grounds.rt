@@ -1,7 +1,7 @@
 //! Why a packet comes before another.
 
 ghost use Rattle.std.specs.Prelude.{◌≡◌, ℕ, ◌<◌, ◌↔◌, IsTrue, MatchOption, Some, slice_get};
-ghost use Rattle.hq_model.specs.Job.{IsPacket};
+ghost use Rattle.hq_model.specs.Job.{IsPacket, Decrements};
 ghost use Rattle.hq_order.specs.Rounds.{IsFirstWithin, Reaches, ByOr};
 ghost use Rattle.hq_audit.specs.Rests.{Below, ByBranch, IsGround};
 
@@ -34,6 +34,14 @@ fn is_below(before: &Before, round: usize, p: usize, r: usize) -> bool
     }
 }
 
+/// Whether d completes on the signal, and p comes before d by lower rounds.
+#[inline(always)]
+fn is_branch(before: &Before, round: usize, p: usize, signal: u16, d: usize) -> bool
+    ensures { IsTrue result ↔ (Decrements before.now d signal × Below before.now round p d) }
+{
+    before.job().completes_on(d, signal) && is_below(before, round, p, d)
+}
+
 /// The packet that completes on the signal and that p comes up to by lower rounds: p itself, or else the least.
 pub fn branch_of(before: &Before, round: usize, p: usize, signal: u16) -> Option<usize>
     requires { IsPacket before.now p }
@@ -43,8 +51,13 @@ pub fn branch_of(before: &Before, round: usize, p: usize, signal: u16) -> Option
     if before.job().completes_on(p, signal) {
         return Some(p);
     }
+    if let Some(d) = before.completer(round, p, signal) {
+        if is_branch(before, round, p, signal, d) {
+            return Some(d);
+        }
+    }
     for d in 0..before.len() {
-        if before.job().completes_on(d, signal) && is_below(before, round, p, d) {
+        if is_branch(before, round, p, signal, d) {
             return Some(d);
         }
     }

@@ -68,6 +68,7 @@ impl Lines {
     }
 
     /// The number, if its line is that p is before r.
+    #[inline(always)]
     fn confirmed(&self, number: u32, p: usize, r: usize) -> Option<u32>
         requires { number + 1 < 2 ^ 32 }
         ensures { MatchOption result (Unit {0})
@@ -82,6 +83,7 @@ impl Lines {
     }
 
     /// The number of the line that p is before r, if there is one.
+    #[inline(always)]
     pub fn known(&self, p: usize, r: usize) -> Option<u32>
         ensures { MatchOption result (Unit {0})
             (λ k. Says (lines_of self.now) (length (lines_of self.now)) k p r × (k + 1 < 2 ^ 32)) }
@@ -94,6 +96,7 @@ impl Lines {
     }
 
     /// Notes the number of the line that p is before r.
+    #[inline(always)]
     fn remember(&mut self, p: usize, r: usize, number: u32)
         requires { number + 1 < 2 ^ 32 }
         ensures { self.new.lines ≡ self.old.lines }
@@ -106,6 +109,7 @@ impl Lines {
     }
 
     /// Adds a line, and answers its number.
+    #[inline(always)]
     fn add(&mut self, p: usize, r: usize, rule: Rule) -> Result<u32, AllocError>
         requires p_is { p < 1024 }
         requires r_is { r < 1024 }
@@ -130,6 +134,7 @@ impl Lines {
     }
 
     /// The number of the line that p is before r. Where there is none yet, it goes in, behind those that it cites.
+    #[inline(always)]
     pub fn number(
         &mut self,
         alloc: Global,

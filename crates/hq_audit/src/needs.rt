@@ -9,10 +9,8 @@ ghost use Rattle.hq_audit.specs.Rests.{Below};
 use crate::grounds::{Ground, branch_of, ground_of};
 use crate::lines::round_of;
 use hq_order::Before;
+use hq_order::bits::WORDS;
 use std::alloc::{AllocError, Global};
-
-/// How many words of bits a packet has.
-pub const WORDS: usize = 16;
 
 /// The place of r's word in the row of p.
 pub fn place_of(p: usize, r: usize) -> usize {
@@ -49,6 +47,7 @@ impl Needs {
     }
 
     /// Whether a line that p is before r is needed.
+    #[inline(always)]
     fn has(&self, p: usize, r: usize) -> bool {
         match self.bits.get(place_of(p, r)) {
             Some(word) => *word >> (r % 64) & 1 == 1,
@@ -57,6 +56,7 @@ impl Needs {
     }
 
     /// A line that p is before r is needed.
+    #[inline(always)]
     fn set(&mut self, p: usize, r: usize) {
         if let Some(word) = self.bits.get_mut(place_of(p, r)) {
             *word |= 1 << (r % 64);
@@ -64,6 +64,7 @@ impl Needs {
     }
 
     /// Notes that a line that p is before r is needed, and answers the first round in which that comes.
+    #[inline(always)]
     fn note(&mut self, before: &Before, p: usize, r: usize) -> usize
         requires { order.Before before.now p r }
         ensures { IsFirstWithin before.now result p r }
@@ -72,15 +73,24 @@ impl Needs {
         round_of(before, p, r)
     }
 
-    /// A line that p is before r is needed, and those that it cites: none, if it comes in round 0.
+    /// A line that p is before r is needed, and those that it cites.
+    #[inline(always)]
     pub fn need(&mut self, before: &Before, p: usize, r: usize)
         requires { order.Before before.now p r }
     {
         if !self.has(p, r) {
-            let round = self.note(before, p, r);
-            if round != 0 {
-                self.mark_cited(before, round, p, r);
-            }
+            self.need_more(before, p, r);
+        }
+    }
+
+    /// A line that p is before r is needed too, and those that it cites: none, if it comes in round 0.
+    #[inline(never)]
+    fn need_more(&mut self, before: &Before, p: usize, r: usize)
+        requires { order.Before before.now p r }
+    {
+        let round = self.note(before, p, r);
+        if round != 0 {
+            self.mark_cited(before, round, p, r);
         }
     }
 

@@ -18,6 +18,7 @@ use hq_order::Before;
 use std::alloc::{AllocError, Global};
 
 /// The number of the line that p is before r.
+#[inline(always)]
 fn line(
     lines: &mut Lines,
     alloc: Global,
@@ -33,6 +34,7 @@ fn line(
 }
 
 /// The citation that p is x, or before it.
+#[inline(always)]
 fn cite(
     lines: &mut Lines,
     alloc: Global,
@@ -52,6 +54,7 @@ fn cite(
 }
 
 /// What orders two writes, where x alone releases p.
+#[inline(always)]
 fn write_write(
     lines: &mut Lines,
     alloc: Global,
@@ -223,6 +226,7 @@ fn read_chain(
 }
 
 /// What orders a write and a read, where x alone releases and y alone acquires.
+#[inline(always)]
 fn write_read(
     lines: &mut Lines,
     alloc: Global,
@@ -251,6 +255,7 @@ fn write_read(
 }
 
 /// The fences with the numbers of the lines that they cite.
+#[inline(always)]
 fn cite_fences(
     lines: &mut Lines,
     alloc: Global,

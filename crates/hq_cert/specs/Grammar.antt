@@ -4,6 +4,7 @@ use Rattle.std.specs.Prelude.{Option, Some, None, if◌then◌else◌}
 use Rattle.std.specs.List.{AllByRecursion}
 use Rattle.std.specs.Fmt.{decimal}
 use Rattle.hq_text.specs.Lines.{words_of}
+use Rattle.hq_model.specs.declared.limits.TheConstants.{PACKETS}
 use Rattle.hq_model.specs.Certificate as model
 use Rattle.hq_model.specs.Certificate.Rule.{Bit, Queue, And, Or, Through}
 use Rattle.hq_model.specs.Certificate.Fences.{ForReadWrite, ForWriteWrite, ForWriteRead, ForWriteWriteChained}
@@ -122,7 +123,7 @@ pub record PairFits (chained : Bool) (count : ℕ) (pair : model.Pair) : Type 0 
 
 -- at most 1,024 numbers
 pub record OrderFits (order : List ℕ) : Type 0 where
-  pub few : length order ≤ 1024
+  pub few : length order ≤ PACKETS
   pub small : AllByRecursion IsSmall order
 
 -- the certificate has a text: its order, its lines from 0 on and its pair lines fit

@@ -2,6 +2,7 @@
 use Rattle.std.specs.Prelude.{◌≡◌, ℕ, ◌≤◌, ◌^◌, ◌↔◌, Bool, true, List, [], ◌∷◌, length, codes}
 use Rattle.hq_text.specs.LineByLine.{Refuses}
 use Rattle.hq_text.specs.Lines.{words_of}
+use Rattle.hq_model.specs.declared.limits.TheConstants.{PACKETS}
 use Rattle.hq_model.specs.Certificate as model
 use Rattle.hq_cert.specs.declared.draft.Stage.{Stage}
 use Rattle.hq_cert.specs.declared.draft.Stage.TheVariants as stage
@@ -34,7 +35,7 @@ pub data MayPair : Stage → Type 0 where
 -- The words have the form of a line that may stand here, whatever stands in the places of numbers and citations.
 pub data HasForm : Stage → Bool → List (List ℕ) → Type 0 where
   head : (chained here : Bool) → HasForm stage.Head here (head_words chained)
-  order : (here : Bool) (numbers : List (List ℕ)) → length numbers ≤ 1024
+  order : (here : Bool) (numbers : List (List ℕ)) → length numbers ≤ PACKETS
       → HasForm stage.Order here (codes "order" ∷ numbers)
   line : (here : Bool) (k p r name : List ℕ) (operands : List (List ℕ)) → RuleForm name (length operands)
       → HasForm stage.Lines here (codes "line" ∷ k ∷ p ∷ r ∷ name ∷ operands)

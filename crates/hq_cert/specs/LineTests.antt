@@ -12,6 +12,7 @@ use Rattle.hq_cert.specs.declared.forms.FencesKind.{FencesKind}
 use Rattle.hq_cert.specs.declared.forms.FencesKind.TheVariants as fence
 use Rattle.hq_cert.specs.declared.pairs.Packets.{Packets}
 use Rattle.hq_cert.specs.declared.pairs.Numbers.{Numbers}
+use Rattle.hq_model.specs.declared.limits.TheConstants.{PACKETS}
 use Rattle.hq_model.specs.Certificate as model
 use Rattle.hq_model.specs.Certificate.Rule.{Bit, Queue, And, Or, Through}
 use Rattle.hq_model.specs.Certificate.Fences.{ForReadWrite, ForWriteWrite, ForWriteRead, ForWriteWriteChained}
@@ -296,4 +297,4 @@ head_said _ = Err reason.Word
 unfoldable pub order_said : List (List ℕ) → Result (List ℕ) CertReason
 order_said [] = Err reason.Word
 order_said (name ∷ numbers) = if bytes_eq name (codes "order") && nat_le
-    (length numbers) 1024 then numbers_said numbers else Err reason.Word
+    (length numbers) PACKETS then numbers_said numbers else Err reason.Word

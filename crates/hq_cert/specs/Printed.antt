@@ -3,6 +3,7 @@ use Rattle.std.specs.Prelude.{ℕ, ◌^◌, ◌≤◌, Bool, true, false, List, 
 use Rattle.std.specs.List.{list_any}
 use Rattle.hq_text.specs.Lines.{lines_of}
 use Rattle.hq_text.specs.Printed.{lines_text}
+use Rattle.hq_model.specs.declared.limits.TheConstants.{PACKETS}
 use Rattle.hq_model.specs.Job.{Job, packet}
 use Rattle.hq_model.specs.Theorems.{Valid}
 use Rattle.hq_model.specs.Certificate.{CertHolds}
@@ -33,7 +34,7 @@ ReadBack = (c : model.Certificate) → CertificateFits (has_chain c) c → CertT
 
 -- a job within the limits of its text: at most 1,024 packets, each with at most five slots
 pub record Limited (job : Job) : Type 0 where
-  pub packets : length job.packets ≤ 1024
+  pub packets : length job.packets ≤ PACKETS
   pub slots : (r : ℕ) → length (packet job r).deps ≤ 5
 
 -- What prints of a certificate that holds for such a job, with lines that 32 bits number, is a text of that

@@ -16,6 +16,7 @@ use crate::one_pass;
 use crate::operands::numbers_said;
 use crate::pairs::pair_said;
 use crate::rules::line_said;
+use hq_model::PACKETS;
 use std::alloc::Global;
 
 /// What may come next.
@@ -57,7 +58,7 @@ fn order_said(alloc: Global, words: &[&[u8]]) -> Result<Vec<u32>, CertReason>
     let Some((name, numbers)) = words.split_first() else {
         return Err(CertReason::Word);
     };
-    if *name == b"order".as_slice() && numbers.len() <= 1024 {
+    if *name == b"order".as_slice() && numbers.len() <= PACKETS {
         numbers_said(alloc, numbers)
     } else {
         Err(CertReason::Word)

@@ -2,7 +2,7 @@
 use Rattle.std.proofs.Common.{◌≡◌, ◌≢◌, ℕ, ◌+◌, ◌<◌, ◌≤◌, ◌⊎◌, inl, inr, IsTrue, true, false, List, length, refl, sym, ◌∙◌, ap, subst, arith, Some, slice_get, slice_index_or, slice_set}
 use Rattle.std.proofs.lemmas.Bool.{cases_eq, cases_lt, true≢false}
 use Rattle.std.proofs.lemmas.List.{length-set, get_or-set_same, get_or-set_other}
-use Rattle.std.proofs.lemmas.Option.{slice_get-get_or, slice_get_within, slice_get_past, get_or_from_slice_get}
+use Rattle.std.proofs.lemmas.Option.{same_Some, slice_get-get_or, slice_get_within, slice_get_past, get_or_from_slice_get}
 use Rattle.hq_packet.specs.declared.packet.Head.{Head}
 use Rattle.hq_model.specs.Job.{Job, IsPacket}
 use Rattle.hq_model.specs.Order.{OrderList}
@@ -17,7 +17,7 @@ use Rattle.hq_audit.specs.Refused.{AllShown}
 use Rattle.hq_audit.proofs.Certifying.{shown_is_ordered}
 use Rattle.hq_change.specs.declared.level.Level.{Level}
 use Rattle.hq_change.specs.declared.level.Level.TheVariants as level
-use Rattle.hq_change.specs.Levels.{IsAt, part_of, IsLowered, Stays, HeadLowered, AreLowered}
+use Rattle.hq_change.specs.Levels.{IsAt, part_of, IsLowered, Stays, HeadLowered, AreLowered, SomeOther}
 use Rattle.hq_change.specs.Between.{SetBetween}
 use Rattle.hq_change.specs.Minimal.{AtOrAbove, Settled, IsOn, Fit, Attempted}
 use Rattle.hq_change.proofs.Single.{head_itself, lowered_below, lowered_not_at, lowered_bit}
@@ -33,6 +33,10 @@ get_set_other xs i p x apart = elim (cases_lt p (length xs)) [
   | inl low ↦ slice_get-get_or (slice_set xs i x) p no_head (omega (arith, low, length-set xs i x)) ∙ ap (λ h. Some h) (get_or-set_other xs i p x no_head apart) ∙ sym (slice_get-get_or xs p no_head low)
   | inr past ↦ slice_get_past (slice_set xs i x) p (omega (arith, past, length-set xs i x)) ∙ sym (slice_get_past xs p (omega (arith, past)))
 ]
+
+-- a head that was lowered isn't what it was
+lowered_apart : (l : Level) (low old new : Head) → IsLowered l low old new → new ≢ old
+lowered_apart l low old new x e = lowered_not_at l old x.at (subst (IsAt l) (sym e ∙ x.is) x.at)
 
 pub none_lowered : (l : Level) (floor : List Head) (from : ℕ) (heads : List Head) → AreLowered l floor from from heads heads
 none_lowered l floor from heads = record { len = refl; inside = λ p low head above below. absurd (omega (arith, above, below)); others = λ p out. refl }
@@ -67,6 +71,10 @@ module _ (l : Level) (floor : List Head) (from i : ℕ) (old now : List Head) (h
 
   pub one_lowered : (new : Head) → IsLowered l low head new → AreLowered l floor from (i + 1) old (slice_set now i new)
   one_lowered new x = inside_more (slice_set now i new) (λ p apart. get_set_other now i p new apart) (new, get_set_same now i new (slice_get_within now i head is), inl x) (length-set now i new)
+
+  -- and one head is other than it was
+  pub one_other : (new : Head) → IsLowered l low head new → SomeOther old (slice_set now i new)
+  one_other new x = (i, λ e. lowered_apart l low head new x (same_Some new head (sym (get_set_same now i new (slice_get_within now i head is)) ∙ e ∙ as_old)))
 
   pub one_stays : Stays l low head → AreLowered l floor from (i + 1) old now
   one_stays x = inside_more now (λ p apart. refl) (head, is, inr (x, refl)) refl

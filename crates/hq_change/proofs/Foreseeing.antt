@@ -1,7 +1,7 @@
 -- What is foreseen of bits.
 use Rattle.std.proofs.Common.{◌≡◌, ℕ, ◌+◌, ◌<◌, ◌≤◌, inl, inr, ◌||◌, ◌==◌, IsTrue, List, length, refl, sym, ◌∙◌, ap, subst, arith, Some, slice_get}
 use Rattle.std.specs.Global.{Vec}
-use Rattle.std.proofs.lemmas.Bool.{cases_eq}
+use Rattle.std.proofs.lemmas.Bool.{cases_eq, cases_lt}
 use Rattle.std.proofs.lemmas.Option.{get_or_from_slice_get}
 use Rattle.hq_packet.specs.declared.packet.Head.{Head}
 use Rattle.hq_model.specs.Job.{Job, IsPacket}
@@ -14,6 +14,7 @@ use Rattle.hq_model.proofs.SettingsSteps.{heads_are_set, raises_on, same_by_head
 use Rattle.hq_order.specs.Bits.{has}
 use Rattle.hq_order.specs.Matrix.{Marks, IsSquare, row, words_for}
 use Rattle.hq_order.proofs.Crossing.{mark_bit}
+use Rattle.hq_audit.specs.Parts.{NeverConflict}
 use Rattle.hq_audit.specs.Refused.{AllShown}
 use Rattle.hq_order.specs.Sweeping.{HaveOrder}
 use Rattle.hq_audit.proofs.Certifying.{shown_is_ordered, turned}
@@ -127,6 +128,35 @@ conflict_more job a b old now new e exact low conflict h x m = elim ((mark_bit (
   | inl was ↦ h x (subst (λ xs. IsTrue (has xs x)) e was)
   | inr same ↦ subst (λ y. (y < a) × HaveConflict job y a) (sym same) (low, conflict)
 ]
+
+-- what may be passed over doesn't conflict with a
+none_passed : (job : Job) (a x : ℕ) → NeverConflict job a x → HaveConflict job x a → ⊥
+none_passed job a x never h = let c = turned job h.0 a x h.1 in never c.0 c.1
+
+-- up to the first one that may conflict there is none
+pub all_first : (job : Job) (a next : ℕ) (row : List ℕ) → ((s : ℕ) → 0 ≤ s → s < next → NeverConflict job a s) → (x : ℕ) → x < next → x < a → HaveConflict job x a → IsTrue (has row x)
+all_first job a next row never x low less h = absurd (none_passed job a x (never x (omega arith) low) h)
+
+module _ (job : Job) (a b next : ℕ) (old : List ℕ) (all : (x : ℕ) → x < b → x < a → HaveConflict job x a → IsTrue (has old x)) (never : (s : ℕ) → b + 1 ≤ s → s < next → NeverConflict job a s) where
+  pub all_more : (now new : List ℕ) → now ≡ old → ((p : ℕ) → has new p ≡ (has now p || p == b)) → (x : ℕ) → x < next → x < a → HaveConflict job x a → IsTrue (has new x)
+  all_more now new e exact x low less h =
+      let bit = (mark_bit (has now x) (has new x) x b (exact x)).1 in
+      elim (cases_lt x b) [
+        | inl below ↦ bit (inl (subst (λ xs. IsTrue (has xs x)) (sym e) (all x below less h)))
+        | inr from ↦ elim (cases_eq x b) [
+          | inl same ↦ bit (inr same)
+          | inr apart ↦ absurd (none_passed job a x (never x (omega (arith, from, apart)) low) h)
+        ]
+      ]
+
+  pub all_kept : ¬ HaveConflict job b a → (x : ℕ) → x < next → x < a → HaveConflict job x a → IsTrue (has old x)
+  all_kept none x low less h = elim (cases_lt x b) [
+    | inl below ↦ all x below less h
+    | inr from ↦ elim (cases_eq x b) [
+      | inl same ↦ absurd (none (subst (λ y. HaveConflict job y a) same h))
+      | inr apart ↦ absurd (none_passed job a x (never x (omega (arith, from, apart)) low) h)
+    ]
+  ]
 
 pub square_rows : (n : ℕ) (rows : List (Vec ℕ)) → n ≤ 1024 → length rows ≡ n → ((r : ℕ) → r < n → length (row rows r) ≡ words_for n) → IsSquare n rows
 square_rows n rows few len wide = record { height = len; width = wide; room = omega arith; few = omega arith }

@@ -2,7 +2,7 @@
 use Rattle.std.specs.Prelude.{◌≡◌, ◌≢◌, ℕ, ◌<◌, List, length}
 use Rattle.std.specs.Global.{Vec}
 use Rattle.hq_packet.specs.declared.packet.Head.{Head}
-use Rattle.hq_model.specs.Job.{Job}
+use Rattle.hq_model.specs.Job.{Job, IsPacket}
 use Rattle.hq_model.specs.Fence.{Ordered}
 use Rattle.hq_fence.specs.Judgement.{HaveConflict}
 use Rattle.hq_model.specs.Settings.{Raises, head_at}
@@ -16,6 +16,10 @@ use Rattle.hq_change.specs.Minimal.{AtOrAbove, Settled, SettledFrom}
 pub record AreConflicts (job : Job) (rows : List (Vec ℕ)) : Type 0 where
   pub square : IsSquare (length job.packets) rows
   pub conflict : (b a : ℕ) → Marks rows b a → (b < a) × HaveConflict job b a
+
+-- and each such packet
+pub record HaveConflicts (job : Job) (rows : List (Vec ℕ)) : Type 0 where
+  pub all : (b a : ℕ) → b < a → IsPacket job a → HaveConflict job b a → Marks rows b a
 
 -- The setting is at or below the one before, and at or above the floor. It differs in no other packet's head than
 -- p's; and where p has its bit still, that can't go.

@@ -1,5 +1,5 @@
 -- The parts of heads at their levels.
-use Rattle.std.specs.Prelude.{◌≡◌, ℕ, ◌<◌, ◌≤◌, ◌⊎◌, IsTrue, List, length, Some, slice_get}
+use Rattle.std.specs.Prelude.{◌≡◌, ◌≢◌, ℕ, ◌<◌, ◌≤◌, ◌⊎◌, IsTrue, List, length, Some, slice_get}
 use Rattle.hq_packet.specs.declared.packet.Head.{Head}
 use Rattle.hq_packet.specs.declared.packet.Scope.TheVariants as scope
 use Rattle.hq_model.specs.Settings.{HeadRaises, Part, lowered}
@@ -14,6 +14,14 @@ part_of level.AcquireSystem = AcquireScope
 part_of level.ReleaseAgent = ReleaseScope
 part_of level.AcquireAgent = AcquireScope
 part_of level.Bit = Bit
+
+-- how many levels go first: those that are dearer
+abbrev pub ahead_of : Level → ℕ
+ahead_of level.ReleaseSystem = 0
+ahead_of level.AcquireSystem = 1
+ahead_of level.ReleaseAgent = 2
+ahead_of level.AcquireAgent = 3
+ahead_of level.Bit = 4
 
 -- The head's part stands at the level.
 abbrev pub IsAt : Level → Head → Type 0
@@ -43,3 +51,7 @@ pub record AreLowered (level : Level) (floor : List Head) (from to : ℕ) (old n
   pub inside : (p : ℕ) (low head : Head) → from ≤ p → p < to → slice_get floor p ≡ Some low
       → slice_get old p ≡ Some head → (other : Head) × (slice_get new p ≡ Some other) × HeadLowered level low head other
   pub others : (p : ℕ) → (p < from) ⊎ (to ≤ p) → slice_get new p ≡ slice_get old p
+
+-- One of these heads is other than it was: one was lowered.
+abbrev pub SomeOther : List Head → List Head → Type 0
+SomeOther old new = (p : ℕ) × (slice_get new p ≢ slice_get old p)

@@ -8,7 +8,8 @@ use Rattle.hq_order.specs.declared.before.Rounds.{Rounds}
 use Rattle.hq_order.specs.View.{AreOf}
 use Rattle.hq_change.specs.declared.level.Level.{Level}
 use Rattle.hq_change.specs.declared.level.Level.TheVariants as levels
-use Rattle.hq_change.specs.Levels.{IsAt, part_of}
+use Rattle.hq_change.specs.Levels.{AreLowered, IsAt, part_of}
+use Rattle.hq_change.specs.Between.{SetBetween}
 
 -- ---- what is answered
 
@@ -75,6 +76,14 @@ pub record Attempted (level : Level) (floor : List Head) (from to : ℕ) (old ne
   pub fit : Fit level new rounds
   pub settled : IsTrue went ⊎ (to ≡ from + 1) → (p : ℕ) → from ≤ p → p < to → IsAt level (head_at new p)
       → Settled floor new p (part_of level)
+
+-- The setting with the heads from one number up to another lowered isn't ordered.
+pub record TooLow (level : Level) (floor : List Head) (from to : ℕ) (heads : List Head) (job : Job) : Type 0 where
+  pub low : List Head
+  pub setting : Job
+  pub lowered : AreLowered level floor from to heads low
+  pub set : SetBetween low from to job setting
+  pub refused : ¬ Ordered setting
 
 -- After all packets were settled at a level: the setting is at or below the one before.
 pub record Settles (level : Level) (floor : List Head) (old new : Job) (heads : List Head)

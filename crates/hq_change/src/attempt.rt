@@ -1,11 +1,12 @@
 //! One attempt to lower heads.
 
-ghost use Rattle.std.specs.Prelude.{◌≡◌, ◌<◌, ◌≤◌, IfOk, OnOk, length};
+ghost use Rattle.std.specs.Prelude.{◌≡◌, ◌<◌, ◌≤◌, IfOk, IsTrue, OnOk, false, length};
 ghost use Rattle.hq_job.specs.Heads.{SameButHeads};
 ghost use Rattle.hq_job.specs.Plan.{plan};
 ghost use Rattle.hq_order.specs.View.{AreOf};
 ghost use Rattle.hq_audit.specs.Parts.{AreParts};
-ghost use Rattle.hq_change.specs.Minimal.{Attempted, Fit, IsOn};
+ghost use Rattle.hq_change.specs.Levels.{AreLowered};
+ghost use Rattle.hq_change.specs.Minimal.{Attempted, Fit, IsOn, TooLow};
 
 use crate::heads::{copied, lower_between, set_between};
 use crate::level::Level;
@@ -59,6 +60,13 @@ pub fn attempt(
     ensures attempted { IfOk result
         (λ tried. Attempted search.now.level search.now.floor.now from to (plan job.old)
         (plan job.new) heads.new.items tried.1 tried.0) }
+    ensures lowered { IfOk result
+        (λ tried. IsTrue tried.0
+        → AreLowered search.now.level search.now.floor.now from to heads.old.items heads.new.items) }
+    ensures kept { IfOk result (λ tried. tried.0 ≡ false → heads.new.items ≡ heads.old.items) }
+    ensures low { IfOk result
+        (λ tried. tried.0 ≡ false
+        → TooLow search.now.level search.now.floor.now from to heads.old.items (plan job.old)) }
     ensures same { OnOk result (SameButHeads job.old job.new) }
 {
     job.valid();

@@ -9,7 +9,7 @@ ghost use Rattle.hq_order.specs.Matrix.{IsSquare, Marks, row, words_for};
 ghost use Rattle.hq_order.specs.View.{AreOf};
 ghost use Rattle.hq_audit.specs.Parts.{AreParts};
 ghost use Rattle.hq_fence.specs.Judgement.{HaveConflict};
-ghost use Rattle.hq_change.specs.Foresight.{AreConflicts};
+ghost use Rattle.hq_change.specs.Foresight.{AreConflicts, HaveConflicts};
 
 use hq_audit::Parts;
 use hq_fence::have_conflict;
@@ -38,6 +38,7 @@ fn conflict_row(
     requires a_is { IsPacket before.now a }
     ensures len { IfOk result (λ row. length row.items ≡ words_for (length before.now.packets)) }
     ensures conflict { IfOk result (λ row. (b : ℕ) → IsTrue (has row.items b) → (b < a) × HaveConflict before.now b a) }
+    ensures all { IfOk result (λ row. (b : ℕ) → b < a → HaveConflict before.now b a → IsTrue (has row.items b)) }
 {
     before.job().valid();
     let others = parts.others(before, a);
@@ -55,7 +56,8 @@ fn conflict_row(
 /// For each packet those with lesser numbers that conflict with it.
 fn conflict_rows(alloc: Global, before: &Before, parts: &Parts) -> Result<Vec<Vec<u64>>, AllocError>
     requires parts { AreParts before.now parts.now }
-    ensures { IfOk result (λ rows. AreConflicts before.now rows.items) }
+    ensures conflicts { IfOk result (λ rows. AreConflicts before.now rows.items) }
+    ensures all { IfOk result (λ rows. HaveConflicts before.now rows.items) }
 {
     let mut rows = Vec::with_capacity(alloc, before.len())?;
     for a in 0..before.len() {
@@ -74,6 +76,8 @@ pub fn conflicts_of(
     requires rounds { AreOf (plan job.now) rounds }
     requires parts { AreParts (plan job.now) parts.now }
     ensures conflicts { IfOk result (λ it. AreConflicts (plan job.now) it.0.items) }
+    ensures all { IfOk result (λ it. HaveConflicts (plan job.now) it.0.items) }
+    ensures rounds { IfOk result (λ it. AreOf (plan job.now) it.1) }
 {
     let before = rounds.over(job);
     let rows = conflict_rows(alloc, &before, parts)?;

@@ -4,7 +4,7 @@ ghost use Rattle.std.specs.Prelude.{◌≡◌, ◌↔◌, ◌≤◌, IfOk, IsTru
 ghost use Rattle.hq_job.specs.Heads.{SameButHeads};
 ghost use Rattle.hq_job.specs.Plan.{plan};
 ghost use Rattle.hq_model.specs.Settings.{HeadRaises};
-ghost use Rattle.hq_change.specs.Levels.{AreLowered};
+ghost use Rattle.hq_change.specs.Levels.{AreLowered, SomeOther};
 ghost use Rattle.hq_change.specs.Between.{SetBetween};
 
 use crate::level::Level;
@@ -43,6 +43,7 @@ pub fn lower_between(
     requires to { to ≤ length heads.old }
     ensures lowered { AreLowered level floor.now from to heads.old heads.new }
     ensures none { result ≡ false → heads.new ≡ heads.old }
+    ensures some { IsTrue result → SomeOther heads.old heads.new }
 {
     let mut some = false;
     for p in from..to {

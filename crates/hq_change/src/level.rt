@@ -2,7 +2,7 @@
 
 ghost use Rattle.std.specs.Prelude.{◌≡◌, ◌↔◌, IsTrue, MatchOption};
 ghost use Rattle.hq_model.specs.Settings.{lowered, scope_below};
-ghost use Rattle.hq_change.specs.Levels.{IsAt, IsLowered, Stays, part_of};
+ghost use Rattle.hq_change.specs.Levels.{IsAt, IsLowered, Stays, ahead_of, part_of};
 
 use crate::heads::is_at_or_above;
 use hq_packet::{Head, Scope};
@@ -32,7 +32,9 @@ pub const LEVELS: usize = 5;
 
 impl Level {
     /// How many levels go first.
-    pub fn ahead(self) -> usize {
+    pub fn ahead(self) -> usize
+        ensures { result ≡ ahead_of self }
+    {
         match self {
             Level::ReleaseSystem => 0,
             Level::AcquireSystem => 1,

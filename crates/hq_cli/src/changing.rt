@@ -139,8 +139,10 @@ pub fn say_changes(rt: &HostRuntime, changed: Changed, aim: Aim) {
 
 /// Says that nothing mends a job, where it is to be mended and a conflict stays. Where standard error fails,
 /// nothing is said.
-pub fn say_unmended(rt: &HostRuntime, status: Status, aim: Aim) {
-    if aim == Aim::Fix && status == Status::Conflict {
+pub fn say_unmended(rt: &HostRuntime, status: &Status, aim: Aim) {
+    if aim == Aim::Fix
+        && let Status::Conflict { .. } = status
+    {
         let _ = eprintln!(rt; "hsaq: {UNFIXABLE}");
     }
 }

@@ -3,14 +3,12 @@
 
 mod changing;
 mod explaining;
-mod heard;
 mod input;
 mod output;
 mod progress;
 
 use changing::{say_changes, say_unmended};
-use explaining::{explain, explain_explained, explain_unopened, explain_witness};
-use heard::Heard;
+use explaining::{explain, explain_unopened};
 use hq_engines::{
     Aim, Status, audit_engine, change_engine, chart_engine, check_engine, explain_engine,
     graph_engine, job_engine, pack_engine, replay_engine, run_engine, say_file, say_memory,
@@ -147,9 +145,9 @@ fn change_opened<W: Write>(
     let settling = Settling::new(rt);
     let (status, changed) = change_engine(rt.alloc(), input, writer, aim, &settling);
     settling.clear();
-    match changed {
-        Some(changed) => say_changes(rt, changed, aim),
-        None => say_unmended(rt, status, aim),
+    say_unmended(rt, &status, aim);
+    if let Some(changed) = changed {
+        say_changes(rt, changed, aim);
     }
     status
 }
@@ -197,7 +195,7 @@ fn explain_asked<W: Write>(
 ) -> Status {
     match which_of(pair, second, all) {
         Some(which) => explain_job(rt, job, which, writer),
-        None => Status::Words,
+        None => Status::PairWords,
     }
 }
 
@@ -345,17 +343,10 @@ fn answer_on_stdout(
 ) -> Status {
     let mut stdout = rt.stdout();
     match BufWriter::new(rt.alloc(), &mut stdout) {
-        Ok(writer) => {
-            let mut writer = Heard::new(writer);
+        Ok(mut writer) => {
             let status = answer(rt, threads, asked, &mut writer);
             let status = flushed(&mut writer, status);
-            match asked {
-                Asked::Explain { .. } => explain_explained(rt, status, writer.first_line()),
-                Asked::Witness { .. } if status == Status::Conflict => {
-                    explain_witness(rt, writer.first_line(), writer.second_line())
-                }
-                _ => explain(rt, status, writer.first_line()),
-            }
+            explain(rt, &status);
             status
         }
         Err(_) => say_memory(&mut rt.stdout()),

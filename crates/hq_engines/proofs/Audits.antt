@@ -23,7 +23,7 @@ never_complete law job valid packets are = record {
 
 pub no_reported : StuckLaw → (job : Job) → Valid job → (refusal : AuditNo) (old new : Option (List ℕ)) (answered : Status) → IsRefused job refusal → NoSaid refusal old new answered → Reported (NotOrdered job) old new answered
 no_reported law job valid (no.Stuck packets) old new answered refused said = (stuck_text packets.items, status.Stuck, stuck packets.items (never_complete law job valid packets.items refused), said)
-no_reported law job valid (no.Conflict p r kind why) old new answered refused said = (with_feed (conflict_text p r kind why), status.Conflict, conflict p r kind why refused, said)
+no_reported law job valid (no.Conflict p r kind why) old new answered refused said = (with_feed (conflict_text p r kind why), status.Conflict p r kind why, conflict p r kind why refused, said)
 no_reported law job valid no.Memory old new answered refused said = (with_feed (codes "out of memory"), status.Memory, no_memory, said)
 
 pub no_certificate : (job : Job) (old new : Option (List ℕ)) (answered : Status) → Reported (NotOrdered job) old new answered → Reported (JobReport job) old new answered

@@ -23,7 +23,7 @@ use Rattle.hq_job.specs.declared.fault.Reason.TheVariants as reason
 use Rattle.hq_job.proofs.NotRead.{not_read}
 use Rattle.hq_audit.specs.Refused.{IsRefused}
 use Rattle.hq_audit.specs.declared.fault.AuditNo.{AuditNo}
-use Rattle.hq_engines.specs.Audit.{NoSaid, NotOrdered}
+use Rattle.hq_engines.specs.Audit.{NoSaid}
 use Rattle.hq_engines.specs.Change.{ChangeReport, IsChanged, TellsChange, TellsText, judged_job}
 use Rattle.hq_engines.specs.Change.ChangeReport.{not_ordered}
 use Rattle.hq_engines.specs.Reports.{IsUnread, JobTextReport, NoJob, OfReader, ReaderReport, Reported, SaysNoJob}

@@ -1,5 +1,5 @@
 -- What `chart` writes.
-use Rattle.std.proofs.Common.{◌≡◌, ◌⊎◌, ℕ, Bool, true, false, inl, inr, List, Option, take, codes}
+use Rattle.std.proofs.Common.{◌⊎◌, ℕ, Bool, true, false, inl, inr, List, Option, take, codes}
 use Rattle.hq_job.specs.Plan.{plan}
 use Rattle.hq_job.specs.Value.{JobValue}
 use Rattle.hq_machine.specs.declared.event.Event.{Event}
@@ -9,7 +9,7 @@ use Rattle.hq_engines.specs.Chart.{ChartReport}
 use Rattle.hq_engines.specs.Chart.ChartReport.{drawn, stopped, no_memory}
 use Rattle.hq_engines.specs.Reports.{Reported, Said, with_feed}
 use Rattle.hq_engines.specs.declared.status.Status.{Status}
-use Rattle.hq_engines.specs.declared.status.Status.TheVariants.{Done, RunRefused, Memory}
+use Rattle.hq_engines.specs.declared.status.Status.TheVariants.{Done, DrawnUntil, Memory}
 
 pub drawn_reported : (job : JobValue) (copies : Bool) (events : List Event) (bytes : List ℕ) (old new : Option (List ℕ)) (answered : Status) → Replayed (plan job) events bytes
     → Said old new (chart_text job copies events false) Done answered ⊎ Said old new (with_feed (codes "out of memory")) Memory answered → Reported (ChartReport job copies events) old new answered
@@ -17,6 +17,6 @@ drawn_reported job copies events bytes old new answered run (inl said) = (chart_
 drawn_reported job copies events bytes old new answered run (inr said) = (with_feed (codes "out of memory"), Memory, no_memory, said)
 
 pub stopped_reported : (job : JobValue) (copies : Bool) (events : List Event) (place : ℕ) (old new : Option (List ℕ)) (answered : Status) → StopsAt (plan job) events place
-    → Said old new (chart_text job copies (take place events) true) RunRefused answered ⊎ Said old new (with_feed (codes "out of memory")) Memory answered → Reported (ChartReport job copies events) old new answered
-stopped_reported job copies events place old new answered why (inl said) = (chart_text job copies (take place events) true, RunRefused, stopped place why, said)
+    → Said old new (chart_text job copies (take place events) true) (DrawnUntil place) answered ⊎ Said old new (with_feed (codes "out of memory")) Memory answered → Reported (ChartReport job copies events) old new answered
+stopped_reported job copies events place old new answered why (inl said) = (chart_text job copies (take place events) true, DrawnUntil place, stopped place why, said)
 stopped_reported job copies events place old new answered why (inr said) = (with_feed (codes "out of memory"), Memory, no_memory, said)

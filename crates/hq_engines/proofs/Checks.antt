@@ -1,5 +1,5 @@
 -- What `check` writes.
-use Rattle.std.proofs.Common.{◌≡◌, ◌⊎◌, ℕ, inl, inr, List, Option, IfOk, IfErr, Result, Ok, Err, length, codes, ap, subst}
+use Rattle.std.proofs.Common.{◌≡◌, ℕ, inl, inr, List, Option, IfOk, IfErr, Result, Ok, Err, length, codes, ap, subst}
 use Rattle.hq_text.specs.Lines.{lines_of}
 use Rattle.hq_text.specs.Intake.{OfText}
 use Rattle.hq_text.specs.Turns.{ReadTurn}
@@ -36,7 +36,7 @@ pub no_certificate_said : (S : Type 0) (left : S → Option (List ℕ)) (old new
     → OfText S (ReadTurn left) 2000000 old new (λ text. HasFault (lines_of text) fault) → SaysNoCertificate fault was is answered → Reported (ReaderReport S left old new NoCertificate) was is answered
 no_certificate_said S left old new fault was is answered h (inl said) = (with_feed (codes "out of memory"), Memory, no_memory, said.1)
 no_certificate_said S left old new fault was is answered h (inr said) =
-    (with_feed (cert_refusal fault), CertificateRefused, of_text (of_reader S left old new (λ text. NoCertificate text (with_feed (cert_refusal fault)) CertificateRefused) (record { text = h.text; ended = h.ended; so = refused fault (own h.text fault h.so said.0) })), said.1)
+    (with_feed (cert_refusal fault), CertificateRefused fault, of_text (of_reader S left old new (λ text. NoCertificate text (with_feed (cert_refusal fault)) (CertificateRefused fault)) (record { text = h.text; ended = h.ended; so = refused fault (own h.text fault h.so said.0) })), said.1)
 
 -- what a check answered is its report
 pub checked_reported : (job : JobValue) (c : Certificate) (r : Result AcceptedJob (CheckNo × JobValue)) (old new : Option (List ℕ)) (answered : Status)

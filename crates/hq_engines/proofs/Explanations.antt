@@ -9,15 +9,15 @@ use Rattle.hq_explain.specs.Told.{Broken}
 use Rattle.hq_explain.specs.declared.which.Which.{Which}
 use Rattle.hq_engines.specs.Explain.{ExplainReport}
 use Rattle.hq_engines.specs.Explain.ExplainReport.{explained, no_memory}
-use Rattle.hq_engines.specs.Graph.{status_of}
 use Rattle.hq_engines.specs.Reports.{Reported, Said, with_feed}
 use Rattle.hq_engines.specs.declared.status.Status.{Status}
 use Rattle.hq_engines.specs.declared.status.Status.TheVariants.{Memory, File}
+use Rattle.hq_engines.specs.declared.status.Status.TheVariants as status
 use Rattle.hq_engines.proofs.Shows.{appends_more}
 use Rattle.hq_explain.proofs.Counting.{nothing_told}
 
-pub explain_reported : (job : JobValue) (which : Which) (old new : Option (List ℕ)) (found : Found) (answered : Status) → Wrote old new (Explained job (plan job) which found) → answered ≡ status_of found → Reported (ExplainReport which job) old new answered
-explain_reported job which old new found answered wrote same = (wrote.text, status_of found, explained found wrote.says, inl (same, wrote.appends))
+pub explain_reported : (job : JobValue) (which : Which) (old new : Option (List ℕ)) (found : Found) (answered : Status) → Wrote old new (Explained job (plan job) which found) → answered ≡ status.Explained found → Reported (ExplainReport which job) old new answered
+explain_reported job which old new found answered wrote same = (wrote.text, status.Explained found, explained found wrote.says, inl (same, wrote.appends))
 
 pub explain_broken : (job : JobValue) (which : Which) (old mid new : Option (List ℕ)) (answered : Status) → Wrote old mid (Broken job (plan job)) → Said mid new (with_feed (codes "out of memory")) Memory answered → Reported (ExplainReport which job) old new answered
 explain_broken job which old mid new answered wrote (inl said) =

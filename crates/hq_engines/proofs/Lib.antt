@@ -2,6 +2,7 @@ pub mod NoJobs
 pub mod Shows
 pub mod Queues
 pub mod Packs
+pub mod PackReports
 pub mod Audits
 pub mod Checks
 pub mod Replays

@@ -1,5 +1,5 @@
 -- Why there is no job, and what is reported of one.
-use Rattle.std.proofs.Common.{◌≡◌, ℕ, ◌⊎◌, inl, inr, List, Option, codes, ap}
+use Rattle.std.proofs.Common.{◌≡◌, ℕ, inl, inr, List, Option, codes, ap}
 use Rattle.hq_text.specs.Intake.{OfText}
 use Rattle.hq_text.specs.Lines.{lines_of}
 use Rattle.hq_text.specs.Turns.{ReadTurn}
@@ -30,7 +30,7 @@ no_job_said S left old new f was is answered fault failed (inl said) = (with_fee
 no_job_said S left old new f was is answered fault failed (inr (inl said)) = (with_feed (codes "file fault"), File, no_text (failed said.0), said.1)
 no_job_said S left old new f was is answered fault failed (inr (inr said)) =
     let h : OfText S (ReadTurn left) 2000000 old new (λ text. FirstFault (lines_of text) f) = own f _ _ fault said.0 said.1 in
-    (with_feed (job_refusal f), JobRefused, of_text (of_reader S left old new (λ text. NoJob text (with_feed (job_refusal f)) JobRefused) (record { text = h.text; ended = h.ended; so = refused f h.so })), said.2)
+    (with_feed (job_refusal f), JobRefused f, of_text (of_reader S left old new (λ text. NoJob text (with_feed (job_refusal f)) (JobRefused f)) (record { text = h.text; ended = h.ended; so = refused f h.so })), said.2)
 
 -- what is reported where there is no job is reported
 pub job_missing : (S : Type 0) (left : S → Option (List ℕ)) (old new : S) (Report : JobValue → List ℕ → Status → Type 0) (was is : Option (List ℕ)) (answered : Status)

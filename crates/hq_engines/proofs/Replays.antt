@@ -25,7 +25,7 @@ use Rattle.hq_engines.specs.Reports.{OfReader, ReaderReport, Reported, Said, wit
 use Rattle.hq_engines.specs.Reports.ReaderReport.{of_text, no_memory}
 use Rattle.hq_engines.proofs.ReadTexts.{of_reader, missing, found}
 use Rattle.hq_engines.specs.declared.status.Status.{Status}
-use Rattle.hq_engines.specs.declared.status.Status.TheVariants.{Done, RunRefused, Memory}
+use Rattle.hq_engines.specs.declared.status.Status.TheVariants.{Done, TimelineRefused, NotEnabled, Memory}
 
 -- a fault that isn't of memory is the text's
 own : (text : List ℕ) (fault : TimeFault) → HasFault (lines_of text) fault → ¬ (fault.reason ≡ reason.Memory) → FirstFault (lines_of text) fault
@@ -36,11 +36,11 @@ pub no_timeline_said : (S : Type 0) (left : S → Option (List ℕ)) (old new : 
     → OfText S (ReadTurn left) 2000000 old new (λ text. HasFault (lines_of text) fault) → SaysNoTimeline fault was is answered → Reported (ReaderReport S left old new NoTimeline) was is answered
 no_timeline_said S left old new fault was is answered h (inl said) = (with_feed (codes "out of memory"), Memory, no_memory, said.1)
 no_timeline_said S left old new fault was is answered h (inr said) =
-    (with_feed (time_refusal fault), RunRefused, of_text (of_reader S left old new (λ text. NoTimeline text (with_feed (time_refusal fault)) RunRefused) (record { text = h.text; ended = h.ended; so = refused fault (own h.text fault h.so said.0) })), said.1)
+    (with_feed (time_refusal fault), TimelineRefused fault, of_text (of_reader S left old new (λ text. NoTimeline text (with_feed (time_refusal fault)) (TimelineRefused fault)) (record { text = h.text; ended = h.ended; so = refused fault (own h.text fault h.so said.0) })), said.1)
 
 -- what a replay answered is its report
 pub stop_reported : (job : JobValue) (events : List Event) (fault : ReplayFault) (old new : Option (List ℕ)) (answered : Status) → NotReplayed (plan job) events fault → StopSaid fault old new answered → Reported (RunReport job events) old new answered
-stop_reported job events (stop.NotEnabled place) old new answered why said = (with_feed (event_refusal place), RunRefused, stopped place why, said)
+stop_reported job events (stop.NotEnabled place) old new answered why said = (with_feed (event_refusal place), NotEnabled place, stopped place why, said)
 stop_reported job events stop.Memory old new answered why said = (with_feed (codes "out of memory"), Memory, run_memory, said)
 
 pub buffers_reported : (job : JobValue) (events : List Event) (bytes : List ℕ) (old new : Option (List ℕ)) (answered : Status) → Replayed (plan job) events bytes

@@ -1,21 +1,22 @@
 -- What `run` writes.
-use Rattle.std.proofs.Common.{◌≡◌, ◌⊎◌, ℕ, inl, inr, List, [], ◌∷◌, ◌++◌, Option, Some, None, codes, ap₂, sym, subst}
+use Rattle.std.proofs.Common.{◌≡◌, ◌⊎◌, ℕ, inl, inr, List, [], Option, Some, None, codes, ap₂, sym, subst}
 use Rattle.std.proofs.lemmas.List.{append-nil}
+use Rattle.std.specs.Prelude.{MatchOption}
 use Rattle.std.specs.Io.KnownBytes.{Appends}
 use Rattle.hq_job.specs.Plan.{plan}
 use Rattle.hq_job.specs.Value.{JobValue}
 use Rattle.hq_machine.specs.declared.event.Event.{Event}
 use Rattle.hq_runner.specs.Journals.{IsOneByOne, IsWhole}
-use Rattle.hq_runner.specs.declared.outcome.RunFault.{RunFault}
 use Rattle.hq_timeline.specs.Printed.{text_of}
 use Rattle.hq_engines.specs.Audit.{NotOrdered}
 use Rattle.hq_engines.specs.Audit.NotOrdered.{no_memory}
 use Rattle.hq_engines.specs.Buffers.{buffers_text}
 use Rattle.hq_engines.specs.Reports.{Reported, Said, with_feed}
-use Rattle.hq_engines.specs.Run.{BothSaid, Recorded, RunReport, fault_text}
-use Rattle.hq_engines.specs.Run.RunReport.{ran, not_ordered, faulted}
+use Rattle.hq_engines.specs.Run.{BothSaid, Recorded, RunReport, failure_text}
+use Rattle.hq_engines.specs.Run.RunReport.{ran, not_ordered, stopped}
+use Rattle.hq_engines.specs.declared.status.RunFailure.{RunFailure}
 use Rattle.hq_engines.specs.declared.status.Status.{Status}
-use Rattle.hq_engines.specs.declared.status.Status.TheVariants.{Done, RunRefused, Memory, File}
+use Rattle.hq_engines.specs.declared.status.Status.TheVariants.{Done, RunFailed, Memory, File}
 
 -- nothing is written behind what is known
 stays : (known : Option (List ℕ)) → Appends known known []
@@ -60,12 +61,12 @@ ran_of job seen events memory bytes begun recorded old new answered same_job sam
     (subst (λ text. BothSaid begun recorded (text_of events) old new text Done answered ⊎ BothSaid begun recorded [] old new (with_feed (codes "out of memory")) Memory answered)
     (ap₂ (λ (j : JobValue) m. buffers_text j.buffers m) same_job same_memory) said)
 
-pub fault_reported : (job : JobValue) (found : RunFault) (begun recorded old new : Option (List ℕ)) (answered : Status) → recorded ≡ begun
-    → Said old new (with_feed (fault_text found)) RunRefused answered ⊎ Said old new (with_feed (codes "out of memory")) Memory answered
+pub fault_reported : (job : JobValue) (found : Option RunFailure) (begun recorded old new : Option (List ℕ)) (answered : Status) → recorded ≡ begun
+    → MatchOption found (Said old new (with_feed (codes "out of memory")) Memory answered) (λ f. Said old new (with_feed (failure_text f)) (RunFailed f) answered)
     → Recorded (RunReport job) begun recorded old new answered
-fault_reported job found begun recorded old new answered same (inl said) =
-    ([], with_feed (fault_text found), RunRefused, faulted found, alone begun recorded old new (with_feed (fault_text found)) RunRefused answered same said)
-fault_reported job found begun recorded old new answered same (inr said) =
+fault_reported job (Some f) begun recorded old new answered same said =
+    ([], with_feed (failure_text f), RunFailed f, stopped f, alone begun recorded old new (with_feed (failure_text f)) (RunFailed f) answered same said)
+fault_reported job None begun recorded old new answered same said =
     ([], with_feed (codes "out of memory"), Memory, not_ordered no_memory, alone begun recorded old new (with_feed (codes "out of memory")) Memory answered same said)
 
 pub not_ordered_reported : (job : JobValue) (begun recorded old new : Option (List ℕ)) (answered : Status) → recorded ≡ begun → Reported (NotOrdered (plan job)) old new answered

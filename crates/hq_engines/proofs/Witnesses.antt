@@ -1,5 +1,5 @@
 -- What `witness` writes.
-use Rattle.std.proofs.Common.{◌≡◌, ◌⊎◌, ℕ, inl, inr, List, [], ◌++◌, Option, Some, None, codes, sym, subst}
+use Rattle.std.proofs.Common.{◌≡◌, ◌⊎◌, ℕ, inl, inr, List, [], Option, Some, None, codes, sym, subst}
 use Rattle.std.proofs.lemmas.List.{append-nil}
 use Rattle.std.specs.Io.KnownBytes.{Appends}
 use Rattle.hq_job.specs.Plan.{plan}
@@ -15,10 +15,10 @@ use Rattle.hq_engines.specs.Audit.{NotOrdered}
 use Rattle.hq_engines.specs.Audit.NotOrdered.{no_memory}
 use Rattle.hq_engines.specs.Reports.{Reported, Said, with_feed}
 use Rattle.hq_engines.specs.Run.{BothSaid}
-use Rattle.hq_engines.specs.Witness.{Held, AllSaid, Witnessed, WitnessReport, witness_text}
+use Rattle.hq_engines.specs.Witness.{Held, Witnessed, WitnessReport, difference_of, witness_text}
 use Rattle.hq_engines.specs.Witness.WitnessReport.{shown, ordered, not_ordered, broken}
 use Rattle.hq_engines.specs.declared.status.Status.{Status}
-use Rattle.hq_engines.specs.declared.status.Status.TheVariants.{Done, Conflict, Memory, File}
+use Rattle.hq_engines.specs.declared.status.Status.TheVariants.{Done, Shown, Memory, File}
 
 -- nothing is written behind what is known
 stays : (known : Option (List ℕ)) → Appends known known []
@@ -30,10 +30,10 @@ unwritten old new same = subst (λ known. Appends old known []) (sym same) (stay
 
 -- both timelines, and what is shown
 pub witness_reported : (job : JobValue) (w : WitnessValue) (old new : Held) (answered : Status) → IsWitness (plan job) w → Appends old.good new.good (text_of w.good)
-    → BothSaid old.bad new.bad (text_of w.bad) old.answer new.answer (with_feed (witness_text job w)) Conflict answered ⊎ BothSaid old.bad new.bad [] old.answer new.answer (with_feed (codes "out of memory")) Memory answered
+    → BothSaid old.bad new.bad (text_of w.bad) old.answer new.answer (with_feed (witness_text job w)) (Shown (difference_of job w)) answered ⊎ BothSaid old.bad new.bad [] old.answer new.answer (with_feed (codes "out of memory")) Memory answered
     → Witnessed (WitnessReport job) old new answered
-witness_reported job w old new answered is good (inl (inl said)) = (text_of w.good, text_of w.bad, with_feed (witness_text job w), Conflict, shown w is, inl (said.0, good, said.1, said.2))
-witness_reported job w old new answered is good (inl (inr failed)) = (text_of w.good, text_of w.bad, with_feed (witness_text job w), Conflict, shown w is, inr failed)
+witness_reported job w old new answered is good (inl (inl said)) = (text_of w.good, text_of w.bad, with_feed (witness_text job w), Shown (difference_of job w), shown w is, inl (said.0, good, said.1, said.2))
+witness_reported job w old new answered is good (inl (inr failed)) = (text_of w.good, text_of w.bad, with_feed (witness_text job w), Shown (difference_of job w), shown w is, inr failed)
 witness_reported job w old new answered is good (inr (inl said)) = (text_of w.good, [], with_feed (codes "out of memory"), Memory, broken w is, inl (said.0, good, said.1, said.2))
 witness_reported job w old new answered is good (inr (inr failed)) = (text_of w.good, [], with_feed (codes "out of memory"), Memory, broken w is, inr failed)
 

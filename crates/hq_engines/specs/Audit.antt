@@ -41,7 +41,7 @@ pub record NeverComplete (job : Job) (packets : List ℕ) : Type 0 where
 pub data NotOrdered (job : Job) : List ℕ → Status → Type 0 where
   stuck : (packets : List ℕ) → NeverComplete job packets → NotOrdered job (stuck_text packets) Stuck
   conflict : (p r : ℕ) (kind : Kind) (why : Why) → IsRefused job (no.Conflict p r kind why)
-      → NotOrdered job (with_feed (conflict_text p r kind why)) Conflict
+      → NotOrdered job (with_feed (conflict_text p r kind why)) (Conflict p r kind why)
   no_memory : NotOrdered job (with_feed (codes "out of memory")) Memory
 
 -- What is written of a job: a certificate that holds; or why it isn't ordered.
@@ -53,5 +53,5 @@ pub data JobReport (job : Job) : List ℕ → Status → Type 0 where
 abbrev pub NoSaid : AuditNo → Option (List ℕ) → Option (List ℕ) → Status → Type 0
 NoSaid (no.Stuck packets) old new answered = Said old new (stuck_text packets.items) Stuck answered
 NoSaid (no.Conflict p r kind why) old new answered = Said old new
-    (with_feed (conflict_text p r kind why)) Conflict answered
+    (with_feed (conflict_text p r kind why)) (Conflict p r kind why) answered
 NoSaid no.Memory old new answered = Said old new (with_feed (codes "out of memory")) Memory answered

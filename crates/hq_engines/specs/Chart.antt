@@ -7,7 +7,7 @@ use Rattle.hq_timeline.specs.Replays.{Replayed, StopsAt}
 use Rattle.hq_chart.specs.Chart.{chart_text}
 use Rattle.hq_engines.specs.Reports.{with_feed}
 use Rattle.hq_engines.specs.declared.status.Status.{Status}
-use Rattle.hq_engines.specs.declared.status.Status.TheVariants.{Done, RunRefused, Memory}
+use Rattle.hq_engines.specs.declared.status.Status.TheVariants.{Done, DrawnUntil, Memory}
 
 -- What is written of a job and events: their picture, with what happens to copies where that is asked for; or that
 -- of the events before the first one that isn't enabled, which says so.
@@ -15,5 +15,5 @@ pub data ChartReport (job : JobValue) (copies : Bool) (events : List Event) : Li
   drawn : (bytes : List ℕ) → Replayed (plan job) events bytes
       → ChartReport job copies events (chart_text job copies events false) Done
   stopped : (place : ℕ) → StopsAt (plan job) events place
-      → ChartReport job copies events (chart_text job copies (take place events) true) RunRefused
+      → ChartReport job copies events (chart_text job copies (take place events) true) (DrawnUntil place)
   no_memory : ChartReport job copies events (with_feed (codes "out of memory")) Memory

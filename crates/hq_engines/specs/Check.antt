@@ -17,8 +17,9 @@ use Rattle.hq_certcheck.specs.View.{AcceptedJob}
 use Rattle.hq_certcheck.specs.declared.fault.CheckNo.{CheckNo}
 use Rattle.hq_certcheck.specs.declared.fault.CheckNo.TheVariants as no
 use Rattle.hq_engines.specs.Reports.{Said, with_feed}
+use Rattle.hq_engines.specs.declared.status.CheckFault.TheVariants as check
 use Rattle.hq_engines.specs.declared.status.Status.{Status}
-use Rattle.hq_engines.specs.declared.status.Status.TheVariants.{Done, CertificateRefused, Memory}
+use Rattle.hq_engines.specs.declared.status.Status.TheVariants.{Done, CertificateRefused, CertificateFails, Memory}
 
 -- ---- the lines
 
@@ -52,11 +53,12 @@ refusal_text (no.PairMissing p r) = pair_missing_text p r
 refusal_text (no.BadPair p r) = bad_pair_text p r
 refusal_text no.Memory = codes "out of memory"
 
+-- and its status
 abbrev pub refusal_status : CheckNo → Status
-refusal_status no.BadOrder = CertificateRefused
-refusal_status (no.BadLine k) = CertificateRefused
-refusal_status (no.PairMissing p r) = CertificateRefused
-refusal_status (no.BadPair p r) = CertificateRefused
+refusal_status no.BadOrder = CertificateFails check.Order
+refusal_status (no.BadLine k) = CertificateFails (check.Line k)
+refusal_status (no.PairMissing p r) = CertificateFails (check.PairMissing p r)
+refusal_status (no.BadPair p r) = CertificateFails (check.Pair p r)
 refusal_status no.Memory = Memory
 
 -- ---- the reports
@@ -64,7 +66,7 @@ refusal_status no.Memory = Memory
 -- Why there is no certificate: the text has a first fault.
 pub data NoCertificate (text : List ℕ) : List ℕ → Status → Type 0 where
   refused : (fault : CertFault) → FirstFault (lines_of text) fault
-      → NoCertificate text (with_feed (cert_refusal fault)) CertificateRefused
+      → NoCertificate text (with_feed (cert_refusal fault)) (CertificateRefused fault)
 
 -- What is written of a job and a certificate: that it holds, and so every run of the job agrees with each order
 -- that keeps the job's; or the first reason why it doesn't.
@@ -86,7 +88,7 @@ pub data CertReport (job : JobValue) (cert : List ℕ) : List ℕ → Status →
 abbrev pub SaysNoCertificate : CertFault → Option (List ℕ) → Option (List ℕ) → Status → Type 0
 SaysNoCertificate fault old new answered =
     ((fault.reason ≡ reason.Memory) × Said old new (with_feed (codes "out of memory")) Memory answered)
-    ⊎ ((¬ (fault.reason ≡ reason.Memory)) × Said old new (with_feed (cert_refusal fault)) CertificateRefused answered)
+    ⊎ ((¬ (fault.reason ≡ reason.Memory)) × Said old new (with_feed (cert_refusal fault)) (CertificateRefused fault) answered)
 
 abbrev pub NoSaid : CheckNo → Option (List ℕ) → Option (List ℕ) → Status → Type 0
 NoSaid refusal old new answered = Said old new (with_feed (refusal_text refusal)) (refusal_status refusal) answered

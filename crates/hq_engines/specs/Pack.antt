@@ -1,108 +1,112 @@
--- The words of `pack`, and the bytes that they are.
-use Rattle.std.specs.Prelude.{◌≡◌, ℕ, ◌+◌, ◌*◌, ◌^◌, Bool, true, false, List, [], ◌∷◌, ◌++◌, Option, Some, None}
-use Rattle.std.specs.Prelude.{MatchOption, codes, nat_lt, option_map, if◌then◌else◌}
-use Rattle.std.specs.Int.{w16, w32, w64, to_le_bytes}
-use Rattle.std.specs.Str.{bytes_eq}
+-- The words behind `pack`, and the fields of a packet that they say: numbers and names at places.
+use Rattle.std.specs.Prelude.{◌≡◌, ℕ, zero, suc, ◌+◌, ◌^◌, Bool, List, [], ◌∷◌, length, Option, Some, None, codes}
+use Rattle.std.specs.Prelude.{slice_index_or, nat_lt, option_map, if◌then◌else◌}
+use Rattle.hq_packet.specs.declared.packet.AgentCall.{AgentCall}
+use Rattle.hq_packet.specs.declared.packet.Barrier.{Barrier}
+use Rattle.hq_packet.specs.declared.packet.Head.{Head}
+use Rattle.hq_packet.specs.declared.packet.KernelFields.{KernelFields}
+use Rattle.hq_packet.specs.declared.packet.Packet.{Packet}
+use Rattle.hq_packet.specs.declared.packet.Packet.TheVariants as packet
+use Rattle.hq_packet.specs.declared.packet.Scope.{Scope}
+use Rattle.hq_packet.specs.declared.packet.Scope.TheVariants as scope
+use Rattle.hq_packet.specs.declared.fault.PacketFault.{PacketFault}
+use Rattle.hq_packet.specs.Dispatches.{fields_of, field_tests}
+use Rattle.hq_packet.specs.Faults.{first_of}
 use Rattle.hq_text.specs.Numbers.{number_of}
-use Rattle.hq_engines.specs.declared.fields.Width.{Width}
-use Rattle.hq_engines.specs.declared.fields.Width.TheVariants.{Two, Four, Eight}
-use Rattle.hq_engines.specs.declared.fields.Field.{Field}
-use Rattle.hq_engines.specs.declared.fields.Field.TheVariants.{Number, Reserved}
+use Rattle.hq_engines.specs.declared.fields.Fields.{Fields}
+use Rattle.hq_engines.specs.declared.fields.Fields.TheVariants.{Kernel, Agent, And, Or}
 
--- a number's bytes, the lowest first, where it fits so many
-abbrev pub number_bytes : Width → ℕ → Option (List ℕ)
-number_bytes Two n = if nat_lt n (2 ^ 16) then Some (to_le_bytes w16 n) else None
-number_bytes Four n = if nat_lt n (2 ^ 32) then Some (to_le_bytes w32 n) else None
-number_bytes Eight n = if nat_lt n (2 ^ 64) then Some (to_le_bytes w64 n) else None
+-- ---- single words
 
--- the bytes of the number that a word is
-abbrev pub word_bytes : Width → Option ℕ → Option (List ℕ)
-word_bytes width None = None
-word_bytes width (Some n) = number_bytes width n
+-- the word at a place, the empty one where there is none
+abbrev pub word_at : List (List ℕ) → ℕ → List ℕ
+word_at words place = slice_index_or words place []
 
--- as many zeros
-abbrev pub zero_bytes : Width → List ℕ
-zero_bytes Two = to_le_bytes w16 0
-zero_bytes Four = to_le_bytes w32 0
-zero_bytes Eight = to_le_bytes w64 0
+-- the number, if it has so many bits
+abbrev pub within : ℕ → Option ℕ → Option ℕ
+within bits None = None
+within bits (Some n) = if nat_lt n (2 ^ bits) then Some n else None
 
--- those bytes and then these, where there are both
-abbrev pub both : Option (List ℕ) → Option (List ℕ) → Option (List ℕ)
-both None more = None
-both (Some bytes) more = option_map (λ ys. bytes ++ ys) more
+-- the number of so many bits that the word at a place is
+abbrev pub number_in : ℕ → List (List ℕ) → ℕ → Option ℕ
+number_in bits words place = within bits (number_of (word_at words place))
 
--- the bytes of fields in turn, of which each that is a number has a word
-abbrev pub fields_bytes : List Field → List (List ℕ) → Option (List ℕ)
-fields_bytes [] [] = Some []
-fields_bytes [] (word ∷ words) = None
-fields_bytes (Reserved width ∷ fields) words = both (Some (zero_bytes width)) (fields_bytes fields words)
-fields_bytes (Number width ∷ fields) [] = None
-fields_bytes (Number width ∷ fields) (word ∷ words) = both (word_bytes width (number_of word))
-    (fields_bytes fields words)
+-- the number and then these, where there are both
+abbrev pub with_first : Option ℕ → Option (List ℕ) → Option (List ℕ)
+with_first None ns = None
+with_first (Some n) ns = option_map (λ more. n ∷ more) ns
 
--- the bytes were appended, where there are some
-abbrev pub Pushes : Bool → List ℕ → List ℕ → Option (List ℕ) → Type 0
-Pushes whole old new bytes = MatchOption bytes (whole ≡ false) (λ bs. (whole ≡ true) × (new ≡ old ++ bs))
+-- so many numbers, of so many bits each, in words one behind another
+abbrev pub numbers_in : ℕ → ℕ → List (List ℕ) → ℕ → Option (List ℕ)
+numbers_in zero bits words place = Some []
+numbers_in (suc count) bits words place = with_first (number_in bits words place)
+    (numbers_in count bits words (place + 1))
 
--- ---- the header
+-- the word for a barrier bit
+abbrev pub bit_word : Bool → List ℕ
+bit_word bit = if bit then codes "1" else codes "0"
 
-abbrev pub bit_number : List ℕ → Option ℕ
-bit_number word = if bytes_eq word (codes "0") then Some 0 else if bytes_eq word (codes "1") then Some 1 else None
-
-abbrev pub scope_number : List ℕ → Option ℕ
-scope_number word = if bytes_eq word (codes "none") then Some 0
-    else if bytes_eq word (codes "agent") then Some 1
-    else if bytes_eq word (codes "system") then Some 2
-    else None
-
--- the number of the header's two bytes: the format, the barrier bit, the scopes of the acquire and the release fence
-abbrev pub header_number : ℕ → Option ℕ → Option ℕ → Option ℕ → Option ℕ
-header_number format (Some bit) (Some acquire) (Some release) = Some
-    (format + 256 * bit + 512 * acquire + 2048 * release)
-header_number format (Some bit) (Some acquire) None = None
-header_number format (Some bit) None release = None
-header_number format None acquire release = None
-
-abbrev pub header_bytes : Option ℕ → Option (List ℕ)
-header_bytes None = None
-header_bytes (Some header) = Some (to_le_bytes w16 header)
+-- the word for a fence's scope
+abbrev pub scope_word : Scope → List ℕ
+scope_word scope.None = codes "none"
+scope_word scope.Agent = codes "agent"
+scope_word scope.System = codes "system"
 
 -- ---- whole packets
 
--- the words behind the kind's, with the fields behind the header
-abbrev pub packet_bytes : ℕ → List Field → List (List ℕ) → Option (List ℕ)
-packet_bytes format fields (bit ∷ acquire ∷ release ∷ words) =
-    both (header_bytes (header_number format (bit_number bit) (scope_number acquire) (scope_number release)))
-    (fields_bytes fields words)
-packet_bytes format fields (bit ∷ acquire ∷ []) = None
-packet_bytes format fields (bit ∷ []) = None
-packet_bytes format fields [] = None
+-- a packet's first words: its kind, BIT, ACQUIRE, RELEASE
+pub record HeadWords (kind : List ℕ) (words : List (List ℕ)) (head : Head) : Type 0 where
+  pub kind_is : word_at words 0 ≡ kind
+  pub bit_is : word_at words 1 ≡ bit_word head.barrier
+  pub acquire_is : word_at words 2 ≡ scope_word head.acquire
+  pub release_is : word_at words 3 ≡ scope_word head.release
 
--- behind the header: SETUP, WX, WY, WZ, GX, GY, GZ, PRIVATE, GROUP, OBJECT, KERNARG, DONE
-abbrev pub kernel_fields : List Field
-kernel_fields =
-    Number Two ∷ Number Two ∷ Number Two ∷ Number Two ∷ Reserved Two ∷ Number Four ∷ Number Four ∷ Number Four ∷ Number
-    Four ∷ Number Four
-    ∷ Number Eight ∷ Number Eight ∷ Reserved Eight ∷ Number Eight ∷ []
+-- kernel BIT ACQUIRE RELEASE SETUP WX WY WZ GX GY GZ PRIVATE GROUP OBJECT KERNARG DONE
+pub record KernelWords (words : List (List ℕ)) (f : KernelFields) : Type 0 where
+  pub count : length words ≡ 16
+  pub head_is : HeadWords (codes "kernel") words f.head
+  pub setup_is : number_in 16 words 4 ≡ Some f.dimensions
+  pub group_is : numbers_in 3 16 words 5 ≡ Some f.group
+  pub grid_is : numbers_in 3 32 words 8 ≡ Some f.grid
+  pub private_is : number_in 32 words 11 ≡ Some f.private_size
+  pub group_size_is : number_in 32 words 12 ≡ Some f.group_size
+  pub object_is : number_in 64 words 13 ≡ Some f.object
+  pub kernarg_is : number_in 64 words 14 ≡ Some f.kernarg
+  pub completion_is : number_in 64 words 15 ≡ Some f.completion
 
--- TYPE, RET, A0 to A3, DONE
-abbrev pub agent_fields : List Field
-agent_fields =
-    Number Two ∷ Reserved Four ∷ Number Eight ∷ Number Eight ∷ Number Eight ∷ Number Eight ∷ Number Eight ∷ Reserved
-    Eight ∷ Number Eight ∷ []
+-- agent BIT ACQUIRE RELEASE TYPE RET A0 A1 A2 A3 DONE
+pub record AgentWords (words : List (List ℕ)) (a : AgentCall) : Type 0 where
+  pub count : length words ≡ 11
+  pub head_is : HeadWords (codes "agent") words a.head
+  pub kind_is : number_in 16 words 4 ≡ Some a.kind
+  pub ret_is : number_in 64 words 5 ≡ Some a.ret
+  pub args_is : numbers_in 4 64 words 6 ≡ Some a.args
+  pub completion_is : number_in 64 words 10 ≡ Some a.completion
 
--- the five dependencies, DONE
-abbrev pub barrier_fields : List Field
-barrier_fields =
-    Reserved Two ∷ Reserved Four ∷ Number Eight ∷ Number Eight ∷ Number Eight ∷ Number Eight ∷ Number Eight ∷ Reserved
-    Eight ∷ Number Eight ∷ []
+-- and|or BIT ACQUIRE RELEASE D0 D1 D2 D3 D4 DONE
+pub record BarrierWords (kind : List ℕ) (words : List (List ℕ)) (b : Barrier) : Type 0 where
+  pub count : length words ≡ 10
+  pub head_is : HeadWords kind words b.head
+  pub deps_is : numbers_in 5 64 words 4 ≡ Some b.deps
+  pub completion_is : number_in 64 words 9 ≡ Some b.completion
 
--- the bytes that the words behind `pack` are
-abbrev pub packed_of : List (List ℕ) → Option (List ℕ)
-packed_of [] = None
-packed_of (kind ∷ words) =
-    if bytes_eq kind (codes "kernel") then packet_bytes 2 kernel_fields words
-    else if bytes_eq kind (codes "agent") then packet_bytes 4 agent_fields words
-    else if bytes_eq kind (codes "and") then packet_bytes 3 barrier_fields words
-    else if bytes_eq kind (codes "or") then packet_bytes 5 barrier_fields words
-    else None
+-- the words say these fields
+abbrev pub Say : List (List ℕ) → Fields → Type 0
+Say words (Kernel f) = KernelWords words f
+Say words (Agent a) = AgentWords words a
+Say words (And b) = BarrierWords (codes "and") words b
+Say words (Or b) = BarrierWords (codes "or") words b
+
+-- the fields that a packet has
+abbrev pub fields_in : Packet → Fields
+fields_in (packet.Kernel k) = Kernel (fields_of k)
+fields_in (packet.Agent a) = Agent a
+fields_in (packet.And b) = And b
+fields_in (packet.Or b) = Or b
+
+-- the first fault of fields that no packet has: only those of a kernel dispatch may have one
+abbrev pub fields_fault : Fields → Option PacketFault
+fields_fault (Kernel f) = first_of (field_tests f)
+fields_fault (Agent a) = None
+fields_fault (And b) = None
+fields_fault (Or b) = None

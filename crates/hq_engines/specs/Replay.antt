@@ -16,7 +16,7 @@ use Rattle.hq_timeline.specs.declared.fault.ReplayFault.TheVariants as fault
 use Rattle.hq_engines.specs.Buffers.{buffers_text}
 use Rattle.hq_engines.specs.Reports.{Said, with_feed}
 use Rattle.hq_engines.specs.declared.status.Status.{Status}
-use Rattle.hq_engines.specs.declared.status.Status.TheVariants.{Done, RunRefused, Memory}
+use Rattle.hq_engines.specs.declared.status.Status.TheVariants.{Done, TimelineRefused, NotEnabled, Memory}
 
 -- ---- the lines
 
@@ -37,7 +37,7 @@ event_refusal place = codes "refused event " ++ decimal place
 -- Why there is no journal: the text has a first fault.
 pub data NoTimeline (text : List ℕ) : List ℕ → Status → Type 0 where
   refused : (fault : TimeFault) → FirstFault (lines_of text) fault
-      → NoTimeline text (with_feed (time_refusal fault)) RunRefused
+      → NoTimeline text (with_feed (time_refusal fault)) (TimelineRefused fault)
 
 -- What is written of a job and the events of a journal: the buffers as these leave them; or the first event that
 -- isn't enabled.
@@ -45,7 +45,7 @@ pub data RunReport (job : JobValue) (events : List Event) : List ℕ → Status 
   replayed : (bytes : List ℕ) → Replayed (plan job) events bytes
       → RunReport job events (buffers_text job.buffers bytes) Done
   stopped : (place : ℕ) → StopsAt (plan job) events place
-      → RunReport job events (with_feed (event_refusal place)) RunRefused
+      → RunReport job events (with_feed (event_refusal place)) (NotEnabled place)
   no_memory : RunReport job events (with_feed (codes "out of memory")) Memory
 
 -- What is written of a timeline's text: the report of its events; or why there are none.
@@ -62,9 +62,9 @@ pub data TimelineReport (Report : List Event → List ℕ → Status → Type 0)
 abbrev pub SaysNoTimeline : TimeFault → Option (List ℕ) → Option (List ℕ) → Status → Type 0
 SaysNoTimeline fault old new answered =
     ((fault.reason ≡ reason.Memory) × Said old new (with_feed (codes "out of memory")) Memory answered)
-    ⊎ ((¬ (fault.reason ≡ reason.Memory)) × Said old new (with_feed (time_refusal fault)) RunRefused answered)
+    ⊎ ((¬ (fault.reason ≡ reason.Memory)) × Said old new (with_feed (time_refusal fault)) (TimelineRefused fault) answered)
 
 -- why the events don't all happen is written
 abbrev pub StopSaid : ReplayFault → Option (List ℕ) → Option (List ℕ) → Status → Type 0
-StopSaid (fault.NotEnabled place) old new answered = Said old new (with_feed (event_refusal place)) RunRefused answered
+StopSaid (fault.NotEnabled place) old new answered = Said old new (with_feed (event_refusal place)) (NotEnabled place) answered
 StopSaid fault.Memory old new answered = Said old new (with_feed (codes "out of memory")) Memory answered

@@ -50,7 +50,7 @@ pub data ReaderReport (S : Type 0) (left : S → Option (List ℕ)) (old new : S
 -- Why there is no job: the text has a first fault.
 pub data NoJob (text : List ℕ) : List ℕ → Status → Type 0 where
   refused : (fault : JobFault) → FirstFault (lines_of text) fault
-      → NoJob text (with_feed (job_refusal fault)) JobRefused
+      → NoJob text (with_feed (job_refusal fault)) (JobRefused fault)
 
 -- What is written of a text: the report of its job; or why there is none.
 pub data JobTextReport (Report : JobValue → List ℕ → Status → Type 0) (text : List ℕ) : List ℕ → Status → Type 0 where
@@ -66,4 +66,4 @@ SaysNoJob fault old new answered =
     ((fault.reason ≡ reason.Memory) × Said old new (with_feed (codes "out of memory")) Memory answered)
     ⊎ (((fault.reason ≡ reason.Read) × Said old new (with_feed (codes "file fault")) File answered)
     ⊎ ((¬ (fault.reason ≡ reason.Memory)) × (¬ (fault.reason ≡ reason.Read))
-    × Said old new (with_feed (job_refusal fault)) JobRefused answered))
+    × Said old new (with_feed (job_refusal fault)) (JobRefused fault) answered))

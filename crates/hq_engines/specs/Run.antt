@@ -12,31 +12,40 @@ use Rattle.hq_timeline.specs.Printed.{text_of}
 use Rattle.hq_engines.specs.Audit.{NotOrdered}
 use Rattle.hq_engines.specs.Buffers.{buffers_text}
 use Rattle.hq_engines.specs.Reports.{with_feed}
+use Rattle.hq_engines.specs.declared.status.RunFailure.{RunFailure}
+use Rattle.hq_engines.specs.declared.status.RunFailure.TheVariants as failure
 use Rattle.hq_engines.specs.declared.status.Status.{Status}
-use Rattle.hq_engines.specs.declared.status.Status.TheVariants.{Done, RunRefused, Memory, File}
+use Rattle.hq_engines.specs.declared.status.Status.TheVariants.{Done, RunFailed, File}
 
 -- ---- the lines
 
-abbrev pub fault_name : RunFault → List ℕ
-fault_name fault.Memory = codes "Memory"
-fault_name (fault.Kernel packet home lost found) = codes "Kernel " ++ decimal packet
-fault_name fault.Split = codes "Split"
-fault_name (fault.Receipts queue) = codes "Receipts"
-fault_name fault.Unfinished = codes "Unfinished"
+abbrev pub failure_name : RunFailure → List ℕ
+failure_name (failure.Kernel packet) = codes "Kernel " ++ decimal packet
+failure_name failure.Split = codes "Split"
+failure_name (failure.Receipts queue) = codes "Receipts"
+failure_name failure.Unfinished = codes "Unfinished"
 
-abbrev pub fault_text : RunFault → List ℕ
-fault_text found = codes "run fault " ++ fault_name found
+abbrev pub failure_text : RunFailure → List ℕ
+failure_text found = codes "run fault " ++ failure_name found
+
+-- the failure that a run's fault is, if it isn't that memory ran out
+abbrev pub failure_of : RunFault → Option RunFailure
+failure_of fault.Memory = None
+failure_of (fault.Kernel packet home lost found) = Some (failure.Kernel packet)
+failure_of fault.Split = Some failure.Split
+failure_of (fault.Receipts queue) = Some (failure.Receipts queue)
+failure_of fault.Unfinished = Some failure.Unfinished
 
 -- ---- the report
 
 -- What is written of a job to the timeline's writer and as the answer. A run that completes all: its timeline, and
 -- the buffers as every order of one packet at a time leaves them which keeps the job's order. Else no timeline, and
--- why the job isn't ordered, or what fault the run met.
+-- why the job isn't ordered, or why the run was stopped.
 pub data RunReport (job : JobValue) : List ℕ → List ℕ → Status → Type 0 where
   ran : (events : List Event) (memory : List ℕ) → IsWhole (plan job) events memory → IsOneByOne (plan job) memory
       → RunReport job (text_of events) (buffers_text job.buffers memory) Done
   not_ordered : {out : List ℕ} {status : Status} → NotOrdered (plan job) out status → RunReport job [] out status
-  faulted : (found : RunFault) → RunReport job [] (with_feed (fault_text found)) RunRefused
+  stopped : (found : RunFailure) → RunReport job [] (with_feed (failure_text found)) (RunFailed found)
 
 -- what a writer holds, where there is one
 abbrev pub contents_in : {T : Type 0} → (T → Option (List ℕ)) → Option T → Option (List ℕ)

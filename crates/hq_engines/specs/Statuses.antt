@@ -1,16 +1,32 @@
 -- The program's exit statuses.
 use Rattle.std.specs.Prelude.{ℕ}
+use Rattle.hq_graph.specs.declared.found.Found.{Found}
+use Rattle.hq_graph.specs.declared.found.Found.TheVariants as found
 use Rattle.hq_engines.specs.declared.status.Status.{Status}
-use Rattle.hq_engines.specs.declared.status.Status.TheVariants.{Done, Words, JobRefused, Conflict, Stuck}
-use Rattle.hq_engines.specs.declared.status.Status.TheVariants.{CertificateRefused, RunRefused, Memory, File}
+use Rattle.hq_engines.specs.declared.status.Status.TheVariants as status
+
+-- the exit status for what an audit finds
+abbrev pub code_of_found : Found → ℕ
+code_of_found found.Ordered = 0
+code_of_found found.Conflict = 4
+code_of_found found.Stuck = 5
 
 abbrev pub code_of : Status → ℕ
-code_of Done = 0
-code_of Words = 2
-code_of JobRefused = 3
-code_of Conflict = 4
-code_of Stuck = 5
-code_of CertificateRefused = 6
-code_of RunRefused = 7
-code_of Memory = 8
-code_of File = 9
+code_of status.Done = 0
+code_of status.Words = 2
+code_of status.PairWords = 2
+code_of (status.JobRefused fault) = 3
+code_of (status.PacketRefused fault) = 3
+code_of (status.Conflict p r kind why) = 4
+code_of status.Stuck = 5
+code_of (status.Drawn found) = code_of_found found
+code_of (status.Explained found) = code_of_found found
+code_of (status.Shown difference) = 4
+code_of (status.CertificateRefused fault) = 6
+code_of (status.CertificateFails fault) = 6
+code_of (status.TimelineRefused fault) = 7
+code_of (status.NotEnabled place) = 7
+code_of (status.DrawnUntil place) = 7
+code_of (status.RunFailed failure) = 7
+code_of status.Memory = 8
+code_of status.File = 9

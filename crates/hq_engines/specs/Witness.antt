@@ -17,8 +17,9 @@ use Rattle.hq_witness.specs.declared.place.Place.{Place}
 use Rattle.hq_witness.specs.declared.place.Place.TheVariants as place
 use Rattle.hq_engines.specs.Audit.{NotOrdered}
 use Rattle.hq_engines.specs.Reports.{with_feed}
+use Rattle.hq_engines.specs.declared.status.Difference.{Difference}
 use Rattle.hq_engines.specs.declared.status.Status.{Status}
-use Rattle.hq_engines.specs.declared.status.Status.TheVariants.{Done, Conflict, Memory, File}
+use Rattle.hq_engines.specs.declared.status.Status.TheVariants.{Done, Shown, Memory, File}
 
 -- ---- the lines
 
@@ -45,14 +46,18 @@ abbrev pub pair_text : ℕ → ℕ → Kind → List ℕ
 pair_text p r kind = codes "witness " ++ decimal p ++ codes " " ++ decimal r ++ codes " " ++ kind_name kind
 
 -- the place, and its origin in the good run and in the bad one
-abbrev pub differs_text : Place → Option Spot → Origin → Origin → List ℕ
-differs_text place spot good bad = place_text place spot ++ codes " " ++ origin_text good ++ codes " " ++ origin_text bad
+abbrev pub differs_text : Difference → List ℕ
+differs_text d = place_text d.place d.spot ++ codes " " ++ origin_text d.good ++ codes " " ++ origin_text d.bad
 
-abbrev pub lines_text : ℕ → ℕ → Kind → Place → Option Spot → Origin → Origin → List ℕ
-lines_text p r kind place spot good bad = pair_text p r kind ++ codes "\n" ++ differs_text place spot good bad
+abbrev pub lines_text : ℕ → ℕ → Kind → Difference → List ℕ
+lines_text p r kind difference = pair_text p r kind ++ codes "\n" ++ differs_text difference
+
+-- where the two runs of a witness differ
+abbrev pub difference_of : JobValue → WitnessValue → Difference
+difference_of job w = record { place = w.place; spot = spot_at job w.place; good = w.good_origin; bad = w.bad_origin }
 
 abbrev pub witness_text : JobValue → WitnessValue → List ℕ
-witness_text job w = lines_text w.p w.r w.kind w.place (spot_at job w.place) w.good_origin w.bad_origin
+witness_text job w = lines_text w.p w.r w.kind (difference_of job w)
 
 -- ---- the report
 
@@ -61,7 +66,7 @@ witness_text job w = lines_text w.p w.r w.kind w.place (spot_at job w.place) w.g
 -- out there may be a timeline of the good run.
 pub data WitnessReport (job : JobValue) : List ℕ → List ℕ → List ℕ → Status → Type 0 where
   shown : (w : WitnessValue) → IsWitness (plan job) w
-      → WitnessReport job (text_of w.good) (text_of w.bad) (with_feed (witness_text job w)) Conflict
+      → WitnessReport job (text_of w.good) (text_of w.bad) (with_feed (witness_text job w)) (Shown (difference_of job w))
   ordered : Ordered (plan job) → WitnessReport job [] [] (with_feed (codes "ordered")) Done
   not_ordered : {out : List ℕ} {status : Status} → NotOrdered (plan job) out status → WitnessReport job [] [] out status
   broken : (w : WitnessValue) → IsWitness (plan job) w

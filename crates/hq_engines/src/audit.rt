@@ -64,7 +64,7 @@ pub fn say_no_certificate<W: Write>(writer: &mut W, no: AuditNo) -> Status
         AuditNo::Conflict { p, r, kind, why } => say(
             writer,
             ConflictLine { p, r, kind, why },
-            Status::Conflict,
+            Status::Conflict { p, r, kind, why },
         ),
         AuditNo::Memory => say_memory(writer),
     }

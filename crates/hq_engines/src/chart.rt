@@ -63,7 +63,7 @@ fn chart_stopped<W: Write>(
                 copies,
                 happened,
                 true,
-                Status::RunRefused,
+                Status::DrawnUntil(place),
             )
         }
         ReplayFault::Memory => say_memory(writer),

@@ -11,7 +11,7 @@ ghost use Rattle.hq_engines.specs.Check.{bad_pair_text};
 ghost use Rattle.hq_engines.specs.Reports.{JobTextReport, OfReader, ReaderReport, Reported, Said, with_feed};
 
 use crate::saying::{say, say_file, say_memory};
-use crate::status::Status;
+use crate::status::{CheckFault, Status};
 use crate::taking::{let_go, take_job};
 use hq_cert::{CertFault, CertReason, Certificate, ReadFault, read};
 use hq_certcheck::{Accepted, CheckNo, check_wide};
@@ -97,7 +97,11 @@ fn say_no_certificate<W: Write>(writer: &mut W, fault: CertFault) -> Status
 {
     match fault.reason {
         CertReason::Memory => say_memory(writer),
-        _ => say(writer, CertRefusal(fault), Status::CertificateRefused),
+        _ => say(
+            writer,
+            CertRefusal(fault),
+            Status::CertificateRefused(fault),
+        ),
     }
 }
 
@@ -137,10 +141,26 @@ fn say_refused<W: Write>(writer: &mut W, no: &CheckNo) -> Status
     ensures { NoSaid no.now (W.contents writer.old) (W.contents writer.new) result }
 {
     match no {
-        CheckNo::BadOrder => say(writer, "refused V1", Status::CertificateRefused),
-        CheckNo::BadLine(k) => say(writer, BadLine(*k), Status::CertificateRefused),
-        CheckNo::PairMissing(p, r) => say(writer, PairMissing(*p, *r), Status::CertificateRefused),
-        CheckNo::BadPair(p, r) => say(writer, BadPair(*p, *r), Status::CertificateRefused),
+        CheckNo::BadOrder => say(
+            writer,
+            "refused V1",
+            Status::CertificateFails(CheckFault::Order),
+        ),
+        CheckNo::BadLine(k) => say(
+            writer,
+            BadLine(*k),
+            Status::CertificateFails(CheckFault::Line(*k)),
+        ),
+        CheckNo::PairMissing(p, r) => say(
+            writer,
+            PairMissing(*p, *r),
+            Status::CertificateFails(CheckFault::PairMissing(*p, *r)),
+        ),
+        CheckNo::BadPair(p, r) => say(
+            writer,
+            BadPair(*p, *r),
+            Status::CertificateFails(CheckFault::Pair(*p, *r)),
+        ),
         CheckNo::Memory => say_memory(writer),
     }
 }

@@ -3,7 +3,6 @@
 ghost use Rattle.hq_engines.specs.Explain.{ExplainReport};
 ghost use Rattle.hq_engines.specs.Reports.{JobTextReport, ReaderReport, Reported};
 
-use crate::graph::status_of;
 use crate::saying::say_memory;
 use crate::status::Status;
 use crate::taking::{let_go, take_job};
@@ -17,7 +16,7 @@ fn explain_found<W: Write>(alloc: Global, writer: &mut W, job: &Job, which: Whic
     ensures { Reported (ExplainReport which job.now) (W.contents writer.old) (W.contents writer.new) result }
 {
     match explain(alloc, writer, job, which) {
-        Ok(found) => status_of(found),
+        Ok(found) => Status::Explained(found),
         Err(ExplainFault::Memory) => say_memory(writer),
         Err(ExplainFault::Writer) => Status::File,
     }

@@ -1,34 +1,22 @@
 //! `hsaq graph`: a picture of a job's order.
 
-ghost use Rattle.std.specs.Prelude.{◌≡◌};
-ghost use Rattle.hq_engines.specs.Graph.{GraphReport, status_of};
+ghost use Rattle.hq_engines.specs.Graph.{GraphReport};
 ghost use Rattle.hq_engines.specs.Reports.{JobTextReport, ReaderReport, Reported};
 
 use crate::saying::say_memory;
 use crate::status::Status;
 use crate::taking::{let_go, take_job};
-use hq_graph::{Found, GraphFault, graph};
+use hq_graph::{GraphFault, graph};
 use hq_job::Job;
 use std::alloc::Global;
 use std::io::{Read, Write};
-
-/// The status of what the audit of a job finds.
-pub fn status_of(found: Found) -> Status
-    ensures { result ≡ status_of found }
-{
-    match found {
-        Found::Ordered => Status::Done,
-        Found::Conflict => Status::Conflict,
-        Found::Stuck => Status::Stuck,
-    }
-}
 
 /// Writes the picture of a job's order, and answers the status.
 fn graph_found<W: Write>(alloc: Global, writer: &mut W, job: &Job) -> Status
     ensures { Reported (GraphReport job.now) (W.contents writer.old) (W.contents writer.new) result }
 {
     match graph(alloc, writer, job) {
-        Ok(found) => status_of(found),
+        Ok(found) => Status::Drawn(found),
         Err(GraphFault::Memory) => say_memory(writer),
         Err(GraphFault::Writer) => Status::File,
     }

@@ -2,7 +2,8 @@
 //!
 //! An engine reads its input, writes the report of it, and answers the status that the program ends with. The
 //! report is of the text that the reader gave, turn by turn and up to its end, whatever reader it is; or of the
-//! reader's failure, where it failed.
+//! reader's failure, where it failed. The status has in it what the answer says, as the report relates the two, so
+//! that whoever calls an engine need not read the answer.
 #![tactic(auto)]
 
 mod accepting;
@@ -16,7 +17,9 @@ mod check_alone;
 mod explain;
 mod fields;
 mod graph;
+pub mod laws;
 mod pack;
+mod plain;
 mod replay;
 mod run;
 mod saying;
@@ -36,10 +39,11 @@ pub use check_alone::check_alone_engine;
 pub use explain::explain_engine;
 pub use graph::graph_engine;
 pub use pack::pack_engine;
+pub use plain::{CertWords, CheckWords, FailureWords, TimeWords};
 pub use replay::replay_engine;
 pub use run::run_engine;
 pub use saying::{say_file, say_memory};
 pub use show::show_engine;
-pub use status::Status;
+pub use status::{CheckFault, Difference, RunFailure, Status};
 pub use taking::take_job as job_engine;
 pub use witness::witness_engine;

@@ -54,7 +54,7 @@ fn say_no_timeline<W: Write>(writer: &mut W, fault: TimeFault) -> Status
 {
     match fault.reason {
         TimeReason::Memory => say_memory(writer),
-        _ => say(writer, TimeRefusal(fault), Status::RunRefused),
+        _ => say(writer, TimeRefusal(fault), Status::TimelineRefused(fault)),
     }
 }
 
@@ -83,7 +83,11 @@ fn say_stopped<W: Write>(writer: &mut W, fault: ReplayFault) -> Status
     ensures { StopSaid fault (W.contents writer.old) (W.contents writer.new) result }
 {
     match fault {
-        ReplayFault::NotEnabled(place) => say(writer, EventRefusal(place), Status::RunRefused),
+        ReplayFault::NotEnabled(place) => say(
+            writer,
+            EventRefusal(place),
+            Status::NotEnabled(place),
+        ),
         ReplayFault::Memory => say_memory(writer),
     }
 }

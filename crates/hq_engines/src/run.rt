@@ -1,19 +1,19 @@
 //! `hsaq run`: a job's buffers after a run of its queues, each by a thread of its own.
 
-ghost use Rattle.std.specs.Prelude.{◌≡◌, ◌⊎◌, ◌++◌, [], Some, Err, OnOk, length, codes};
+ghost use Rattle.std.specs.Prelude.{◌≡◌, ◌⊎◌, ◌++◌, [], Some, Err, MatchOption, OnOk, length, codes};
 ghost use Rattle.std.specs.Io.KnownBytes.{Appends};
 ghost use Rattle.hq_job.specs.Plan.{plan};
 ghost use Rattle.hq_kernels.specs.Kits.{KitsFit, bodies_of};
 ghost use Rattle.hq_timeline.specs.Printed.{text_of};
 ghost use Rattle.hq_engines.specs.Buffers.{buffers_text};
 ghost use Rattle.hq_engines.specs.Reports.{Said, with_feed};
-ghost use Rattle.hq_engines.specs.Run.{BothSaid, Recorded, RunReport, contents_in, fault_text};
+ghost use Rattle.hq_engines.specs.Run.{BothSaid, Recorded, RunReport, contents_in, failure_of, failure_text};
 
 use crate::accepting::accept;
 use crate::audit::say_no_certificate;
 use crate::buffers::buffers_text_of;
 use crate::saying::{say, say_file, say_memory, say_text};
-use crate::status::Status;
+use crate::status::{RunFailure, Status};
 use hq_certcheck::Accepted;
 use hq_job::Job;
 use hq_kernels::Kit;
@@ -27,34 +27,46 @@ use std::io::Write;
 use std::sync::Wait;
 use std::thread::Threads;
 
-/// The fault that a run met: its name, and of a kernel's the packet.
+/// Why a run was stopped: the name of that, and of a body that failed the packet.
 #[derive(Clone, Copy)]
-struct FaultLine<'a>(&'a RunFault);
+struct FailureLine(RunFailure);
 
-impl<'a> fmt::Display for FaultLine<'a> {
-    ghost output = { λ line. Some (fault_text line.0.now) };
+impl fmt::Display for FailureLine {
+    ghost output = { λ line. Some (failure_text line.0) };
 
     fn fmt<W: fmt::Write>(&self, f: &mut fmt::Formatter<W>) -> fmt::Result {
         match self.0 {
-            RunFault::Memory => write!(f, "run fault Memory"),
-            RunFault::Kernel { packet, .. } => write!(f, "run fault Kernel {packet}"),
-            RunFault::Split => write!(f, "run fault Split"),
-            RunFault::Receipts(_) => write!(f, "run fault Receipts"),
-            RunFault::Unfinished => write!(f, "run fault Unfinished"),
+            RunFailure::Kernel(packet) => write!(f, "run fault Kernel {packet}"),
+            RunFailure::Split => write!(f, "run fault Split"),
+            RunFailure::Receipts(_) => write!(f, "run fault Receipts"),
+            RunFailure::Unfinished => write!(f, "run fault Unfinished"),
         }
+    }
+}
+
+/// The failure that a run's fault is, if it isn't that memory ran out.
+fn failure_of(fault: &RunFault) -> Option<RunFailure>
+    ensures { result ≡ failure_of fault.now }
+{
+    match fault {
+        RunFault::Memory => None,
+        RunFault::Kernel { packet, .. } => Some(RunFailure::Kernel(*packet)),
+        RunFault::Split => Some(RunFailure::Split),
+        RunFault::Receipts(queue) => Some(RunFailure::Receipts(*queue)),
+        RunFault::Unfinished => Some(RunFailure::Unfinished),
     }
 }
 
 /// Writes the fault that a run met.
 fn say_fault<W: Write>(writer: &mut W, fault: &RunFault) -> Status
-    ensures { Said (W.contents writer.old) (W.contents writer.new)
-        (with_feed (fault_text fault.now)) Status.RunRefused result
-        ⊎ Said (W.contents writer.old) (W.contents writer.new)
-        (with_feed (codes "out of memory")) Status.Memory result }
+    ensures { MatchOption (failure_of fault.now)
+        (Said (W.contents writer.old) (W.contents writer.new) (with_feed (codes "out of memory")) Status.Memory result)
+        (λ failure. Said (W.contents writer.old) (W.contents writer.new)
+        (with_feed (failure_text failure)) (Status.RunFailed failure) result) }
 {
-    match fault {
-        RunFault::Memory => say_memory(writer),
-        _ => say(writer, FaultLine(fault), Status::RunRefused),
+    match failure_of(fault) {
+        Some(failure) => say(writer, FailureLine(failure), Status::RunFailed(failure)),
+        None => say_memory(writer),
     }
 }
 

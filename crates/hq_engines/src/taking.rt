@@ -22,7 +22,7 @@ fn say_no_job<W: Write>(writer: &mut W, fault: JobFault) -> Status
     match fault.reason {
         Reason::Memory => say_memory(writer),
         Reason::Read => say_file(writer),
-        _ => say(writer, JobRefusal(fault), Status::JobRefused),
+        _ => say(writer, JobRefusal(fault), Status::JobRefused(fault)),
     }
 }
 

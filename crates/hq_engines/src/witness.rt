@@ -5,15 +5,15 @@ ghost use Rattle.hq_job.specs.Plan.{plan};
 ghost use Rattle.hq_timeline.specs.Printed.{text_of};
 ghost use Rattle.hq_witness.specs.Witness.{IsWitness, no_of};
 ghost use Rattle.hq_witness.specs.declared.fault.WitnessNo.TheVariants.{Ordered};
-ghost use Rattle.hq_engines.specs.Reports.{with_feed};
+ghost use Rattle.hq_engines.specs.Reports.{Said, with_feed};
 ghost use Rattle.hq_engines.specs.Run.{BothSaid, contents_in};
-ghost use Rattle.hq_engines.specs.Witness.{Witnessed, WitnessReport, byte_text, differs_text, lines_text};
-ghost use Rattle.hq_engines.specs.Witness.{origin_text, pair_text, place_text, spot_at, witness_text};
+ghost use Rattle.hq_engines.specs.Witness.{Witnessed, WitnessReport, byte_text, difference_of, differs_text};
+ghost use Rattle.hq_engines.specs.Witness.{lines_text, origin_text, pair_text, place_text, spot_at, witness_text};
 
 use crate::audit::say_no_certificate;
 use crate::run::write_timeline;
 use crate::saying::{say, say_file, say_memory};
-use crate::status::Status;
+use crate::status::{Difference, Status};
 use hq_audit::AuditNo;
 use hq_explain::{Spot, spot_of};
 use hq_fence::Kind;
@@ -95,17 +95,19 @@ impl fmt::Display for PairWords {
 
 /// Where two runs differ: the place, and its origin in each.
 #[derive(Clone, Copy)]
-struct DiffersWords {
-    place: PlaceWords,
-    good: OriginWord,
-    bad: OriginWord,
-}
+struct DiffersWords(Difference);
 
 impl fmt::Display for DiffersWords {
-    ghost output = { λ w. Some (differs_text w.place.place w.place.spot w.good.0 w.bad.0) };
+    ghost output = { λ w. Some (differs_text w.0) };
 
     fn fmt<W: fmt::Write>(&self, f: &mut fmt::Formatter<W>) -> fmt::Result {
-        write!(f, "{} {} {}", self.place, self.good, self.bad)
+        let place = PlaceWords {
+            place: self.0.place,
+            spot: self.0.spot,
+        };
+        let good = OriginWord(self.0.good);
+        let bad = OriginWord(self.0.bad);
+        write!(f, "{place} {good} {bad}")
     }
 }
 
@@ -117,9 +119,7 @@ struct WitnessLines {
 }
 
 impl fmt::Display for WitnessLines {
-    ghost output = { λ w. Some
-        (lines_text w.pair.p w.pair.r w.pair.kind w.differs.place.place w.differs.place.spot w.differs.good.0
-        w.differs.bad.0) };
+    ghost output = { λ w. Some (lines_text w.pair.p w.pair.r w.pair.kind w.differs.0) };
 
     fn fmt<W: fmt::Write>(&self, f: &mut fmt::Formatter<W>) -> fmt::Result {
         write!(f, "{}\n{}", self.pair, self.differs)
@@ -139,28 +139,48 @@ fn spot_at(job: &Job, place: Place) -> Option<Spot>
     }
 }
 
+/// Where the two runs of a witness of a job differ.
+fn difference_of(job: &Job, witness: &Witness) -> Difference
+    ensures { result ≡ difference_of job.now witness.now }
+{
+    let place = witness.place();
+    Difference {
+        place,
+        spot: spot_at(job, place),
+        good: witness.good_origin(),
+        bad: witness.bad_origin(),
+    }
+}
+
 /// What a witness of a job shows.
 fn lines_of(job: &Job, witness: &Witness) -> WitnessLines
-    ensures { lines_text result.pair.p result.pair.r result.pair.kind result.differs.place.place
-        result.differs.place.spot result.differs.good.0 result.differs.bad.0 ≡ witness_text job.now witness.now }
+    ensures { lines_text result.pair.p result.pair.r result.pair.kind result.differs.0
+        ≡ witness_text job.now witness.now }
 {
     let (p, r) = witness.pair();
-    let place = witness.place();
     WitnessLines {
         pair: PairWords {
             p,
             r,
             kind: witness.kind(),
         },
-        differs: DiffersWords {
-            place: PlaceWords {
-                place,
-                spot: spot_at(job, place),
-            },
-            good: OriginWord(witness.good_origin()),
-            bad: OriginWord(witness.bad_origin()),
-        },
+        differs: DiffersWords(difference_of(job, witness)),
     }
+}
+
+/// The status where a witness of a job is shown.
+fn shown(job: &Job, witness: &Witness) -> Status
+    ensures { result ≡ Status.Shown (difference_of job.now witness.now) }
+{
+    Status::Shown(difference_of(job, witness))
+}
+
+/// Writes what a witness shows.
+fn say_shown<W: Write>(writer: &mut W, job: &Job, witness: &Witness) -> Status
+    ensures { Said (W.contents writer.old) (W.contents writer.new)
+        (with_feed (witness_text job.now witness.now)) (Status.Shown (difference_of job.now witness.now)) result }
+{
+    say(writer, lines_of(job, witness), shown(job, witness))
 }
 
 /// Writes the timeline of a witness's bad run, and then what the witness shows.
@@ -173,12 +193,12 @@ fn say_rest<T: Write, W: Write>(
 ) -> Status
     ensures { BothSaid (contents_in T.contents bad.old) (contents_in T.contents bad.new) (text_of witness.now.bad)
         (W.contents writer.old) (W.contents writer.new)
-        (with_feed (witness_text job.now witness.now)) Status.Conflict result
+        (with_feed (witness_text job.now witness.now)) (Status.Shown (difference_of job.now witness.now)) result
         ⊎ BothSaid (contents_in T.contents bad.old) (contents_in T.contents bad.new) [] (W.contents writer.old)
         (W.contents writer.new) (with_feed (codes "out of memory")) Status.Memory result }
 {
     match write_timeline(alloc, bad, witness.bad()) {
-        Ok(()) => say(writer, lines_of(job, witness), Status::Conflict),
+        Ok(()) => say_shown(writer, job, witness),
         Err(PrintFault::Memory) => say_memory(writer),
         Err(PrintFault::Writer) => say_file(writer),
     }

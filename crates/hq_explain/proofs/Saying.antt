@@ -1,5 +1,5 @@
 -- What was written says what it is to say.
-use Rattle.std.proofs.Common.{◌<◌, ◌≤◌, ◌++◌, ℕ, zero, suc, List, true, false, Option, refl, sym, subst, inl, inr, Result, Ok, Err, OnOk, arith}
+use Rattle.std.proofs.Common.{◌<◌, ◌≤◌, ◌++◌, ℕ, zero, suc, List, true, false, Option, sym, subst, inl, inr, Result, Ok, Err, OnOk, arith}
 use Rattle.std.proofs.lemmas.Bool.{cases_lt}
 use Rattle.std.specs.Io.KnownBytes.{Appends}
 use Rattle.hq_job.specs.Value.{JobValue}

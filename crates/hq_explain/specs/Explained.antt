@@ -1,5 +1,5 @@
 -- Whole explanations: what is written of a job, and what is answered.
-use Rattle.std.specs.Prelude.{◌≢◌, ℕ, ◌⊎◌, Bool, true, false, if◌then◌else◌, List, length}
+use Rattle.std.specs.Prelude.{◌≢◌, ℕ, ◌<◌, ◌⊎◌, Bool, true, false, if◌then◌else◌, List, length}
 use Rattle.hq_job.specs.Value.{JobValue}
 use Rattle.hq_model.specs.Job.{Job, IsPacket}
 use Rattle.hq_model.specs.Order.{OrderList, Stuck}
@@ -20,6 +20,11 @@ use Rattle.hq_explain.specs.declared.which.Which.TheVariants as which
 -- nothing that packet r waits for by itself can never complete: it waits to be submitted behind another
 abbrev pub AwaitsNone : Job → ℕ → Type 0
 AwaitsNone order r = (p : ℕ) (by : Wait) → IsPacket order p → ¬ Awaits order p r by
+
+-- packet r waits for p in this way, and for none below that
+pub record IsFirstWait (order : Job) (r p : ℕ) (by : Wait) : Type 0 where
+  pub awaits : Awaits order p r by
+  pub none_below : (q : ℕ) (way : Wait) → q < p → ¬ Awaits order q r way
 
 -- which such packet r waits for, and how; or that it is one
 abbrev pub StuckLine : JobValue → Job → ℕ → List ℕ → Type 0

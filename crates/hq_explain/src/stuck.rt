@@ -9,7 +9,7 @@ ghost use Rattle.hq_graph.specs.Graph.{Wrote, awaited_by};
 ghost use Rattle.hq_graph.specs.Known.{TellsStuck};
 ghost use Rattle.hq_graph.specs.Order.{Awaits};
 ghost use Rattle.hq_graph.specs.declared.wait.Wait.{Wait as By};
-ghost use Rattle.hq_explain.specs.Explained.{StuckLine, StuckPart, StuckText};
+ghost use Rattle.hq_explain.specs.Explained.{IsFirstWait, StuckLine, StuckPart, StuckText};
 ghost use Rattle.hq_explain.specs.Texts.{stuck_line, wait_text, waiting_text, waiting_words, waits_line};
 ghost use Rattle.hq_explain.specs.declared.fault.ExplainFault.TheVariants.{Memory};
 
@@ -64,7 +64,7 @@ fn wait_of(job: &Job, stuck: &Stuck, r: usize) -> Option<(usize, Wait)>
     requires r_is { IsPacket (plan job.now) r }
     requires stuck { order.Stuck (plan job.now) r }
     ensures { MatchOption result ((p : ℕ) (by : By) → p < length job.now.packets → ¬ Awaits (plan job.now) p r by)
-        (λ w. Awaits (plan job.now) w.0 r w.1) }
+        (λ w. IsFirstWait (plan job.now) r w.0 w.1) }
 {
     for p in 0..job.packets().len() {
         if let Some(by) = wait_at(job, stuck, p, r) {

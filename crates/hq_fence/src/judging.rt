@@ -2,6 +2,7 @@
 
 ghost use Rattle.std.specs.Prelude.{◌≡◌, false, ◌<◌, ◌↔◌, IsTrue, IsOk, IsSome, IfOk, IfErr, IfSome, MatchOption};
 ghost use Rattle.std.specs.Prelude.{length};
+ghost use Rattle.hq_job.specs.Conflicts.{HasConflicts};
 ghost use Rattle.hq_model.specs.Job.{IsPacket};
 ghost use Rattle.hq_model.specs.Order as order;
 ghost use Rattle.hq_model.specs.Fence as model;
@@ -14,6 +15,13 @@ use crate::search::{Ending, Goal, Search};
 use crate::shown::{Acquire, Kind, NotShown, Release, Shown, Why};
 use hq_footprint::Kinds;
 use hq_order::Before;
+
+/// What is answered where there is no conflict.
+const NOTHING: Shown = Shown {
+    wr: None,
+    ww: None,
+    rw: false,
+};
 
 /// Whether two packets conflict in some way, `a` first.
 pub fn have_conflict(before: &Before, a: usize, b: usize) -> bool
@@ -129,6 +137,52 @@ fn judge_ww(before: &Before, p: usize, r: usize, there: bool) -> Result<Option<R
     }
 }
 
+/// The release by p's own fence, where there is such a conflict.
+#[inline(always)]
+fn own_release(before: &Before, p: usize, r: usize, there: bool) -> Option<Release>
+    requires p_is { IsPacket before.now p }
+    requires releases { model.Releases before.now p p (model.need before.now p r) }
+    requires ordered { order.Before before.now p r }
+    ensures some { IsSome result ↔ IsTrue there }
+    ensures shown { IfSome result (ReleasesBefore before.now p r) }
+{
+    before.job().valid();
+    if there {
+        Some(Release::Alone(p as u16))
+    } else {
+        None
+    }
+}
+
+/// What `judge` answers, where there is no conflict, or r reads nothing that p writes and p's own fence is enough; else
+/// None, and it is not said whether their conflicts are ordered.
+#[inline(always)]
+pub fn judge_at_once(before: &Before, p: usize, r: usize, kinds: Kinds) -> Option<Shown>
+    requires p_is { p < length before.now.packets }
+    requires r_is { r < length before.now.packets }
+    requires kinds { HasConflicts before.now p r kinds }
+    ensures shown { IfSome result (Shows before.now p r) }
+    ensures exact { IsSome result → model.Shown before.now p r }
+{
+    if kinds.wr {
+        return None;
+    }
+    if !kinds.ww && !kinds.rw {
+        return Some(NOTHING);
+    }
+    if !before.holds(p, r) {
+        return None;
+    }
+    if !releases(before, p, p, need(before, p, r)) {
+        return None;
+    }
+    Some(Shown {
+        wr: None,
+        ww: own_release(before, p, r, kinds.ww),
+        rw: kinds.rw,
+    })
+}
+
 /// Judges the conflicts of packet `p` with packet `r`, `p` first: answers the fences that order each kind of
 /// conflict that there is, or the first kind that isn't ordered, in the order of `Kind`, and why. Takes no memory.
 pub fn judge(before: &Before, p: usize, r: usize) -> Result<Shown, NotShown>
@@ -138,18 +192,25 @@ pub fn judge(before: &Before, p: usize, r: usize) -> Result<Shown, NotShown>
     ensures not_shown { IfErr result (IsNotShown before.now p r) }
     ensures exact { IsOk result ↔ model.Shown before.now p r }
 {
-    let kinds = before.job().kinds(p, r);
+    judge_kinds(before, p, r, before.job().kinds(p, r))
+}
+
+/// The same, where it is known how they conflict.
+pub fn judge_kinds(before: &Before, p: usize, r: usize, kinds: Kinds) -> Result<Shown, NotShown>
+    requires p_is { p < length before.now.packets }
+    requires r_is { r < length before.now.packets }
+    requires kinds { HasConflicts before.now p r kinds }
+    ensures shown { IfOk result (Shows before.now p r) }
+    ensures not_shown { IfErr result (IsNotShown before.now p r) }
+    ensures exact { IsOk result ↔ model.Shown before.now p r }
+{
     if !before.holds(p, r) {
         return match first_kind(kinds) {
             Some(kind) => Err(NotShown {
                 kind,
                 why: Why::Unordered,
             }),
-            None => Ok(Shown {
-                wr: None,
-                ww: None,
-                rw: false,
-            }),
+            None => Ok(NOTHING),
         };
     }
     let wr = judge_wr(before, p, r, kinds.wr)?;

@@ -6,6 +6,8 @@ use Rattle.hq_footprint.specs.Tasks.{Suits}
 use Rattle.hq_signals.specs.Table.{OpenSignal, handles}
 use Rattle.hq_model.specs.Job.{is_signal}
 use Rattle.hq_model.specs.Job.Kind.{BarrierOr}
+use Rattle.hq_model.specs.declared.limits.TheConstants.{PACKETS}
+use Rattle.hq_job.specs.declared.limits.TheConstants.{AGENTS, BLOCKS, BUFFERS, BYTES, KERNELS, QUEUES, SIGNALS}
 use Rattle.hq_job.specs.declared.rows.Placed.{Placed}
 use Rattle.hq_job.specs.Plan.{kind_of}
 use Rattle.hq_job.specs.Ranges.{RangesSuit}
@@ -13,14 +15,14 @@ use Rattle.hq_job.specs.Tables.{Tables, total_of}
 
 -- the limits
 pub record Within (ts : Tables) : Type 0 where
-  pub agents : length ts.agents ≤ 16
-  pub buffers : length ts.buffers ≤ 64
-  pub bytes : total_of ts.buffers ≤ 65536
-  pub arguments : length ts.arguments ≤ 256
-  pub signals : length ts.signals ≤ 1024
-  pub kernels : length ts.kernels ≤ 64
-  pub queues : length ts.queues ≤ 32
-  pub packets : length ts.placed ≤ 1024
+  pub agents : length ts.agents ≤ AGENTS
+  pub buffers : length ts.buffers ≤ BUFFERS
+  pub bytes : total_of ts.buffers ≤ BYTES
+  pub arguments : length ts.arguments ≤ BLOCKS
+  pub signals : length ts.signals ≤ SIGNALS
+  pub kernels : length ts.kernels ≤ KERNELS
+  pub queues : length ts.queues ≤ QUEUES
+  pub packets : length ts.placed ≤ PACKETS
 
 -- a packet's queue, bytes and signals are there, and a barrier-OR has a dependency
 pub record PacketFits (ts : Tables) (p : Placed) : Type 0 where

@@ -23,6 +23,8 @@ use Rattle.hq_lines.specs.Meaning as says
 use Rattle.hq_lines.specs.Meaning.{Meaning}
 use Rattle.hq_job.specs.declared.fault.Reason.{Reason}
 use Rattle.hq_job.specs.declared.fault.Reason.TheVariants as reason
+use Rattle.hq_model.specs.declared.limits.TheConstants.{PACKETS}
+use Rattle.hq_job.specs.declared.limits.TheConstants.{AGENTS, BLOCKS, BUFFERS, BYTES, ITEMS, KERNELS, QUEUES, SIGNALS}
 use Rattle.hq_job.specs.declared.rows.Kernel.{Kernel}
 use Rattle.hq_job.specs.declared.rows.Queue.{Queue}
 use Rattle.hq_job.specs.declared.rows.Placed.{Placed}
@@ -194,7 +196,7 @@ IsNullOr (format.Or b) = All (λ d. d ≡ 0) b.deps
 IsNullOr p = ⊥
 
 abbrev pub HasManyItems : packet.Packet → Type 0
-HasManyItems (format.Kernel k) = 65536 < items_of k
+HasManyItems (format.Kernel k) = ITEMS < items_of k
 HasManyItems p = ⊥
 
 -- the kernarg block is shorter than the kernel's arguments
@@ -207,44 +209,61 @@ abbrev pub IsFull : Tables → Type 0
 IsFull ts = (ts.rings ≡ false)
     × IfSome ts.current (λ q. slice_index (map (λ e. e.size) ts.queues) q ≤ count_by (λ p. p.queue == q) ts.placed)
 
--- in the order in which they are made
-abbrev pub packet_tests : Tables → packet.Packet → List Test
-packet_tests ts p = when (1024 ≤ length ts.placed) reason.Limit
+-- whether there is room for a packet in its queue
+abbrev pub place_tests : Tables → List Test
+place_tests ts = when (PACKETS ≤ length ts.placed) reason.Limit
     ∷ when (IsNone ts.current) reason.Unknown
     ∷ when (IsFull ts) reason.QueueFull
-    ∷ when (IsUnknownService p) reason.Service
+    ∷ []
+
+-- whether what it names is there, and it has something to wait for or to do
+abbrev pub name_tests : Tables → packet.Packet → List Test
+name_tests ts p = when (IsUnknownService p) reason.Service
     ∷ when (NamesUndeclared ts p) reason.Handle
     ∷ when (IsNullOr p) reason.NullOr
     ∷ when (HasManyItems p) reason.Items
-    ∷ when (HasShortBlock ts p) (reason.Footprint foot.ArgsShort)
+    ∷ []
+
+-- whether it can be told what it does
+abbrev pub call_tests : Tables → packet.Packet → List Test
+call_tests ts p = when (HasShortBlock ts p) (reason.Footprint foot.ArgsShort)
     ∷ when (Any Passes (ranges_of (work_of ts p).foot)) (reason.Footprint foot.Overflow)
-    ∷ when (Any (IsOutside (map range_of ts.buffers)) (ranges_of (work_of ts p).foot))
+    ∷ []
+
+-- and whether that is within the buffers
+abbrev pub work_tests : Tables → packet.Packet → List Test
+work_tests ts p = call_tests ts p
+    ++ when (Any (IsOutside (map range_of ts.buffers)) (ranges_of (work_of ts p).foot))
     (reason.Footprint foot.OutsideBuffer)
     ∷ []
 
+-- all tests of a packet, in the order in which they are made
+abbrev pub packet_tests : Tables → packet.Packet → List Test
+packet_tests ts p = place_tests ts ++ name_tests ts p ++ work_tests ts p
+
 abbrev pub tests : Tables → Meaning → List Test
-tests ts (says.Agent name) = when (16 ≤ length ts.agents) reason.Limit
+tests ts (says.Agent name) = when (AGENTS ≤ length ts.agents) reason.Limit
     ∷ when (Contains ts.agents name) reason.Duplicate
     ∷ []
-tests ts (says.Buffer name at bytes) = when (64 ≤ length ts.buffers) reason.Limit
-    ∷ when (65536 < total_of ts.buffers + length bytes) reason.Limit
+tests ts (says.Buffer name at bytes) = when (BUFFERS ≤ length ts.buffers) reason.Limit
+    ∷ when (BYTES < total_of ts.buffers + length bytes) reason.Limit
     ∷ when (Contains (names_of ts.buffers) name) reason.Duplicate
     ∷ when (Any (λ b. Share (bytes_of (range_of b))
     (bytes_of (range at (length bytes)))) ts.buffers) reason.BufferOverlap
     ∷ []
-tests ts (says.Args name at bytes) = when (256 ≤ length ts.arguments) reason.Limit
+tests ts (says.Args name at bytes) = when (BLOCKS ≤ length ts.arguments) reason.Limit
     ∷ when (Contains (names_of ts.arguments) name) reason.Duplicate
     ∷ when (Any (λ b. b.at ≡ at) ts.arguments) reason.Duplicate
     ∷ []
-tests ts (says.Signal name handle start) = when (1024 ≤ length ts.signals) reason.Limit
+tests ts (says.Signal name handle start) = when (SIGNALS ≤ length ts.signals) reason.Limit
     ∷ when (Contains ts.signal_names name) reason.Duplicate
     ∷ when (IsOpen ts.signals handle) reason.Duplicate
     ∷ []
-tests ts (says.Kernel name object code) = when (64 ≤ length ts.kernels) reason.Limit
+tests ts (says.Kernel name object code) = when (KERNELS ≤ length ts.kernels) reason.Limit
     ∷ when (Contains (map (λ k. k.name) ts.kernels) name) reason.Duplicate
     ∷ when (Any (λ k. k.object ≡ object) ts.kernels) reason.Duplicate
     ∷ []
-tests ts (says.Queue name agent size) = when (32 ≤ length ts.queues) reason.Limit
+tests ts (says.Queue name agent size) = when (QUEUES ≤ length ts.queues) reason.Limit
     ∷ when (Contains (queue_names ts) name) reason.Duplicate
     ∷ when (¬ Contains ts.agents agent) reason.Unknown
     ∷ []

@@ -5,6 +5,8 @@ use Rattle.hq_job.specs.TablesView.{tables_of}
 use Rattle.hq_job.specs.Value.{JobValue}
 use Rattle.hq_footprint.specs.Bytes.{read_entries, written_bytes}
 use Rattle.hq_footprint.specs.Tasks.{Suits}
+use Rattle.hq_model.specs.declared.limits.TheConstants.{PACKETS}
+use Rattle.hq_job.specs.declared.limits.TheConstants.{AGENTS, BLOCKS, BUFFERS, BYTES, KERNELS, QUEUES, SIGNALS}
 use Rattle.hq_job.specs.declared.rows.Placed.{Placed}
 use Rattle.hq_job.specs.Tables.{total_of}
 use Rattle.hq_job.specs.Plan.{plan}
@@ -29,14 +31,14 @@ value_of j =
 
 -- the limits of every job
 pub record WithinLimits (job : JobValue) : Type 0 where
-  pub agents : length job.agents ≤ 16
-  pub queues : length job.queues ≤ 32
-  pub packets : length job.packets ≤ 1024
-  pub buffers : length job.buffers ≤ 64
-  pub bytes : sum_by (λ b. length b.bytes) job.buffers ≤ 65536
-  pub signals : length job.signals ≤ 1024
-  pub kernels : length job.kernels ≤ 64
-  pub arguments : length job.arguments ≤ 256
+  pub agents : length job.agents ≤ AGENTS
+  pub queues : length job.queues ≤ QUEUES
+  pub packets : length job.packets ≤ PACKETS
+  pub buffers : length job.buffers ≤ BUFFERS
+  pub bytes : sum_by (λ b. length b.bytes) job.buffers ≤ BYTES
+  pub signals : length job.signals ≤ SIGNALS
+  pub kernels : length job.kernels ≤ KERNELS
+  pub arguments : length job.arguments ≤ BLOCKS
 
 -- what is known of each packet of a job that was read, beside what the plan's laws ask: what it reads lies in
 -- memory, it reads and writes as many bytes as its task asks for, in all and range by range, and its signals are

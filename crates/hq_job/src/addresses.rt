@@ -4,6 +4,7 @@ ghost use Rattle.std.specs.Prelude.{◌≡◌, ◌≤◌, map, IfOk};
 ghost use Rattle.hq_job.specs.Blocks.{blocks_of};
 ghost use Rattle.hq_job.specs.Tables.{byte_number, in_bytes, range_in_bytes, range_of, total_of};
 
+use crate::limits::BYTES;
 use crate::rows::Block;
 use hq_footprint::{Footprint, Range};
 use std::alloc::{AllocError, Global};
@@ -21,7 +22,7 @@ pub fn buffer_ranges(alloc: Global, buffers: &[Block]) -> Result<Vec<Range>, All
 
 /// The number of the byte at an address, if a buffer has it.
 pub fn byte_number(buffers: &[Block], address: u64) -> Option<u32>
-    requires { total_of (blocks_of buffers.now) ≤ 65536 }
+    requires { total_of (blocks_of buffers.now) ≤ BYTES }
     ensures { result ≡ byte_number (blocks_of buffers.now) address }
 {
     let mut before: u32 = 0;
@@ -37,7 +38,7 @@ pub fn byte_number(buffers: &[Block], address: u64) -> Option<u32>
 
 /// A range that lies within a buffer, in byte numbers.
 pub fn range_in_bytes(buffers: &[Block], range: Range) -> Range
-    requires { total_of (blocks_of buffers.now) ≤ 65536 }
+    requires { total_of (blocks_of buffers.now) ≤ BYTES }
     ensures { result ≡ range_in_bytes (blocks_of buffers.now) range }
 {
     if range.len == 0 {
@@ -51,7 +52,7 @@ pub fn range_in_bytes(buffers: &[Block], range: Range) -> Range
 
 /// A footprint whose ranges lie within buffers, in byte numbers.
 pub fn in_bytes(buffers: &[Block], foot: Footprint) -> Footprint
-    requires { total_of (blocks_of buffers.now) ≤ 65536 }
+    requires { total_of (blocks_of buffers.now) ≤ BYTES }
     ensures { result ≡ in_bytes (blocks_of buffers.now) foot }
 {
     let [first, second] = foot.reads;

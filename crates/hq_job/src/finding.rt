@@ -7,6 +7,7 @@ ghost use Rattle.hq_footprint.specs.Bytes.{bytes_of as range_bytes, Share};
 ghost use Rattle.hq_job.specs.Blocks.{bytes_of, blocks_of};
 ghost use Rattle.hq_job.specs.Tables.{names_of, range_of, total_of, number_of_name};
 
+use crate::limits::BYTES;
 use crate::rows::{Block, Kernel, Queue};
 use hq_footprint::Range;
 use hq_text::Name;
@@ -63,7 +64,7 @@ pub fn overlaps_some(blocks: &[Block], range: Range) -> bool
 
 /// How many bytes the blocks have together.
 pub fn total_of(blocks: &[Block]) -> usize
-    requires { total_of (blocks_of blocks.now) ≤ 65536 }
+    requires { total_of (blocks_of blocks.now) ≤ BYTES }
     ensures { result ≡ total_of (blocks_of blocks.now) }
 {
     blocks.iter().map(|block| block.bytes.len()).sum()

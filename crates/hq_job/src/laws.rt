@@ -1,8 +1,12 @@
 //! Laws of job texts. Each is the contract of a function with an empty body.
 
+ghost use Rattle.std.specs.Prelude.{◌≡◌};
 ghost use Rattle.hq_job.specs.JobText.{OneJob, FaultlessWhereJob, OneFirstFault};
 ghost use Rattle.hq_job.specs.Rewritten.{RewrittenIsJob, OneRewritten, OwnHeads, OtherHeads, LastHeads};
 ghost use Rattle.hq_job.specs.LineMeans.{ByteMeans, WordMeans, NumberMeans, PacketMeans, HexMeans, QueueSizeMeans};
+
+use crate::limits::{AGENTS, BLOCKS, BUFFERS, BYTES, ITEMS, KERNELS, QUEUES, SIGNALS};
+use hq_model::PACKETS;
 
 /// A text is one job's.
 pub fn one_job()
@@ -80,4 +84,17 @@ pub fn other_heads()
 /// Of two heads that each packet is given, one behind the other, nothing is left of the first.
 pub fn last_heads()
     ensures { LastHeads }
+{}
+
+/// The limits of jobs, as the format has them.
+pub fn limits()
+    ensures agents { AGENTS ≡ 16 }
+    ensures queues { QUEUES ≡ 32 }
+    ensures packets { PACKETS ≡ 1024 }
+    ensures buffers { BUFFERS ≡ 64 }
+    ensures bytes { BYTES ≡ 65536 }
+    ensures signals { SIGNALS ≡ 1024 }
+    ensures kernels { KERNELS ≡ 64 }
+    ensures blocks { BLOCKS ≡ 256 }
+    ensures items { ITEMS ≡ 65536 }
 {}

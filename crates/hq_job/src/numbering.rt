@@ -5,6 +5,7 @@ ghost use Rattle.hq_job.specs.Numbering.{with_key, by_number, submissions_of};
 ghost use Rattle.hq_model.specs.Journal.{numbers};
 
 use crate::rows::Placed;
+use hq_model::PACKETS;
 use std::alloc::{AllocError, Global};
 
 /// Appends the packets of one queue.
@@ -47,7 +48,7 @@ pub fn submissions(
 ) -> Result<Vec<u16>, AllocError>
     requires firsts { next.items ≡ map (λ q. length (by_number q placed.now)) (numbers queues) }
     requires below { All (λ p. p.queue < queues) placed.now }
-    requires few { length placed.now ≤ 1024 }
+    requires few { length placed.now ≤ PACKETS }
     ensures { IfOk result (λ numbers. numbers.items ≡ submissions_of placed.now) }
 {
     let mut numbers = Vec::with_capacity(alloc, placed.len())?;

@@ -9,19 +9,21 @@ ghost use Rattle.hq_packet.specs.Parts.{completion_of};
 ghost use Rattle.hq_signals.specs.Table.{IsOpen, changed_at, noted, with_wait};
 ghost use Rattle.hq_job.specs.Adds.{Adds};
 ghost use Rattle.hq_job.specs.Fits.{TablesFit};
-ghost use Rattle.hq_job.specs.PacketTests.{place_tests, name_tests, work_tests, Checks, Calls, slots_of, completed};
+ghost use Rattle.hq_job.specs.PacketTests.{Checks, Calls, slots_of, completed};
 ghost use Rattle.hq_job.specs.PacketTests.{awaited};
 ghost use Rattle.hq_job.specs.Tables.{IsUndeclared, IsUnknownService, NamesUndeclared, IsNullOr, HasManyItems};
 ghost use Rattle.hq_job.specs.Tables.{NoneApplies, kernel_of, block_of, deps_of, items_of, work_of, placed_of};
-ghost use Rattle.hq_job.specs.Tables.{noted_by, signal_number};
+ghost use Rattle.hq_job.specs.Tables.{noted_by, signal_number, place_tests, name_tests, work_tests};
 ghost use Rattle.hq_job.specs.TablesView.{tables_of};
 
 use crate::addresses::{buffer_ranges, in_bytes};
 use crate::fault::Reason;
 use crate::finding::{block_at, kernel_at};
+use crate::limits::ITEMS;
 use crate::rows::Placed;
 use crate::tables::Tables;
 use hq_footprint::{FootFault, Footprint, Range, Task, Work, inside, of_kernel, of_service};
+use hq_model::PACKETS;
 use hq_packet::{Kernel, Packet};
 use hq_signals::SignalTable;
 use std::alloc::Global;
@@ -74,7 +76,7 @@ fn has_many_items(packet: &Packet) -> bool
     ensures { IsTrue result ↔ HasManyItems packet.now }
 {
     match packet {
-        Packet::Kernel(kernel) => items_of(kernel) > 65536,
+        Packet::Kernel(kernel) => items_of(kernel) > ITEMS,
         _ => false,
     }
 }
@@ -180,7 +182,7 @@ impl Tables {
         ensures checks { Checks result (place_tests (tables_of self.now)) }
         ensures queue { IfOk result (λ queue. self.now.current ≡ Some queue) }
     {
-        if self.placed.len() >= 1024 {
+        if self.placed.len() >= PACKETS {
             return Err(Reason::Limit);
         }
         let Some(queue) = self.current else {

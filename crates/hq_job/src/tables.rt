@@ -6,6 +6,7 @@ ghost use Rattle.hq_job.specs.Fits.{TablesFit};
 
 use crate::fault::Reason;
 use crate::finding;
+use crate::limits::{AGENTS, BLOCKS, BUFFERS, BYTES, KERNELS, QUEUES, SIGNALS};
 use crate::rows::{Block, Kernel, Placed, Queue, copied};
 use hq_footprint::{Code, Range};
 use hq_signals::{SignalFault, SignalTable};
@@ -90,7 +91,7 @@ impl Tables {
     pub fn add_agent(&mut self, name: Name) -> Result<(), Reason>
         ensures { Adds result (tables_of self.old) (tables_of self.new) (says.Agent name) }
     {
-        if self.agents.len() >= 16 {
+        if self.agents.len() >= AGENTS {
             return Err(Reason::Limit);
         }
         if self.agents.contains(&name) {
@@ -104,10 +105,10 @@ impl Tables {
         requires { TablesFit (tables_of self.old) }
         ensures { Adds result (tables_of self.old) (tables_of self.new) (says.Buffer name at bytes.items) }
     {
-        if self.buffers.len() >= 64 {
+        if self.buffers.len() >= BUFFERS {
             return Err(Reason::Limit);
         }
-        if bytes.len() > 65536 - finding::total_of(&self.buffers) {
+        if bytes.len() > BYTES - finding::total_of(&self.buffers) {
             return Err(Reason::Limit);
         }
         if finding::has_block(&self.buffers, name) {
@@ -123,7 +124,7 @@ impl Tables {
     pub fn add_arguments(&mut self, name: Name, at: u64, bytes: Vec<u8>) -> Result<(), Reason>
         ensures { Adds result (tables_of self.old) (tables_of self.new) (says.Args name at bytes.items) }
     {
-        if self.arguments.len() >= 256 {
+        if self.arguments.len() >= BLOCKS {
             return Err(Reason::Limit);
         }
         if finding::has_block(&self.arguments, name) {
@@ -140,7 +141,7 @@ impl Tables {
         requires { start < 2 ^ 63 }
         ensures { Adds result (tables_of self.old) (tables_of self.new) (says.Signal name handle start) }
     {
-        if self.signals.len() >= 1024 {
+        if self.signals.len() >= SIGNALS {
             return Err(Reason::Limit);
         }
         if self.signal_names.contains(&name) {
@@ -158,7 +159,7 @@ impl Tables {
     pub fn add_kernel(&mut self, name: Name, object: u64, code: Code) -> Result<(), Reason>
         ensures { Adds result (tables_of self.old) (tables_of self.new) (says.Kernel name object code) }
     {
-        if self.kernels.len() >= 64 {
+        if self.kernels.len() >= KERNELS {
             return Err(Reason::Limit);
         }
         if finding::has_kernel(&self.kernels, name) {
@@ -175,7 +176,7 @@ impl Tables {
         requires { TablesFit (tables_of self.old) }
         ensures { Adds result (tables_of self.old) (tables_of self.new) (says.Queue name agent size) }
     {
-        if self.queues.len() >= 32 {
+        if self.queues.len() >= QUEUES {
             return Err(Reason::Limit);
         }
         if finding::queue_number(&self.queues, name).is_some() {

@@ -9,6 +9,7 @@ use Rattle.hq_text.specs.Lines.{words_of}
 use Rattle.hq_text.specs.Names.{IsName}
 use Rattle.hq_text.specs.Numbers.{IsNumber}
 use Rattle.hq_lines.specs.declared.fault.LineFault.TheVariants as fault
+use Rattle.hq_lines.specs.declared.limits.TheConstants.{BUFFER, SLOTS}
 use Rattle.hq_lines.specs.Order.{line_fault}
 use Rattle.hq_lines.specs.Says.{IsWithin, Spells, Codes, IsPower}
 
@@ -52,10 +53,10 @@ pub data HasForm : List (List ℕ) → Places → Type 0 where
   agent : (name : List ℕ) → IsName name → HasForm (codes "agent" ∷ name ∷ []) (numbers_only [])
   zeros : (name addr len : List ℕ) → IsName name
       → HasForm (codes "buffer" ∷ name ∷ addr ∷ len ∷ [])
-      (numbers_only (number 1 (2 ^ 48) addr ∷ number 1 65536 len ∷ []))
+      (numbers_only (number 1 (2 ^ 48) addr ∷ number 1 BUFFER len ∷ []))
   buffer : (name addr len digits : List ℕ) → IsName name
       → HasForm (codes "buffer" ∷ name ∷ addr ∷ len ∷ digits ∷ [])
-      (places (number 1 (2 ^ 48) addr ∷ number 1 65536 len ∷ []) (counted len digits))
+      (places (number 1 (2 ^ 48) addr ∷ number 1 BUFFER len ∷ []) (counted len digits))
   args : (name addr digits : List ℕ) → IsName name
       → HasForm (codes "args" ∷ name ∷ addr ∷ digits ∷ []) (places (number 1 (2 ^ 64 - 1) addr ∷ []) (some digits))
   signal : (name h s : List ℕ) → IsName name
@@ -65,7 +66,7 @@ pub data HasForm : List (List ℕ) → Places → Type 0 where
       → HasForm (codes "kernel" ∷ name ∷ o ∷ c ∷ []) (numbers_only (number 1 (2 ^ 64 - 1) o ∷ []))
   queue : (name owner s : List ℕ) → IsName name → IsName owner
       → HasForm (codes "queue" ∷ name ∷ owner ∷ s ∷ [])
-      (record { numbers = number 1 1024 s ∷ []; digits = nowhere; size = Some s })
+      (record { numbers = number 1 SLOTS s ∷ []; digits = nowhere; size = Some s })
   to : (name : List ℕ) → IsName name → HasForm (codes "to" ∷ name ∷ []) (numbers_only [])
   packets : (digits : List ℕ) → HasForm (codes "packet" ∷ digits ∷ []) (places [] (whole digits))
   ends : HasForm (codes "end" ∷ []) (numbers_only [])
@@ -141,7 +142,7 @@ pub record HasWrongSize (line : List ℕ) : Type 0 where
   pub form : words_of line ≡ codes "queue" ∷ name ∷ owner ∷ word ∷ []
   pub is_name : IsName name
   pub is_owner : IsName owner
-  pub within : IsWithin 1 1024 word size
+  pub within : IsWithin 1 SLOTS word size
   pub no_power : ¬ IsPower size
 
 -- ---- the laws

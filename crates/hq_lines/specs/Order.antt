@@ -14,6 +14,7 @@ use Rattle.hq_text.specs.Numbers.{number_of}
 use Rattle.hq_text.specs.InTurn.{◌>>=◌}
 use Rattle.hq_lines.specs.declared.fault.LineFault.{LineFault}
 use Rattle.hq_lines.specs.declared.fault.LineFault.TheVariants as fault
+use Rattle.hq_lines.specs.declared.limits.TheConstants.{BLOCK, BUFFER, SLOTS}
 use Rattle.hq_lines.specs.Meaning.{Meaning, Agent, Buffer, Args, Signal, Kernel, Queue, To, End}
 use Rattle.hq_lines.specs.Bytes.{is_outside}
 
@@ -56,17 +57,17 @@ decoded_some (Err e) = Err fault.Hex
 unfoldable pub some_said : List ℕ → Result (List ℕ) LineFault
 some_said word = decoded_some (decode_of word)
 
--- at most 64 bytes
+-- at most as many bytes as a kernarg block has
 unfoldable pub short_said : List ℕ → Result (List ℕ) LineFault
-short_said bytes = if nat_le (length bytes) 64 then Ok bytes else Err fault.TooLong
+short_said bytes = if nat_le (length bytes) BLOCK then Ok bytes else Err fault.TooLong
 
--- a power of two up to 1024
+-- a power of two, up to the most slots that a queue has
 abbrev pub is_power : ℕ → Bool
 is_power n = list_any (λ k. n == 2 ^ k) (0 ∷ 1 ∷ 2 ∷ 3 ∷ 4 ∷ 5 ∷ 6 ∷ 7 ∷ 8 ∷ 9 ∷ 10 ∷ [])
 
 unfoldable pub size_said : List ℕ → Result ℕ LineFault
 size_said word = do
-  size ← ranged 1 1024 word
+  size ← ranged 1 SLOTS word
   if is_power size then Ok size else Err fault.QueueSize
 
 unfoldable pub agent_said : List (List ℕ) → Result Meaning LineFault
@@ -85,7 +86,7 @@ to_said _ = Err fault.Word
 unfoldable pub extent_said : List ℕ → List ℕ → Result (ℕ × ℕ) LineFault
 extent_said addr len = do
   at ← ranged 1 (2 ^ 48) addr
-  count ← ranged 1 65536 len
+  count ← ranged 1 BUFFER len
   Ok (at, count)
 
 -- without digits the bytes are 0

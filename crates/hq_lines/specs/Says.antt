@@ -9,6 +9,7 @@ use Rattle.hq_packet.specs.PacketText.{PacketText}
 use Rattle.hq_text.specs.Lines.{words_of}
 use Rattle.hq_text.specs.Names.{IsName}
 use Rattle.hq_text.specs.Numbers.{IsNumber}
+use Rattle.hq_lines.specs.declared.limits.TheConstants.{BLOCK, BUFFER, SLOTS}
 use Rattle.hq_lines.specs.Meaning.{Meaning, Agent, Buffer, Args, Signal, Kernel, Queue, To, Packet, End}
 use Rattle.hq_lines.specs.Bytes.{is_outside}
 
@@ -50,15 +51,15 @@ pub data Says : List (List ℕ) → Meaning → Type 0 where
   -- agent NAME
   agent : (name : List ℕ) → IsName name → Says (codes "agent" ∷ name ∷ []) (Agent name)
   -- buffer NAME ADDR LEN
-  zeros : (name addr len : List ℕ) (at n : ℕ) → IsName name → IsWithin 1 (2 ^ 48) addr at → IsWithin 1 65536 len n
+  zeros : (name addr len : List ℕ) (at n : ℕ) → IsName name → IsWithin 1 (2 ^ 48) addr at → IsWithin 1 BUFFER len n
       → Says (codes "buffer" ∷ name ∷ addr ∷ len ∷ []) (Buffer name at (replicate n 0))
   -- buffer NAME ADDR LEN HEX
   buffer : (name addr len digits : List ℕ) (at n : ℕ) (bytes : List ℕ) → IsName name → IsWithin 1 (2 ^ 48) addr at
-      → IsWithin 1 65536 len n → length digits ≡ 2 * n → Spells digits bytes
+      → IsWithin 1 BUFFER len n → length digits ≡ 2 * n → Spells digits bytes
       → Says (codes "buffer" ∷ name ∷ addr ∷ len ∷ digits ∷ []) (Buffer name at bytes)
   -- args NAME ADDR HEX
   args : (name addr digits : List ℕ) (at : ℕ) (bytes : List ℕ) → IsName name → IsWithin 1 (2 ^ 64 - 1) addr at
-      → Spells digits bytes → 1 ≤ length bytes → length bytes ≤ 64
+      → Spells digits bytes → 1 ≤ length bytes → length bytes ≤ BLOCK
       → Says (codes "args" ∷ name ∷ addr ∷ digits ∷ []) (Args name at bytes)
   -- signal NAME HANDLE START
   signal : (name h s : List ℕ) (handle start : ℕ) → IsName name → IsWithin 1 (2 ^ 64 - 1) h handle
@@ -69,7 +70,7 @@ pub data Says : List (List ℕ) → Meaning → Type 0 where
       → IsWithin 1 (2 ^ 64 - 1) o object
       → Says (codes "kernel" ∷ name ∷ o ∷ c ∷ []) (Kernel name object kind)
   -- queue NAME AGENT SIZE
-  queue : (name owner s : List ℕ) (size : ℕ) → IsName name → IsName owner → IsWithin 1 1024 s size → IsPower size
+  queue : (name owner s : List ℕ) (size : ℕ) → IsName name → IsName owner → IsWithin 1 SLOTS s size → IsPower size
       → Says (codes "queue" ∷ name ∷ owner ∷ s ∷ []) (Queue name owner size)
   -- to NAME
   to : (name : List ℕ) → IsName name → Says (codes "to" ∷ name ∷ []) (To name)

@@ -7,6 +7,8 @@ ghost use Rattle.hq_lines.specs.Heads.{SaysWithHead, PacketsBegin};
 ghost use Rattle.hq_lines.specs.Order.{line_fault};
 ghost use Rattle.hq_lines.specs.LineForms.{ByteMeans, WordMeans, NumberMeans, HexMeans, PacketMeans, QueueSizeMeans};
 
+use crate::limits::{BLOCK, BUFFER, SLOTS};
+
 /// A line says one thing at most.
 pub fn one_meaning()
     ensures words { (words : List (List ℕ)) → (m n : Meaning) → Says words m → Says words n → m ≡ n }
@@ -62,4 +64,11 @@ pub fn says_with_head()
 /// A line that says something begins as packet lines do exactly where it says a packet.
 pub fn packets_begin()
     ensures { PacketsBegin }
+{}
+
+/// The limits of lines, as the format has them.
+pub fn limits()
+    ensures slots { SLOTS ≡ 1024 }
+    ensures buffer { BUFFER ≡ 65536 }
+    ensures block { BLOCK ≡ 64 }
 {}

@@ -16,6 +16,7 @@ ghost use Rattle.hq_lines.specs.Meaning.{view};
 ghost use Rattle.hq_lines.specs.Gives.{Gives};
 
 use crate::fault::LineFault;
+use crate::limits::{BLOCK, BUFFER, SLOTS};
 use crate::line::Line;
 use hq_footprint::Code;
 use hq_packet::decode;
@@ -70,7 +71,7 @@ fn code_said(word: &[u8]) -> Result<Code, LineFault>
 /// The bytes that so many pairs of digits spell.
 #[tactic(auto, unfolding(crate::specs::Order::sized_said))]
 fn sized_said(alloc: Global, len: u64, word: &[u8]) -> Result<Vec<u8>, LineFault>
-    requires { len ≤ 65536 }
+    requires { len ≤ BUFFER }
     ensures value { Gives (λ v. v.items) result (sized_said len word.now) }
     ensures len { IfOk result (λ v. length v.items ≡ len) }
 {
@@ -93,20 +94,20 @@ fn some_said(alloc: Global, word: &[u8]) -> Result<Vec<u8>, LineFault>
     }
 }
 
-/// At most 64 bytes.
+/// At most as many bytes as a kernarg block has.
 #[tactic(auto, unfolding(crate::specs::Order::short_said))]
 fn short_said(bytes: Vec<u8>) -> Result<Vec<u8>, LineFault>
     ensures value { Gives (λ v. v.items) result (short_said bytes.items) }
-    ensures len { IfOk result (λ v. length v.items ≤ 64) }
+    ensures len { IfOk result (λ v. length v.items ≤ BLOCK) }
 {
-    if bytes.len() > 64 {
+    if bytes.len() > BLOCK {
         return Err(LineFault::TooLong);
     }
     Ok(bytes)
 }
 
 fn is_power(size: u16) -> bool
-    requires { size ≤ 1024 }
+    requires { size ≤ SLOTS }
     ensures { result ≡ is_power size }
 {
     matches!(size, 1 | 2 | 4 | 8 | 16 | 32 | 64 | 128 | 256 | 512 | 1024)
@@ -117,7 +118,7 @@ fn is_power(size: u16) -> bool
 fn size_said(word: &[u8]) -> Result<u16, LineFault>
     ensures { result ≡ size_said word.now }
 {
-    let size = ranged(1, 1024, word)? as u16;
+    let size = ranged(1, SLOTS, word)? as u16;
     if !is_power(size) {
         return Err(LineFault::QueueSize);
     }
@@ -148,10 +149,10 @@ fn to_said(words: &[&[u8]]) -> Result<Line, LineFault>
 #[tactic(auto, unfolding(crate::specs::Order::extent_said))]
 fn extent_said(at: &[u8], len: &[u8]) -> Result<(u64, u64), LineFault>
     ensures value { result ≡ extent_said at.now len.now }
-    ensures range { IfOk result (λ e. e.1 ≤ 65536) }
+    ensures range { IfOk result (λ e. e.1 ≤ BUFFER) }
 {
     let at = ranged(1, 1 << 48, at)?;
-    let len = ranged(1, 65536, len)?;
+    let len = ranged(1, BUFFER, len)?;
     Ok((at, len))
 }
 

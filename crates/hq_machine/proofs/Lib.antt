@@ -7,6 +7,7 @@ pub mod Moves
 pub mod NextPackets
 pub mod CopyMoves
 pub mod Fences
+pub mod AllOf
 pub mod Counts
 pub mod Finishing
 pub mod Reading

@@ -6,6 +6,7 @@ ghost use Rattle.hq_job.specs.Plan.{plan};
 ghost use Rattle.hq_model.specs.Job.{IsPacket, IsBarrier, Earlier, Frees, packet};
 ghost use Rattle.hq_model.specs.Machine as machine;
 ghost use Rattle.hq_model.specs.Machine.{MaySubmit, MayLaunch, is_launched};
+ghost use Rattle.hq_model.specs.View.{phases_of};
 ghost use Rattle.hq_model.specs.Machine.Event.{Submit, Launch};
 ghost use Rattle.hq_machine.specs.View.{IsStateOf, IsFirstWaiting, IsFirstUnlaunched, IsClear, Moved, Refused};
 ghost use Rattle.hq_machine.specs.View.{state_of};
@@ -16,6 +17,9 @@ use crate::phase::Phase;
 use crate::state::State;
 use hq_job::Job;
 use std::ops::Range;
+
+/// How many packets are looked at at once.
+const BLOCK: usize = 64;
 
 impl State {
     /// The first packet of the submission order that waits.
@@ -85,6 +89,23 @@ impl State {
         }
     }
 
+    /// A number from the first of these on, all ahead of which are of launched packets: whole blocks are passed over.
+    fn behind_launched(&self, numbers: Range<usize>) -> usize
+        requires { (p : ℕ) → numbers.start ≤ p → p < numbers.end → p < length self.now.phases }
+        ensures from { numbers.start ≤ result }
+        ensures launched { (first : machine.Phase) → (e : ℕ) → numbers.start ≤ e → e < result
+            → is_launched (phases_of first self.now.phases e) ≡ true }
+    {
+        let mut from = numbers.start;
+        while numbers.end.saturating_sub(from) >= BLOCK {
+            if !self.all_launched(from..from + BLOCK) {
+                break;
+            }
+            from += BLOCK;
+        }
+        from
+    }
+
     /// The queue's first packet that isn't launched.
     fn first_unlaunched(&self, job: &Job, queue: usize) -> Option<usize>
         requires is { IsStateOf (plan job.now) self.now }
@@ -95,7 +116,7 @@ impl State {
             (λ p. IsFirstUnlaunched (plan job.now) (state_of (plan job.now) self.now) queue p) }
     {
         let numbers = job.of_queue(queue);
-        for number in numbers.start..numbers.end {
+        for number in self.behind_launched(numbers.start..numbers.end)..numbers.end {
             if !self.is_launched(number) {
                 return Some(number);
             }
@@ -111,8 +132,11 @@ impl State {
             ↔ ((e : ℕ) → numbers.start ≤ e → e < numbers.end → IsBarrier (plan job.now) e
             → (state_of (plan job.now) self.now).phase e ≡ machine.Phase.Complete) }
     {
+        if self.all_complete(numbers.start..numbers.end) {
+            return true;
+        }
         for number in numbers.start..numbers.end {
-            if job.is_barrier(number) && !self.is_in(number, Phase::Complete) {
+            if !self.is_in(number, Phase::Complete) && job.is_barrier(number) {
                 return false;
             }
         }

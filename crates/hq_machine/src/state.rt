@@ -1,6 +1,6 @@
 //! The state of a run.
 
-ghost use Rattle.std.specs.Prelude.{◌≡◌, ◌+◌, ◌^◌, ◌<◌, ◌≤◌, ◌↔◌, ℕ, Some, slice_index, [], false, length, IfOk};
+ghost use Rattle.std.specs.Prelude.{◌≡◌, ◌+◌, ◌^◌, ◌<◌, ◌≤◌, ◌↔◌, ℕ, Some, slice_index, [], false, length, IfOk, true};
 ghost use Rattle.std.specs.Prelude.{IfErr, IsTrue, is_some, map, replicate};
 ghost use Rattle.hq_copies.specs.Copies.{IsAgentByte, IsLaneByte};
 ghost use Rattle.hq_job.specs.Plan.{plan};
@@ -284,18 +284,32 @@ impl State {
         self.phase(packet).is_launched()
     }
 
-    /// Whether all packets of these numbers are complete.
+    /// Whether all packets of these numbers are complete. No test ends the loop early, so that many are looked at
+    /// at once.
     pub fn all_complete(&self, numbers: Range<usize>) -> bool
         requires { numbers.end ≤ length self.now.phases }
         ensures { (first : machine.Phase) → IsTrue result
             ↔ ((e : ℕ) → numbers.start ≤ e → e < numbers.end
             → phases_of first self.now.phases e ≡ machine.Phase.Complete) }
     {
+        let mut all = true;
         for packet in numbers.start..numbers.end {
-            if !self.is_in(packet, Phase::Complete) {
-                return false;
-            }
+            all &= self.is_in(packet, Phase::Complete);
         }
-        true
+        all
+    }
+
+    /// Whether all packets of these numbers are launched.
+    pub(crate) fn all_launched(&self, numbers: Range<usize>) -> bool
+        requires { numbers.end ≤ length self.now.phases }
+        ensures { (first : machine.Phase) → IsTrue result
+            ↔ ((e : ℕ) → numbers.start ≤ e → e < numbers.end
+            → is_launched (phases_of first self.now.phases e) ≡ true) }
+    {
+        let mut all = true;
+        for packet in numbers.start..numbers.end {
+            all &= self.is_launched(packet);
+        }
+        all
     }
 }

@@ -176,10 +176,14 @@ whole p = omega arith
 row_word : (row : List ℕ) (r x : ℕ) (o : OfRow row r x) → OfWord (slice_index row (o.0 / 64)) (o.0 / 64 * 64) r x
 row_word row r x o = (o.0 % 64, omega arith, (o.2, o.3 ∙ ap (λ p. p * 1024 + r) (whole o.0)))
 
-pub row_done : (Old A : Type 0) (row : List ℕ) (r x i : ℕ) → 16 ≤ i → i ≤ 16 → A ↔ (Old ⊎ ((place : ℕ) × (place < i) × OfWord (slice_index row place) (place * 64) r x)) → A ↔ (Old ⊎ OfRow row r x)
-row_done Old A row r x i high most h = (
-  λ a. elim (h.0 a) [ inl o ↦ inl o | inr w ↦ inr (word_row row w.0 r x (let l = w.1 in omega arith) w.2) ],
-  λ t. elim t [ inl o ↦ h.1 (inl o) | inr w ↦ h.1 (inr (w.0 / 64, let l = w.1 in omega arith, row_word row r x w)) ],
+-- so for the packets of all words at this place
+abbrev pub OfPlace : List (Vec ℕ) → ℕ → ℕ → Type 0
+OfPlace rows place x = (r : ℕ) × (r < length rows) × OfWord (slice_index (row rows r) place) (place * 64) r x
+
+pub rows_done : (Old A : Type 0) (rows : List (Vec ℕ)) (x i : ℕ) → 16 ≤ i → i ≤ 16 → A ↔ (Old ⊎ ((place : ℕ) × (place < i) × OfPlace rows place x)) → A ↔ (Old ⊎ ((r : ℕ) × (r < length rows) × OfRow (row rows r) r x))
+rows_done Old A rows x i high most h = (
+  λ a. elim (h.0 a) [ inl o ↦ inl o | inr w ↦ inr (w.2.0, w.2.1, word_row (row rows w.2.0) w.0 w.2.0 x (let l = w.1 in omega arith) w.2.2) ],
+  λ t. elim t [ inl o ↦ h.1 (inl o) | inr w ↦ h.1 (inr (w.2.0 / 64, let l = w.2.1 in omega arith, (w.0, w.1, row_word (row rows w.0) w.0 x w.2))) ],
 )
 
 -- one number and the other, from a place in the table

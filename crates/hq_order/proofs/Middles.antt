@@ -1,13 +1,14 @@
 -- The packets between two by lower rounds.
-use Rattle.std.proofs.Common.{◌≡◌, ℕ, zero, suc, ◌+◌, ◌-◌, ◌<◌, ◌≤◌, inl, inr, List, length, subst, arith, Option, Some, None}
+use Rattle.std.proofs.Common.{◌≡◌, ℕ, zero, suc, ◌+◌, ◌-◌, ◌/◌, ◌<◌, ◌≤◌, ◌⊎◌, inl, inr, List, length, subst, arith, Option, Some, None}
 use Rattle.std.specs.Prelude.{MatchOption}
 use Rattle.std.specs.Global.{Vec}
 use Rattle.std.proofs.lemmas.Bool.{cases_lt}
 use Rattle.hq_model.specs.Job.{Job}
-use Rattle.hq_order.specs.Matrix.{Marks, AreRounds, IsClosed, matrix, IsMarkedBetween}
+use Rattle.hq_order.specs.Matrix.{row, Marks, AreRounds, IsClosed, matrix, IsMarkedBetween, IsMarkedNowhere}
 use Rattle.hq_order.specs.Rounds.{Within, IsFirstWithin, Between, IsMiddle}
 use Rattle.hq_order.specs.Rounds.Next.{by_known}
 use Rattle.hq_order.proofs.Closure.{within_before, last_exact}
+use Rattle.hq_order.proofs.Rows.{marked_below, within}
 
 -- what is within a round is within those above it
 pub within_le : (job : Job) (j k p r : ℕ) → k ≤ j → Within job k p r → Within job j p r
@@ -58,3 +59,16 @@ pub rounds_grow : (job : Job) (rounds : List (Vec (Vec ℕ))) (k p r : ℕ) → 
 rounds_grow job rounds k p r a l m =
     let low : k < length rounds = omega arith in
     (a.exact (k + 1) p r l).1 (within_le job (k + 1) k p r (omega arith) ((a.exact k p r low).0 m))
+
+-- ---- numbers that are too large for a table
+
+pub wide_nowhere : (job : Job) (rounds : List (Vec (Vec ℕ))) (p r : ℕ) → AreRounds job rounds → (1024 ≤ p) ⊎ (1024 ≤ r) → IsMarkedNowhere rounds p r
+wide_nowhere job rounds p r a wide = λ k l m.
+    let sq = a.square k l in
+    let low : r < length (matrix rounds k) = marked_below (matrix rounds k) p r m in
+    let there : r < length job.packets = omega (arith, sq.height) in
+    let near : p / 64 < length (row (matrix rounds k) r) = within (row (matrix rounds k) r) p m in
+    elim wide [
+      | inl first ↦ absurd (omega (arith, sq.few, sq.width r there))
+      | inr second ↦ absurd (omega (arith, sq.few, sq.room))
+    ]

@@ -7,7 +7,7 @@ ghost use Rattle.hq_model.specs.Order as order;
 ghost use Rattle.hq_order.specs.Rounds.{Direct, Next, IsFirstWithin, Between, IsMiddle};
 ghost use Rattle.hq_order.specs.Placing.{AllAre, Completing};
 ghost use Rattle.hq_order.specs.Matrix.{row, words_for, Marks, IsSquare, Grown, AreRounds, IsClosed, matrix, last};
-ghost use Rattle.hq_order.specs.Matrix.{earlier, lag, Differ, IsMarkedNowhere, IsMarkedFirst};
+ghost use Rattle.hq_order.specs.Matrix.{earlier, lag, AreTurned, Differ, IsMarkedNowhere, IsMarkedFirst};
 ghost use Rattle.hq_order.specs.Uniting.{CanUnite, Stepped};
 ghost use Rattle.hq_order.specs.Bits.{has};
 ghost use Rattle.hq_order.specs.View.{AreOf};
@@ -196,16 +196,23 @@ fn add_round(
 }
 
 /// All rounds, until one would add nothing.
-fn all_rounds(alloc: Global, job: &Job) -> Result<Vec<Vec<Vec<u64>>>, AllocError>
+fn all_rounds(
+    alloc: Global,
+    job: &Job,
+    completing: &[Vec<u64>],
+) -> Result<Vec<Vec<Vec<u64>>>, AllocError>
+    requires completing { AllAre
+        (λ s set. Completing (plan job.now) s set.items
+        × (length set.items ≡ words_for (length job.now.packets))) completing.now }
+    requires signals { length completing.now ≡ length job.now.signals }
     ensures rounds { IfOk result (λ rounds. AreRounds (plan job.now) rounds.items) }
     ensures closed { IfOk result (λ rounds. IsClosed (plan job.now) rounds.items) }
 {
     job.valid();
-    let completing = completing(alloc, job, words_of(job))?;
     let mut rounds = Vec::new(alloc);
-    rounds.push(first_rows(alloc, job, &completing)?)?;
+    rounds.push(first_rows(alloc, job, completing)?)?;
     let mut renewed = bits::full(alloc, bits::WORDS)?;
-    'rounds: while add_round(alloc, job, &completing, &mut rounds, &mut renewed)? {}
+    'rounds: while add_round(alloc, job, completing, &mut rounds, &mut renewed)? {}
     Ok(rounds)
 }
 
@@ -219,14 +226,21 @@ pub fn marks(rows: &[Vec<u64>], p: usize, r: usize) -> bool
     }
 }
 
-/// The first of the rounds that marks the pair.
-fn first_round(rounds: &[Vec<Vec<u64>>], p: usize, r: usize) -> Option<usize>
+/// The first of the rounds that marks the pair, by the rows turned round.
+#[inline(always)]
+fn first_turned(rounds: &[Vec<Vec<u64>>], tables: &[Vec<u64>], p: usize, r: usize) -> Option<usize>
+    requires turned { AreTurned rounds.now tables.now }
+    requires p { p < 1024 }
+    requires r { r < 1024 }
     ensures { MatchOption result (IsMarkedNowhere rounds.now p r) (λ k. IsMarkedFirst rounds.now p r k) }
 {
-    for (k, rows) in rounds.iter().enumerate() {
-        if marks(rows, p, r) {
+    for (k, table) in tables.iter().enumerate() {
+        if bits::has(table, p * bits::WIDTH + r) {
             return Some(k);
         }
+    }
+    if marks(last_rows(rounds), p, r) {
+        return Some(tables.len());
     }
     None
 }
@@ -239,6 +253,8 @@ pub struct Before<'a> {
     rounds: Vec<Vec<Vec<u64>>>,
     /// For each round but the last the rows turned round: what a packet is before.
     columns: Vec<Vec<u64>>,
+    /// For each signal the packets that complete on it. Nothing rests on these: they tell where to look first.
+    completing: Vec<Vec<u64>>,
 }
 
 /// The rounds by which a job's order was worked out, apart from the job. They are those of each job that differs
@@ -247,6 +263,7 @@ pub struct Before<'a> {
 pub struct Rounds {
     rounds: Vec<Vec<Vec<u64>>>,
     columns: Vec<Vec<u64>>,
+    completing: Vec<Vec<u64>>,
 }
 
 impl Rounds {
@@ -259,6 +276,7 @@ impl Rounds {
             job,
             rounds: self.rounds,
             columns: self.columns,
+            completing: self.completing,
         }
     }
 }
@@ -281,12 +299,14 @@ impl<'a> Before<'a> {
         ensures memory { IfErr result (λ e. e ≡ OrderFault.Memory) }
     {
         job.valid();
-        let rounds = all_rounds(alloc, job)?;
+        let completing = completing(alloc, job, words_of(job))?;
+        let rounds = all_rounds(alloc, job, &completing)?;
         let columns = all_turned(alloc, &rounds)?;
         Ok(Before {
             job,
             rounds,
             columns,
+            completing,
         })
     }
 
@@ -312,7 +332,14 @@ impl<'a> Before<'a> {
     pub fn round(&self, p: usize, r: usize) -> Option<usize>
         ensures { MatchOption result (order.Before self.now p r → ⊥) (λ k. IsFirstWithin self.now k p r) }
     {
-        first_round(&self.rounds, p, r)
+        let rounds = &self.rounds;
+        if p >= bits::WIDTH {
+            return None;
+        }
+        if r >= bits::WIDTH {
+            return None;
+        }
+        first_turned(rounds, &self.columns, p, r)
     }
 
     /// The least packet that p is before, and that is before r, by rounds below that in which p is first before r.
@@ -328,6 +355,41 @@ impl<'a> Before<'a> {
         between(&self.rounds[round - 1], &self.columns[round - 1], p, r)
     }
 
+    /// How many rounds there are.
+    pub fn rounds(&self) -> usize {
+        self.rounds.len()
+    }
+
+    /// Which packets of a word p comes before in this round and in none below it, as bits. In the last round those are
+    /// among them too that p doesn't come before.
+    #[inline(always)]
+    pub fn fresh(&self, round: usize, p: usize, place: usize) -> u64 {
+        let at = p.wrapping_mul(bits::WORDS).wrapping_add(place);
+        let earlier = match round.checked_sub(1) {
+            Some(earlier) => bits::word_at(row_of(&self.columns, earlier), at),
+            None => 0,
+        };
+        match self.columns.get(round) {
+            Some(table) => bits::less(bits::word_at(table, at), earlier),
+            None => !earlier,
+        }
+    }
+
+    /// The least packet that completes on the signal and that p comes before by rounds below this one, where such a one
+    /// is found at once.
+    pub fn completer(&self, round: usize, p: usize, signal: u16) -> Option<usize> {
+        let table = self.columns.get(round.checked_sub(1)?)?;
+        let completing = self.completing.get(signal as usize)?;
+        for (place, word) in completing.iter().enumerate() {
+            let at = p.wrapping_mul(bits::WORDS).wrapping_add(place);
+            let both = *word & bits::word_at(table, at);
+            if both != 0 {
+                return Some(place.wrapping_mul(64).wrapping_add(bits::lowest(both)));
+            }
+        }
+        None
+    }
+
     /// The rounds, apart from the job.
     pub fn into_rounds(self) -> Rounds
         ensures { AreOf self.entry result }
@@ -335,6 +397,7 @@ impl<'a> Before<'a> {
         Rounds {
             rounds: self.rounds,
             columns: self.columns,
+            completing: self.completing,
         }
     }
 

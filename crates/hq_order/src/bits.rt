@@ -7,13 +7,14 @@ ghost use Rattle.std.specs.Int.{bit_at};
 ghost use Rattle.hq_order.specs.Bits.{has, Covers, IsFirstCommon, IsFirstFrom};
 ghost use Rattle.hq_order.specs.Matrix.{Grown};
 
+use hq_model::PACKETS;
 use std::alloc::{AllocError, Global};
 
 /// How many numbers a row of a table has room for: the most packets that a job has.
-pub const WIDTH: usize = 1024;
+pub const WIDTH: usize = PACKETS;
 
 /// How many words that takes.
-pub const WORDS: usize = 16;
+pub const WORDS: usize = WIDTH / 64;
 
 /// No number, in so many words.
 pub fn empty(alloc: Global, words: usize) -> Result<Vec<u64>, AllocError>

@@ -1,25 +1,47 @@
 //! The rows turned round: for each packet what it is before.
 
 ghost use Rattle.std.specs.Prelude.{◌≡◌, ℕ, ◌+◌, ◌*◌, ◌<◌, ◌≤◌, ◌↔◌, ◌⊎◌, IsTrue, IfOk, MatchOption, length};
+ghost use Rattle.std.specs.Prelude.{◌==◌, slice_index};
+ghost use Rattle.std.specs.Int.{bit_at};
 ghost use Rattle.hq_order.specs.Bits.{has};
 ghost use Rattle.hq_order.specs.Matrix.{row, Marks, matrix, Turned, AreTurned, IsMarkedBetween};
 
 use crate::bits::{WIDTH, WORDS, column_of, first_common, less, turn_word, word_at};
 use std::alloc::{AllocError, Global};
 
-/// Takes in r for each packet that the row has. Those that are known are there.
-fn turn_row(table: &mut [u64], row: &[u64], known: &[u64], r: usize)
+/// Takes in r for each packet of a word of the row, that at this place. Those that are known are there.
+#[inline(always)]
+fn turn_part(table: &mut [u64], row: &[u64], known: &[u64], place: usize, r: usize)
     requires len { length table.old ≡ 16384 }
+    requires place { place < 16 }
     requires r { r < 1024 }
     requires known { (p : ℕ) → p < 1024 → IsTrue (has known.now p) → IsTrue (has table.old (p * 1024 + r)) }
     ensures { (x : ℕ) → IsTrue (has table.new x)
-        ↔ (IsTrue (has table.old x) ⊎ ((p : ℕ) × (p < 1024) × IsTrue (has row.now p) × (x ≡ p * 1024 + r))) }
+        ↔ (IsTrue (has table.old x)
+        ⊎ ((bit : ℕ) × (bit < 64)
+        × (IsTrue (bit_at (slice_index row.now place) bit == 1) × (x ≡ (place * 64 + bit) * 1024 + r)))) }
 {
-    for place in 0..WORDS {
-        let word = less(word_at(row, place), word_at(known, place));
-        if word != 0 {
-            turn_word(table, word, place * 64, r);
-        }
+    let word = less(word_at(row, place), word_at(known, place));
+    if word != 0 {
+        turn_word(table, word, place * 64, r);
+    }
+}
+
+/// Takes in each packet for those of a word of its row. Place after place, what is written of the table stays near.
+fn turn_place(table: &mut [u64], rows: &[Vec<u64>], known: &[Vec<u64>], place: usize)
+    requires len { length table.old ≡ 16384 }
+    requires few { length rows.now ≤ 1024 }
+    requires place { place < 16 }
+    requires known { (p r : ℕ) → p < 1024 → Marks known.now p r → IsTrue (has table.old (p * 1024 + r)) }
+    ensures { (x : ℕ) → IsTrue (has table.new x)
+        ↔ (IsTrue (has table.old x)
+        ⊎ ((r : ℕ) × (r < length rows.now)
+        × ((bit : ℕ) × (bit < 64)
+        × (IsTrue (bit_at (slice_index (row rows.now r) place) bit == 1)
+        × (x ≡ (place * 64 + bit) * 1024 + r))))) }
+{
+    for (r, row) in rows.iter().enumerate() {
+        turn_part(table, row, row_of(known, r), place, r);
     }
 }
 
@@ -32,8 +54,8 @@ fn turn_rows(table: &mut [u64], rows: &[Vec<u64>], known: &[Vec<u64>])
         ↔ (IsTrue (has table.old x)
         ⊎ ((r : ℕ) × (r < length rows.now) × ((p : ℕ) × (p < 1024) × Marks rows.now p r × (x ≡ p * 1024 + r)))) }
 {
-    for (r, row) in rows.iter().enumerate() {
-        turn_row(table, row, row_of(known, r), r);
+    for place in 0..WORDS {
+        turn_place(table, rows, known, place);
     }
 }
 

@@ -3,6 +3,7 @@
 ghost use Rattle.std.specs.Prelude.{◌≡◌, Ok, Some, IfOk, IfErr};
 ghost use Rattle.hq_packet.specs.Laws.{OneSpelling, OnePacket, FaultlessWhereSpelled, HeadStandsSecond, OneHead};
 ghost use Rattle.hq_packet.specs.Laws.{AnotherHead};
+ghost use Rattle.hq_packet.specs.Dispatches.{FaultlessFields, OneDispatch};
 ghost use Rattle.hq_packet.specs.Faults.{first_fault};
 
 use crate::decoding::decode;
@@ -39,6 +40,16 @@ pub fn one_head()
 /// Where bytes spell a packet, with the byte of another head they spell the packet with that head.
 pub fn another_head()
     ensures { AnotherHead }
+{}
+
+/// Fields are those of one kernel dispatch.
+pub fn one_dispatch()
+    ensures { OneDispatch }
+{}
+
+/// The fields of a kernel dispatch have no fault.
+pub fn faultless_fields()
+    ensures { FaultlessFields }
 {}
 
 /// A packet that was encoded is decoded as itself.

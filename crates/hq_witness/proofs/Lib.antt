@@ -1,2 +1,4 @@
 pub mod Traces
 pub mod Runs
+pub mod Bytes
+pub mod Pairs

@@ -26,6 +26,21 @@ pub record TellApart (good bad : Trace) (d : Difference) : Type 0 where
   pub in_bad : TellsAt bad d.place d.bad
   pub differ : d.good ≢ d.bad
 
+-- two reads of the same entry by the same packet that had other origins
+pub record AreOther (s other : Sighting) : Type 0 where
+  pub packet : other.packet ≡ s.packet
+  pub entry : other.entry ≡ s.entry
+  pub origin : s.origin ≢ other.origin
+
+-- No entry that a packet has read had one origin in the one trace and another in the other.
+abbrev pub SameReads : Trace → Trace → Type 0
+SameReads good bad = (s other : Sighting) → Has good.reads.items s → Has bad.reads.items other → ¬ AreOther s other
+
+-- Nor has memory, if both are of one byte.
+pub record Agree (good bad : Trace) : Type 0 where
+  pub reads : SameReads good bad
+  pub memory : good.byte ≡ bad.byte → good.memory ≡ bad.memory
+
 -- two whole runs that differ in a place
 pub record AreFound (job : Job) (f : Found) : Type 0 where
   pub place : IsPlace job f.difference.place

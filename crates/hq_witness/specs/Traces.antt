@@ -1,5 +1,7 @@
 -- What is known of a trace: one byte's origins, in memory, in each agent's and each lane's copy, and in its reads.
-use Rattle.std.specs.Prelude.{◌≡◌, ℕ, ◌<◌, ◌==◌, if◌then◌else◌, IsSome, List, length, map, set, slice_index_or, All}
+use Rattle.std.specs.Prelude.{◌≡◌, ℕ, ◌<◌, ◌==◌, if◌then◌else◌, IsSome, List, [], ◌∷◌, ◌++◌, length, map, set}
+use Rattle.std.specs.Prelude.{slice_index_or, All}
+use Rattle.hq_machine.specs.declared.event.Event.{Event as MachineEvent}
 use Rattle.hq_machine.specs.Events.{coarse_of}
 use Rattle.hq_machine.specs.View.{IsStateOf, state_of}
 use Rattle.hq_model.specs.Job.{Job, packet, IsPacket}
@@ -60,3 +62,7 @@ pub record IsRecording (job : Job) (r : Recording) : Type 0 where
   pub origins : Origins
   pub run : OriginsOf job events (state_of job r.state) origins
   pub tells : Tells job (state_of job r.state) origins r.trace
+
+-- the journal's last event is this one
+abbrev pub EndsWith : List MachineEvent → MachineEvent → Type 0
+EndsWith journal event = (ahead : List MachineEvent) × (journal ≡ ahead ++ event ∷ [])

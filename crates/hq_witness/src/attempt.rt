@@ -1,10 +1,10 @@
 //! One attempt to show a conflict.
 
-ghost use Rattle.std.specs.Prelude.{IfOk, IfSome};
+ghost use Rattle.std.specs.Prelude.{IfNone, IfOk, IfSome};
 ghost use Rattle.hq_job.specs.Plan.{plan};
 ghost use Rattle.hq_model.specs.Machine.{IsByte};
 ghost use Rattle.hq_machine.specs.View.{state_of};
-ghost use Rattle.hq_witness.specs.Differences.{AreFound, TellApart};
+ghost use Rattle.hq_witness.specs.Differences.{Agree, AreFound, TellApart};
 ghost use Rattle.hq_witness.specs.Traces.{IsRecording};
 ghost use Rattle.hq_witness.specs.Witness.{IsOver};
 
@@ -34,6 +34,9 @@ fn difference_of(job: &Job, good: &Recording, bad: &Recording) -> Option<Differe
     ensures good { IfSome result (λ _. IsOver (plan job.now) (state_of (plan job.now) good.now.state)) }
     ensures bad { IfSome result (λ _. IsOver (plan job.now) (state_of (plan job.now) bad.now.state)) }
     ensures apart { IfSome result (TellApart good.now.trace bad.now.trace) }
+    ensures none { IfNone result
+        (IsOver (plan job.now) (state_of (plan job.now) good.now.state)
+        → IsOver (plan job.now) (state_of (plan job.now) bad.now.state) → Agree good.now.trace bad.now.trace) }
 {
     if !good.is_over(job) || !bad.is_over(job) {
         return None;
@@ -45,7 +48,10 @@ fn difference_of(job: &Job, good: &Recording, bad: &Recording) -> Option<Differe
 fn compare(job: &Job, good: Recording, bad: Recording) -> Option<Found>
     requires good { IsRecording (plan job.now) good }
     requires bad { IsRecording (plan job.now) bad }
-    ensures { IfSome result (AreFound (plan job.now)) }
+    ensures found { IfSome result (AreFound (plan job.now)) }
+    ensures none { IfNone result
+        (IsOver (plan job.now) (state_of (plan job.now) good.state)
+        → IsOver (plan job.now) (state_of (plan job.now) bad.state) → Agree good.trace bad.trace) }
 {
     match difference_of(job, &good, &bad) {
         Some(difference) => Some(Found {

@@ -1,7 +1,8 @@
 //! Where two traces differ.
 
-ghost use Rattle.std.specs.Prelude.{◌≡◌, ◌≢◌, IfSome};
-ghost use Rattle.hq_witness.specs.Differences.{Has, TellApart};
+ghost use Rattle.std.specs.Prelude.{◌↔◌, IsTrue, MatchOption};
+ghost use Rattle.hq_witness.specs.declared.trace.Sighting.{Sighting as Sight};
+ghost use Rattle.hq_witness.specs.Differences.{Agree, AreOther, Has, SameReads, TellApart};
 
 use crate::origin::Origin;
 use crate::place::Place;
@@ -15,18 +16,22 @@ pub struct Difference {
     pub bad: Origin,
 }
 
+/// Whether one read is of the same entry by the same packet as another, and had another origin.
+fn is_other(sighting: Sighting, other: Sighting) -> bool
+    ensures { IsTrue result ↔ AreOther sighting other }
+{
+    other.packet == sighting.packet
+        && other.entry == sighting.entry
+        && other.origin != sighting.origin
+}
+
 /// A read of the same entry by the same packet that had another origin.
 fn other_sighting(reads: &[Sighting], sighting: Sighting) -> Option<Sighting>
-    ensures has { IfSome result (λ other. Has reads.now other) }
-    ensures packet { IfSome result (λ other. other.packet ≡ sighting.packet) }
-    ensures entry { IfSome result (λ other. other.entry ≡ sighting.entry) }
-    ensures origin { IfSome result (λ other. sighting.origin ≢ other.origin) }
+    ensures { MatchOption result ((other : Sight) → Has reads.now other → ¬ AreOther sighting other)
+        (λ other. Has reads.now other × AreOther sighting other) }
 {
     for other in reads {
-        if other.packet == sighting.packet
-            && other.entry == sighting.entry
-            && other.origin != sighting.origin
-        {
+        if is_other(sighting, *other) {
             return Some(*other);
         }
     }
@@ -35,7 +40,7 @@ fn other_sighting(reads: &[Sighting], sighting: Sighting) -> Option<Sighting>
 
 /// A read that has one origin in the one trace and another in the other.
 fn read_difference(good: &Trace, bad: &Trace) -> Option<Difference>
-    ensures { IfSome result (TellApart good.now bad.now) }
+    ensures { MatchOption result (SameReads good.now bad.now) (TellApart good.now bad.now) }
 {
     for sighting in good.reads.as_slice() {
         if let Some(other) = other_sighting(&bad.reads, *sighting) {
@@ -54,7 +59,7 @@ fn read_difference(good: &Trace, bad: &Trace) -> Option<Difference>
 
 /// Where two traces of one byte differ: in a read, or in what memory has.
 pub fn apart(good: &Trace, bad: &Trace) -> Option<Difference>
-    ensures { IfSome result (TellApart good.now bad.now) }
+    ensures { MatchOption result (Agree good.now bad.now) (TellApart good.now bad.now) }
 {
     if let Some(found) = read_difference(good, bad) {
         return Some(found);

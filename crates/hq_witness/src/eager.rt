@@ -1,9 +1,12 @@
 //! Packets taken from their entry to their completion, every byte seen at once by all.
 
-ghost use Rattle.std.specs.Prelude.{IfOk, OnOk};
+ghost use Rattle.std.specs.Prelude.{◌≡◌, ◌≢◌, ◌↔◌, IfOk, IsTrue, OnOk, false};
 ghost use Rattle.hq_job.specs.Plan.{plan};
+ghost use Rattle.hq_machine.specs.View.{Enabled};
+ghost use Rattle.hq_model.specs.Machine.Event.{Enter};
 ghost use Rattle.hq_model.specs.Machine.{IsByte};
-ghost use Rattle.hq_witness.specs.Traces.{IsRecording};
+ghost use Rattle.hq_model.specs.Order as order;
+ghost use Rattle.hq_witness.specs.Traces.{EndsWith, IsRecording};
 
 use crate::packets::{agent_of, agent_total, packet_total, queue_total, written};
 use crate::recording::{Recording, let_go};
@@ -72,7 +75,10 @@ impl Recording {
     /// Lets a packet enter, where it can, and answers whether it could.
     pub fn enter(&mut self, job: &Job, packet: u32) -> Result<bool, AllocError>
         requires { IsRecording (plan job.now) self.old }
-        ensures { OnOk result (IsRecording (plan job.now) self.new) }
+        ensures recording { OnOk result (IsRecording (plan job.now) self.new) }
+        ensures entered { IfOk result (λ yes. IsTrue yes → EndsWith self.new.journal (Event.Enter packet)) }
+        ensures refused { IfOk result
+            (λ yes. yes ≡ false → ¬ Enabled (plan job.now) self.new.state (Enter packet)) }
     {
         self.observe(job, packet)?;
         self.take(job, Event::Enter { packet })
@@ -219,7 +225,9 @@ impl Recording {
 }
 
 /// Whether a packet is neither the other nor before it.
-fn is_apart(before: &Before, packet: u32, number: u16) -> bool {
+fn is_apart(before: &Before, packet: u32, number: u16) -> bool
+    ensures { IsTrue result ↔ ((packet ≢ number) × ¬ order.Before before.now packet number) }
+{
     packet != number as u32 && !before.holds(packet as usize, number as usize)
 }
 

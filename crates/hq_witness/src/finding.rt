@@ -1,11 +1,13 @@
 //! The search for a witness.
 
-ghost use Rattle.std.specs.Prelude.{◌≡◌, ◌<◌, IfErr, IfOk, IfSome, length};
+ghost use Rattle.std.specs.Prelude.{◌≡◌, ◌↔◌, ◌⊎◌, ◌<◌, IfErr, IfOk, IfSome, IsTrue, MatchOption, length};
 ghost use Rattle.hq_audit.specs.declared.fault.AuditNo.TheVariants.{Conflict};
-ghost use Rattle.hq_audit.specs.Refused.{IsRefused};
+ghost use Rattle.hq_audit.specs.Refused.{IsRefused, IsUnshown, ShownOneWay};
 ghost use Rattle.hq_job.specs.Plan.{plan};
-ghost use Rattle.hq_model.specs.Fence.{Ordered};
+ghost use Rattle.hq_model.specs.Fence.{Conflicts, Ordered};
+ghost use Rattle.hq_model.specs.Fence.Conflict.{ReadWrite, WriteRead};
 ghost use Rattle.hq_witness.specs.Differences.{AreFound};
+ghost use Rattle.hq_witness.specs.Targets.{unshown_of};
 ghost use Rattle.hq_witness.specs.Witness.{IsNo, IsOrderedOrMemory, IsWitness};
 
 use crate::attempt::{Found, attempt};
@@ -99,6 +101,8 @@ fn show_pair(
 fn meet_in_a_read(known: Known, a: usize, b: usize) -> bool
     requires a_is { a < length known.before.now.packets }
     requires b_is { b < length known.before.now.packets }
+    ensures { IsTrue result
+        ↔ (Conflicts known.entry.before.now WriteRead a b ⊎ Conflicts known.entry.before.now ReadWrite a b) }
 {
     let kinds = known.before.job().kinds(a, b);
     kinds.wr || kinds.rw
@@ -108,6 +112,8 @@ fn meet_in_a_read(known: Known, a: usize, b: usize) -> bool
 fn target_of(known: Known, a: usize, b: usize) -> Option<Target>
     requires a_is { a < length known.before.now.packets }
     requires b_is { b < length known.before.now.packets }
+    ensures { MatchOption result (ShownOneWay known.entry.before.now a b)
+        (λ target. IsUnshown known.entry.before.now a b (unshown_of target)) }
 {
     match direct(known.before, a, b) {
         Ok(_directed) => None,

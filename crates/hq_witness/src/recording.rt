@@ -1,11 +1,14 @@
 //! A run that is being made, step by step.
 
-ghost use Rattle.std.specs.Prelude.{◌≡◌, IfOk, IsTrue, OnOk, is_some};
+ghost use Rattle.std.specs.Prelude.{◌≡◌, ◌↔◌, ◌<◌, ◌≤◌, ◌++◌, ◌∷◌, [], IfOk, IfSome, IsTrue, OnOk, false, is_some};
 ghost use Rattle.hq_job.specs.Plan.{plan};
 ghost use Rattle.hq_machine.specs.Events.{single_of};
-ghost use Rattle.hq_machine.specs.View.{state_of};
+ghost use Rattle.hq_machine.specs.View.{Enabled, MayEnter, state_of};
 ghost use Rattle.hq_model.specs.Machine.{IsByte};
-ghost use Rattle.hq_witness.specs.Traces.{IsRecording};
+ghost use Rattle.hq_model.specs.Origins.{Origins, agent_origin};
+ghost use Rattle.hq_witness.specs.declared.origin.Origin.TheVariants.{Start};
+ghost use Rattle.hq_witness.specs.Origins.{named};
+ghost use Rattle.hq_witness.specs.Traces.{IsRecording, TellsCopies};
 ghost use Rattle.hq_witness.specs.Witness.{IsOver};
 
 use crate::origin::Origin;
@@ -55,10 +58,14 @@ impl Recording {
         })
     }
 
-    /// Takes a step, where it is enabled, and answers whether it was.
+    /// Takes a single step, where it is enabled, and answers whether it was.
     pub fn take(&mut self, job: &Job, event: Event) -> Result<bool, AllocError>
         requires { IsRecording (plan job.now) self.old }
-        ensures { OnOk result (IsRecording (plan job.now) self.new) }
+        ensures recording { OnOk result (IsRecording (plan job.now) self.new) }
+        ensures taken { IfOk result (λ yes. IsTrue yes → self.new.journal ≡ self.old.journal ++ event ∷ []) }
+        ensures kept { IfOk result (λ yes. yes ≡ false → self.new ≡ self.old) }
+        ensures refused { IfOk result
+            (λ yes. yes ≡ false → IfSome (single_of event) (λ e. ¬ Enabled (plan job.now) self.old.state e)) }
     {
         if !is_single(event) {
             return Ok(false);
@@ -76,18 +83,25 @@ impl Recording {
     /// Whether the packet may enter.
     pub fn can_enter(&self, job: &Job, packet: u32) -> bool
         requires { IsRecording (plan job.now) self.now }
+        ensures { IsTrue result ↔ MayEnter (plan job.now) (state_of (plan job.now) self.now.state) packet }
     {
         self.state.may_enter(job, packet as usize)
     }
 
     /// The origin of what memory has of the byte.
-    pub fn memory_origin(&self) -> Origin {
+    pub fn memory_origin(&self) -> Origin
+        ensures { result ≡ self.now.trace.memory }
+    {
         self.trace.memory
     }
 
     /// The origin of what an agent sees of it, the start where there is no such agent.
     pub fn agent_origin(&self, job: &Job, agent: u32) -> Origin
         requires { IsRecording (plan job.now) self.now }
+        ensures seen { agent < (plan job.now).agents → (o : Origins)
+            → TellsCopies (plan job.now) o self.now.trace
+            → agent_origin (state_of (plan job.now) self.now.state) o agent self.now.trace.byte ≡ named result }
+        ensures none { (plan job.now).agents ≤ agent → result ≡ Start }
     {
         let agent = agent as usize;
         job.valid();
@@ -101,7 +115,7 @@ impl Recording {
     /// Whether every packet is complete and no work is left.
     pub fn is_over(&self, job: &Job) -> bool
         requires { IsRecording (plan job.now) self.now }
-        ensures { IsTrue result → IsOver (plan job.now) (state_of (plan job.now) self.now.state) }
+        ensures { IsTrue result ↔ IsOver (plan job.now) (state_of (plan job.now) self.now.state) }
     {
         let count = self.state.packets();
         if !self.state.all_complete(0..count) {

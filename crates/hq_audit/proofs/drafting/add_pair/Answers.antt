@@ -1,17 +1,10 @@
 use Rattle.hq_audit.specs.Paired.{pairs_of}
-use Rattle.hq_audit.specs.Refused.{IsUnshown}
 use Rattle.hq_audit.proofs.Pairing.{one_of}
-use Rattle.hq_audit.proofs.Turning.{one_way, refused_on, memory_on}
+use Rattle.hq_audit.proofs.Turning.{one_way}
 use Rattle.hq_audit.proofs.drafting.add_pair.Goals as goal
 
 pub returns-clause-has : goal.returns-clause-has
-returns-clause-has c = one_of c.args.before.now c.args.a c.args.b c.in_ok-direction.direction (pairs_of c.add_shown.new.pairs) c.in_ok-direction.ensures c.in_ok-add_shown.ensures.has
+returns-clause-has c = one_of c.args.before.now c.args.a c.args.b c.in-Some.direction (pairs_of c.add_directed.new.pairs) c.in-Some.ensures c.in_ok-add_directed.ensures.has
 
 pub returns-clause-shown : goal.returns-clause-shown
-returns-clause-shown c = one_way c.args.before.now c.args.a c.args.b c.in_ok-direction.direction c.in_ok-direction.ensures
-
-pub returns-in_err-direction-clause-refused : goal.returns-in_err-direction-clause-refused
-returns-in_err-direction-clause-refused c = refused_on (IsUnshown c.args.before.now c.args.a c.args.b) c.from_residual.result c.in_err-direction.field-0.0 c.from_residual.ensures.1 c.in_err-direction.ensures
-
-pub returns-in_err-add_shown-clause-refused : goal.returns-in_err-add_shown-clause-refused
-returns-in_err-add_shown-clause-refused c = memory_on (IsUnshown c.args.before.now c.args.a c.args.b) c.from_residual-in_err-add_shown.result c.from_residual-in_err-add_shown.ensures.1
+returns-clause-shown c = one_way c.args.before.now c.args.a c.args.b c.in-Some.direction c.in-Some.ensures

@@ -9,6 +9,7 @@ invariant-others l = record {
   below : l.b ≤ length l.before.packets;
   len : length l.row.items ≡ words_for (length l.before.packets);
   conflict : (b : ℕ) → IsTrue (has l.row.items b) → (b < l.a) × HaveConflict l.before b l.a;
+  all : (x : ℕ) → x < l.b → x < l.a → HaveConflict l.before x l.a → IsTrue (has l.row.items x);
 }
 
 abbrev pub decreases-others : goal.decreases-others

@@ -8,4 +8,5 @@ invariant-loop-a l = record {
   len : length l.rows.items ≡ l.a;
   width : (r : ℕ) → r < l.a → length (row l.rows.items r) ≡ words_for (length l.before.packets);
   conflict : (b a : ℕ) → Marks l.rows.items b a → (b < a) × HaveConflict l.before b a;
+  all : (b a : ℕ) → a < l.a → b < a → HaveConflict l.before b a → Marks l.rows.items b a;
 }

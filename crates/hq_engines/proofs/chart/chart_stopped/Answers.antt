@@ -4,7 +4,7 @@ use Rattle.hq_job.specs.Plan.{plan}
 use Rattle.hq_timeline.specs.Replays.{NotReplayed}
 use Rattle.hq_engines.specs.Chart.ChartReport.{no_memory}
 use Rattle.hq_engines.specs.Reports.{Said, with_feed}
-use Rattle.hq_engines.specs.declared.status.Status.TheVariants.{RunRefused, Memory}
+use Rattle.hq_engines.specs.declared.status.Status.TheVariants.{DrawnUntil, Memory}
 use Rattle.hq_engines.proofs.Charts.{stopped_reported}
 use Rattle.hq_engines.proofs.chart.chart_stopped.Goals as goal
 
@@ -12,7 +12,7 @@ pub returns-in-NotEnabled : goal.returns-in-NotEnabled
 returns-in-NotEnabled g c =
     stopped_reported c.args.job.now c.args.copies c.args.journal.now c.in-NotEnabled.place _ _ c.say_chart.result
     (subst (NotReplayed (plan c.args.job.now) c.args.journal.now) c.in-NotEnabled.is c.requires)
-    (subst (λ events. Said (g.W.Write.contents c.args.writer.now) (g.W.Write.contents c.say_chart.new.writer) (chart_text c.args.job.now c.args.copies events true) RunRefused c.say_chart.result
+    (subst (λ events. Said (g.W.Write.contents c.args.writer.now) (g.W.Write.contents c.say_chart.new.writer) (chart_text c.args.job.now c.args.copies events true) (DrawnUntil c.in-NotEnabled.place) c.say_chart.result
     ⊎ Said (g.W.Write.contents c.args.writer.now) (g.W.Write.contents c.say_chart.new.writer) (with_feed (codes "out of memory")) Memory c.say_chart.result)
     (c.split_at.ensures.front ∙ ap (take c.in-NotEnabled.place) c.events.ensures) c.say_chart.ensures)
 

@@ -4,7 +4,7 @@ use Rattle.hq_engines.proofs.Explanations.{explain_broken, explain_reported, exp
 use Rattle.hq_engines.proofs.explain.explain_found.Goals as goal
 
 pub returns-in-Ok : goal.returns-in-Ok
-returns-in-Ok g c = explain_reported c.args.job.now c.args.which _ _ c.in-Ok.found c.status_of.result c.in-Ok.ensures.explained c.status_of.ensures
+returns-in-Ok g c = explain_reported c.args.job.now c.args.which _ _ c.in-Ok.found _ c.in-Ok.ensures.explained refl
 
 pub returns-in-Err-Memory : goal.returns-in-Err-Memory
 returns-in-Err-Memory g c = explain_broken c.args.job.now c.args.which _ _ _ c.say_memory.result (c.in-Err-Memory.ensures.broken c.in-Err-Memory.field-0-is) c.say_memory.ensures

@@ -6,7 +6,7 @@ use Rattle.hq_engines.proofs.Graphs.{graph_reported, graph_unwritten}
 use Rattle.hq_engines.proofs.graph.graph_found.Goals as goal
 
 pub returns-in-Ok : goal.returns-in-Ok
-returns-in-Ok g c = graph_reported c.args.job.now _ _ c.in-Ok.found c.status_of.result c.in-Ok.ensures.drawn c.in-Ok.ensures.found c.status_of.ensures
+returns-in-Ok g c = graph_reported c.args.job.now _ _ c.in-Ok.found _ c.in-Ok.ensures.drawn c.in-Ok.ensures.found refl
 
 pub returns-in-Err-Memory : goal.returns-in-Err-Memory
 returns-in-Err-Memory g c = (

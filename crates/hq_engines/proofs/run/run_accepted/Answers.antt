@@ -1,4 +1,5 @@
 use Rattle.std.proofs.Common.{refl}
+use Rattle.hq_engines.specs.Run.{failure_of}
 use Rattle.hq_engines.proofs.Runs.{fault_reported, ran_of}
 use Rattle.hq_engines.proofs.run.run_accepted.Goals as goal
 
@@ -8,4 +9,4 @@ returns-in-Ok g c =
     c.in-Ok.ensures.whole c.in-Ok.ensures.one_by_one c.say_ran.ensures
 
 pub returns-in-Err : goal.returns-in-Err
-returns-in-Err g c = fault_reported c.args.accepted.now.job c.in-Err.fault _ _ _ _ c.say_fault.result refl c.say_fault.ensures
+returns-in-Err g c = fault_reported c.args.accepted.now.job (failure_of c.in-Err.fault) _ _ _ _ c.say_fault.result refl c.say_fault.ensures

@@ -1,4 +1,4 @@
-use Rattle.std.proofs.Common.{◌≡◌, ◌∙◌, ap, codes, refl, subst, Err}
+use Rattle.std.proofs.Common.{◌∙◌, ap, codes, refl, subst, Err}
 use Rattle.std.specs.Io.KnownBytes.{Appends}
 use Rattle.hq_timeline.specs.Printed.{text_of}
 use Rattle.hq_engines.specs.Reports.{with_feed}

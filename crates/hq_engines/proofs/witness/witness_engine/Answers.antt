@@ -1,4 +1,4 @@
-use Rattle.std.proofs.Common.{◌≡◌, refl, subst, sym}
+use Rattle.std.proofs.Common.{refl, subst, sym}
 use Rattle.hq_job.specs.Plan.{plan}
 use Rattle.hq_witness.specs.Witness.{IsNo}
 use Rattle.hq_engines.specs.Run.{contents_in}

@@ -1,12 +1,11 @@
-use Rattle.std.proofs.Common.{◌↔◌, ◌⊎◌, IsTrue, sym, ◌∙◌, subst}
+use Rattle.std.proofs.Common.{IsTrue, arith}
 use Rattle.hq_order.specs.Bits.{has}
-use Rattle.hq_order.specs.Matrix.{row}
-use Rattle.hq_order.proofs.Rows.{gather_more, row_is}
-use Rattle.hq_order.proofs.Crossing.{OfRow}
+use Rattle.hq_order.proofs.Rows.{gather_more}
+use Rattle.hq_order.proofs.Crossing.{OfPlace, rows_done}
 use Rattle.hq_order.proofs.columns.turn_rows.Goals as goal
 
-pub loop-r-preserved : goal.loop-r-preserved
-loop-r-preserved c = λ x.
-    let is = c.deref.ensures.value ∙ sym (row_is c.args.rows.now c.loop-r.r c.index-rows-r.result c.loop-r-test.true c.index-rows-r.is) in
-    gather_more (IsTrue (has c.args.table.now x)) (IsTrue (has c.loop-r.table x)) (IsTrue (has c.turn_row.new.table x)) (λ r. OfRow (row c.args.rows.now r) r x) c.loop-r.r (c.loop-r.invariant x)
-    (subst (λ words. IsTrue (has c.turn_row.new.table x) ↔ (IsTrue (has c.loop-r.table x) ⊎ OfRow words c.loop-r.r x)) is (c.turn_row.ensures x))
+pub loop-place-preserved : goal.loop-place-preserved
+loop-place-preserved c = λ x. gather_more (IsTrue (has c.args.table.now x)) (IsTrue (has c.loop-place.table x)) (IsTrue (has c.turn_place.new.table x)) (λ place. OfPlace c.args.rows.now place x) c.loop-place.place (c.loop-place.invariant x) (c.turn_place.ensures x)
+
+pub returns : goal.returns
+returns c = λ x. rows_done (IsTrue (has c.args.table.now x)) (IsTrue (has c.loop-place.table x)) c.args.rows.now x c.loop-place.place (omega arith) (omega arith) (c.loop-place.invariant x)

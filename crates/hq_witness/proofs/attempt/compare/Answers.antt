@@ -2,8 +2,8 @@ use Rattle.hq_job.specs.Plan.{plan}
 use Rattle.hq_witness.proofs.Runs.{told_place, whole_run}
 use Rattle.hq_witness.proofs.attempt.compare.Goals as goal
 
-pub returns-in-Some : goal.returns-in-Some
-returns-in-Some c =
+pub returns-in-Some-clause-found : goal.returns-in-Some-clause-found
+returns-in-Some-clause-found c =
     let job = plan c.args.job.now in
     let d = c.in-Some.difference in
     let told = c.in-Some.ensures.apart in

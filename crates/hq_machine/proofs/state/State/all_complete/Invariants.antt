@@ -1,7 +1,8 @@
-use Rattle.std.proofs.Common.{◌≡◌, ℕ, ◌<◌, ◌≤◌}
+use Rattle.std.proofs.Common.{◌≡◌, ℕ, ◌<◌, ◌≤◌, ◌↔◌, ◌⊎◌, IsTrue}
 use Rattle.hq_model.specs.Machine as machine
 use Rattle.hq_model.specs.View.{phases_of}
 use Rattle.hq_machine.proofs.state.State.all_complete.Given as goal
 
 abbrev pub invariant-loop-packet : goal.invariant-loop-packet
-invariant-loop-packet l = (first : machine.Phase) (e : ℕ) → l.fn.numbers.start ≤ e → e < l.packet → phases_of first l.self.phases e ≡ machine.Phase.Complete
+invariant-loop-packet l = ((first : machine.Phase) → IsTrue l.all ↔ ((e : ℕ) → l.fn.numbers.start ≤ e → e < l.packet → phases_of first l.self.phases e ≡ machine.Phase.Complete))
+    × ((l.packet ≡ l.fn.numbers.start) ⊎ (l.packet ≤ l.fn.numbers.end))
