@@ -38,10 +38,13 @@ lines_words k (line ∷ lines) = line_words k line ∷ lines_words (k + 1) lines
 abbrev pub fences_words : model.Fences → List (List ℕ)
 fences_words (ForReadWrite line) = codes "rw" ∷ decimal line ∷ []
 fences_words (ForWriteWrite x from on) = codes "ww" ∷ decimal x ∷ citation_word from ∷ decimal on ∷ []
-fences_words (ForWriteRead x y from between to) = codes "wr" ∷ decimal x ∷ decimal y ∷ citation_word from ∷ decimal between ∷ citation_word to ∷ []
-fences_words (ForWriteWriteChained x x2 from link on) = codes "wwc" ∷ decimal x ∷ decimal x2 ∷ citation_word from ∷ decimal link ∷ decimal on ∷ []
+fences_words (ForWriteRead x y from between to) = codes "wr" ∷ decimal x ∷ decimal y ∷ citation_word from
+    ∷ decimal between ∷ citation_word to ∷ []
+fences_words (ForWriteWriteChained x x2 from link on) = codes "wwc" ∷ decimal x ∷ decimal x2 ∷ citation_word from
+    ∷ decimal link ∷ decimal on ∷ []
 fences_words (ForWriteReadChained x x2 y2 y from link between link2 to) =
-    codes "wrc" ∷ decimal x ∷ decimal x2 ∷ decimal y2 ∷ decimal y ∷ citation_word from ∷ citation_word link ∷ decimal between ∷ citation_word link2 ∷ citation_word to ∷ []
+    codes "wrc" ∷ decimal x ∷ decimal x2 ∷ decimal y2 ∷ decimal y ∷ citation_word from ∷ citation_word link
+        ∷ decimal between ∷ citation_word link2 ∷ citation_word to ∷ []
 
 -- `pair P R` and the fences
 abbrev pub pair_words : model.Pair → List (List ℕ)

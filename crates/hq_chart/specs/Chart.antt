@@ -61,19 +61,23 @@ phase_word phase.Active = codes "a"
 
 -- the outline of a bar
 abbrev pub outline_text : ℕ → ℕ → ℕ → List ℕ
-outline_text from to y = codes "M" ++ decimal from ++ codes "0 " ++ decimal y ++ codes "m0-5v10H" ++ decimal to ++ codes "0v-10z"
+outline_text from to y = codes "M" ++ decimal from ++ codes "0 " ++ decimal y ++ codes "m0-5v10H" ++ decimal to
+    ++ codes "0v-10z"
 
 abbrev pub bar_text : Phase → Outline → ShownPacket → List ℕ
 bar_text which outline shown =
-    codes "<path class='" ++ phase_word which ++ codes "' d='" ++ outline_text outline.from outline.to outline.y ++ codes "'><title>" ++ told shown ++ codes "</title></path>\n"
+    codes "<path class='" ++ phase_word which ++ codes "' d='" ++ outline_text outline.from outline.to outline.y
+        ++ codes "'><title>" ++ told shown ++ codes "</title></path>\n"
 
 abbrev pub mark_text : Mark → ℕ → ℕ → List ℕ
 mark_text mark.Sees at y = codes "<path d='M" ++ decimal at ++ codes "0 " ++ decimal y ++ codes "v-7'/>\n"
-mark_text mark.Reads at y = codes "<circle class='r' cx='" ++ decimal at ++ codes "0' cy='" ++ decimal y ++ codes "' r='3'/>\n"
+mark_text mark.Reads at y = codes "<circle class='r' cx='" ++ decimal at ++ codes "0' cy='" ++ decimal y
+    ++ codes "' r='3'/>\n"
 mark_text mark.Stores at y = codes "<circle cx='" ++ decimal at ++ codes "0' cy='" ++ decimal y ++ codes "' r='3'/>\n"
 mark_text mark.Fills at y = codes "<path d='M" ++ decimal at ++ codes "0 " ++ decimal y ++ codes "m-3-3l3 6 3-6'/>\n"
 mark_text mark.Pushes at y = codes "<path d='M" ++ decimal at ++ codes "0 " ++ decimal y ++ codes "m-3 3l3-6 3 6'/>\n"
-mark_text mark.Drops at y = codes "<path d='M" ++ decimal at ++ codes "0 " ++ decimal y ++ codes "m-3-3l6 6m-6 0l6-6'/>\n"
+mark_text mark.Drops at y = codes "<path d='M" ++ decimal at ++ codes "0 " ++ decimal y
+    ++ codes "m-3-3l6 6m-6 0l6-6'/>\n"
 
 abbrev pub submission_text : ℕ → List ℕ
 submission_text at = codes "<path d='M" ++ decimal at ++ codes "0 50v8'/>\n"
@@ -109,7 +113,8 @@ host_text rings = if rings then codes "<text x='-156' y='58'>host</text>\n" else
 
 -- a width in events, and a height
 abbrev pub size_text : ℕ → ℕ → List ℕ
-size_text width height = codes "width='" ++ decimal width ++ codes "0' height='" ++ decimal height ++ codes "' viewBox='-160 0 " ++ decimal width ++ codes "0 " ++ decimal height ++ codes "'"
+size_text width height = codes "width='" ++ decimal width ++ codes "0' height='" ++ decimal height
+    ++ codes "' viewBox='-160 0 " ++ decimal width ++ codes "0 " ++ decimal height ++ codes "'"
 
 abbrev pub legend_text : Bool → List ℕ
 legend_text rings = styles ++ host_text rings
@@ -123,7 +128,8 @@ head_text job copies events = opening_text (events + 40) (height_of job copies) 
 
 -- a row's number and its queue's name
 abbrev pub label_of : Spot → List ℕ
-label_of spot = codes "<text x='-156' y='" ++ decimal spot.y ++ codes "' dy='4'>" ++ decimal spot.shown.number ++ codes " " ++ spot.shown.queue ++ codes "<title>" ++ told spot.shown ++ codes "</title></text>\n"
+label_of spot = codes "<text x='-156' y='" ++ decimal spot.y ++ codes "' dy='4'>" ++ decimal spot.shown.number
+    ++ codes " " ++ spot.shown.queue ++ codes "<title>" ++ told spot.shown ++ codes "</title></text>\n"
 
 abbrev pub label_there : Option Spot → List ℕ
 label_there None = []
@@ -169,10 +175,12 @@ left_text job rows end = open_text job rows end (length rows)
 
 -- that the event of this place isn't enabled: a line down the picture, and a note
 abbrev pub end_line : ℕ → ℕ → List ℕ
-end_line place height = codes "<path class='x' d='M" ++ decimal place ++ codes "0 46V" ++ decimal height ++ codes "'/>\n"
+end_line place height = codes "<path class='x' d='M" ++ decimal place ++ codes "0 46V" ++ decimal height
+    ++ codes "'/>\n"
 
 abbrev pub end_note : ℕ → List ℕ
-end_note place = codes "<text x='" ++ decimal place ++ codes "0' y='58' dx='4'>event " ++ decimal place ++ codes " is not enabled</text>\n"
+end_note place = codes "<text x='" ++ decimal place ++ codes "0' y='58' dx='4'>event " ++ decimal place
+    ++ codes " is not enabled</text>\n"
 
 abbrev pub refusal_text : JobValue → Bool → ℕ → List ℕ
 refusal_text job copies place = end_line place (height_of job copies) ++ end_note place

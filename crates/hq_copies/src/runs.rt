@@ -183,7 +183,8 @@ impl Runs {
         write_at(&mut self.bytes, first, bytes);
     }
 
-    // Gives the numbers from start on these bytes; so many bytes stand before theirs, and before those of the numbers behind.
+    // Gives the numbers from start on these bytes; so many bytes stand before theirs, and before those of the numbers
+    // behind.
     fn splice(
         &mut self,
         start: u32,

@@ -28,7 +28,8 @@ stuck_text packets = with_feed (codes "stuck" ++ numbers_text packets)
 
 -- a conflict that isn't ordered
 abbrev pub conflict_text : ℕ → ℕ → Kind → Why → List ℕ
-conflict_text p r kind why = codes "conflict " ++ decimal p ++ codes " " ++ decimal r ++ codes " " ++ kind_name kind ++ codes " " ++ why_name why
+conflict_text p r kind why = codes "conflict " ++ decimal p ++ codes " " ++ decimal r ++ codes " " ++ kind_name kind
+    ++ codes " " ++ why_name why
 
 -- Packets that can never complete: they are all there are, and in no run does one of them.
 pub record NeverComplete (job : Job) (packets : List ℕ) : Type 0 where

@@ -88,7 +88,8 @@ pub data CertReport (job : JobValue) (cert : List ℕ) : List ℕ → Status →
 abbrev pub SaysNoCertificate : CertFault → Option (List ℕ) → Option (List ℕ) → Status → Type 0
 SaysNoCertificate fault old new answered =
     ((fault.reason ≡ reason.Memory) × Said old new (with_feed (codes "out of memory")) Memory answered)
-    ⊎ ((¬ (fault.reason ≡ reason.Memory)) × Said old new (with_feed (cert_refusal fault)) (CertificateRefused fault) answered)
+    ⊎ ((¬ (fault.reason ≡ reason.Memory))
+        × Said old new (with_feed (cert_refusal fault)) (CertificateRefused fault) answered)
 
 abbrev pub NoSaid : CheckNo → Option (List ℕ) → Option (List ℕ) → Status → Type 0
 NoSaid refusal old new answered = Said old new (with_feed (refusal_text refusal)) (refusal_status refusal) answered

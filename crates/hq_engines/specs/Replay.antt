@@ -62,9 +62,11 @@ pub data TimelineReport (Report : List Event → List ℕ → Status → Type 0)
 abbrev pub SaysNoTimeline : TimeFault → Option (List ℕ) → Option (List ℕ) → Status → Type 0
 SaysNoTimeline fault old new answered =
     ((fault.reason ≡ reason.Memory) × Said old new (with_feed (codes "out of memory")) Memory answered)
-    ⊎ ((¬ (fault.reason ≡ reason.Memory)) × Said old new (with_feed (time_refusal fault)) (TimelineRefused fault) answered)
+    ⊎ ((¬ (fault.reason ≡ reason.Memory))
+        × Said old new (with_feed (time_refusal fault)) (TimelineRefused fault) answered)
 
 -- why the events don't all happen is written
 abbrev pub StopSaid : ReplayFault → Option (List ℕ) → Option (List ℕ) → Status → Type 0
-StopSaid (fault.NotEnabled place) old new answered = Said old new (with_feed (event_refusal place)) (NotEnabled place) answered
+StopSaid (fault.NotEnabled place) old new answered =
+    Said old new (with_feed (event_refusal place)) (NotEnabled place) answered
 StopSaid fault.Memory old new answered = Said old new (with_feed (codes "out of memory")) Memory answered

@@ -91,9 +91,12 @@ bytes_text len None = decimal len ++ codes " bytes"
 bytes_text len (Some spot) = spot_text spot ++ codes ", " ++ decimal len ++ codes " bytes"
 
 abbrev pub kind_words : Kind → ℕ → ℕ → List ℕ
-kind_words kind.WriteRead p r = codes "  packet " ++ decimal p ++ codes " writes what packet " ++ decimal r ++ codes " reads: "
-kind_words kind.WriteWrite p r = codes "  packet " ++ decimal p ++ codes " writes what packet " ++ decimal r ++ codes " writes: "
-kind_words kind.ReadWrite p r = codes "  packet " ++ decimal p ++ codes " reads what packet " ++ decimal r ++ codes " writes: "
+kind_words kind.WriteRead p r = codes "  packet " ++ decimal p ++ codes " writes what packet " ++ decimal r
+    ++ codes " reads: "
+kind_words kind.WriteWrite p r = codes "  packet " ++ decimal p ++ codes " writes what packet " ++ decimal r
+    ++ codes " writes: "
+kind_words kind.ReadWrite p r = codes "  packet " ++ decimal p ++ codes " reads what packet " ++ decimal r
+    ++ codes " writes: "
 
 abbrev pub kind_text : Kind → ℕ → ℕ → Option Run → List ℕ
 kind_text kind p r None = []
@@ -121,7 +124,8 @@ acquire_text (acquire.Chained y2 y) = two_acquires y2 y
 -- by which fences a kind of conflict is ordered
 abbrev pub how_text : How → List ℕ
 how_text how.Unsaid = []
-how_text (how.Acquired release acquire) = codes "    ordered by " ++ release_text release ++ codes " and " ++ acquire_text acquire ++ codes "\n"
+how_text (how.Acquired release acquire) = codes "    ordered by " ++ release_text release ++ codes " and "
+    ++ acquire_text acquire ++ codes "\n"
 how_text (how.Released release) = codes "    ordered by " ++ release_text release ++ codes "\n"
 how_text how.NoFence = codes "    needs no fence\n"
 
@@ -155,7 +159,8 @@ no_hows = record { wr = how.Unsaid; ww = how.Unsaid; rw = how.Unsaid }
 -- ---- the order
 
 abbrev pub path_title : ℕ → ℕ → List ℕ
-path_title p r = codes "  packet " ++ decimal p ++ codes " is complete before packet " ++ decimal r ++ codes " is active:\n"
+path_title p r = codes "  packet " ++ decimal p ++ codes " is complete before packet " ++ decimal r
+    ++ codes " is active:\n"
 
 abbrev pub rule_text : Rule → Option (List ℕ) → List ℕ
 rule_text (rule.Bit j) name = codes "barrier bit of packet " ++ decimal j
@@ -175,11 +180,14 @@ step_line job p r by = step_text p r by (named_by job by)
 
 -- why a conflict of p with r isn't ordered
 abbrev pub why_line : Why → ℕ → ℕ → List ℕ
-why_line why.Unordered p r = codes "  nothing puts one before the other of packets " ++ decimal p ++ codes " and " ++ decimal r ++ codes "\n"
+why_line why.Unordered p r = codes "  nothing puts one before the other of packets " ++ decimal p ++ codes " and "
+    ++ decimal r ++ codes "\n"
 why_line why.NotReleased p r =
-    codes "  nothing between them releases what packet " ++ decimal p ++ codes " wrote, as far as packet " ++ decimal r ++ codes "\n"
+    codes "  nothing between them releases what packet " ++ decimal p ++ codes " wrote, as far as packet " ++ decimal r
+        ++ codes "\n"
 why_line why.NotAcquired p r =
-    codes "  packet " ++ decimal p ++ codes " is released, but nothing after that acquires for packet " ++ decimal r ++ codes "\n"
+    codes "  packet " ++ decimal p ++ codes " is released, but nothing after that acquires for packet " ++ decimal r
+        ++ codes "\n"
 
 -- ---- what would order them
 

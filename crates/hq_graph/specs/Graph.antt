@@ -112,18 +112,21 @@ abbrev pub bit_text : Bool → List ℕ
 bit_text bit = if bit then codes "bit " else []
 
 abbrev pub head_text : Head → List ℕ
-head_text head = bit_text head.barrier ++ codes "acquire " ++ scope_word head.acquire ++ codes " release " ++ scope_word head.release
+head_text head = bit_text head.barrier ++ codes "acquire " ++ scope_word head.acquire ++ codes " release "
+    ++ scope_word head.release
 
 -- a packet's number, kind and work, and below them its barrier bit and fences; what parts the lines are the two
 -- characters \ and n
 abbrev pub label_text : Node → List ℕ
-label_text node = decimal node.number ++ codes " " ++ kind_word node.packet ++ work_text node.work ++ codes "\\n" ++ head_text (head_of node.packet)
+label_text node = decimal node.number ++ codes " " ++ kind_word node.packet ++ work_text node.work ++ codes "\\n"
+    ++ head_text (head_of node.packet)
 
 abbrev pub color_text : Bool → List ℕ
 color_text stuck = if stuck then codes " color=red fontcolor=red" else []
 
 abbrev pub node_text : Node → Bool → List ℕ
-node_text node stuck = codes "p" ++ decimal node.number ++ codes " [label=\"" ++ label_text node ++ codes "\"" ++ color_text stuck ++ codes "];\n"
+node_text node stuck = codes "p" ++ decimal node.number ++ codes " [label=\"" ++ label_text node ++ codes "\""
+    ++ color_text stuck ++ codes "];\n"
 
 -- the node of a packet of this queue
 abbrev pub node_in : JobValue → ℕ → ℕ → Placed → Option Node
@@ -152,10 +155,12 @@ abbrev pub agent_name : JobValue → ℕ → Option (List ℕ)
 agent_name job agent = slice_get job.agents agent
 
 abbrev pub queue_label : Queue → Option (List ℕ) → List ℕ
-queue_label queue agent = codes "queue " ++ queue.name ++ codes " agent " ++ name_of agent ++ codes " slots " ++ decimal queue.size
+queue_label queue agent = codes "queue " ++ queue.name ++ codes " agent " ++ name_of agent ++ codes " slots "
+    ++ decimal queue.size
 
 abbrev pub cluster_text : ℕ → Queue → Option (List ℕ) → List ℕ
-cluster_text number queue agent = codes "subgraph cluster_" ++ decimal number ++ codes " {\nlabel=\"" ++ queue_label queue agent ++ codes "\";\n"
+cluster_text number queue agent = codes "subgraph cluster_" ++ decimal number ++ codes " {\nlabel=\""
+    ++ queue_label queue agent ++ codes "\";\n"
 
 abbrev pub queue_text : JobValue → ℕ → Queue → List ℕ
 queue_text job number queue = cluster_text number queue (agent_name job queue.agent)
@@ -225,7 +230,8 @@ kinds_text shown = wr_text shown.wr ++ ww_text (is_some shown.wr) shown.ww ++ rw
     (is_some shown.wr || is_some shown.ww) shown.rw
 
 abbrev pub ordered_text : Directed → List ℕ
-ordered_text d = arrow_text d.first d.second ++ codes "color=gray penwidth=0.5 fontcolor=gray label=\"" ++ kinds_text d.shown ++ codes "\"];\n"
+ordered_text d = arrow_text d.first d.second ++ codes "color=gray penwidth=0.5 fontcolor=gray label=\""
+    ++ kinds_text d.shown ++ codes "\"];\n"
 
 abbrev pub fault_text : NotShown → List ℕ
 fault_text fault = kind_name fault.kind ++ codes " " ++ why_name fault.why
@@ -253,7 +259,8 @@ awaited_text p (wait.Signal s) name = name_of name
 awaited_text p wait.Turn name = codes "the submission of packet " ++ decimal p
 
 abbrev pub wait_line : ℕ → ℕ → Wait → Option (List ℕ) → List ℕ
-wait_line p r by name = arrow_text r p ++ codes "color=red style=dotted fontcolor=red label=\"waits for " ++ awaited_text p by name ++ codes "\"];\n"
+wait_line p r by name = arrow_text r p ++ codes "color=red style=dotted fontcolor=red label=\"waits for "
+    ++ awaited_text p by name ++ codes "\"];\n"
 
 abbrev pub wait_text : JobValue → ℕ → ℕ → Wait → List ℕ
 wait_text job p r by = wait_line p r by (awaited_by job by)
