@@ -1,17 +1,10 @@
--- The fences of pair lines, with what they cite.
+-- The fences of pair lines go on holding as lines are added.
 use Rattle.std.proofs.Common.{ℕ, List, length, Option, Some, None}
-use Rattle.hq_cert.specs.declared.citation.Citation.{Citation}
-use Rattle.hq_cert.specs.View.{cited}
-use Rattle.hq_packet.specs.declared.packet.Scope.{Scope}
-use Rattle.hq_model.specs.Job.{Job, packet}
-use Rattle.hq_model.specs.Certificate.{Line, Says, Cites, Fences, FencesHold, ReleaseHolds, AcquireHolds}
+use Rattle.hq_model.specs.Job.{Job}
+use Rattle.hq_model.specs.Certificate.{Line, Fences, FencesHold, ReleaseHolds, AcquireHolds}
 use Rattle.hq_model.specs.Certificate.Fences.{ForReadWrite, ForWriteWrite, ForWriteRead, ForWriteWriteChained, ForWriteReadChained}
-use Rattle.hq_audit.specs.declared.lines.Lines.{Lines}
-use Rattle.hq_audit.specs.Kept.{lines_of, Grown, Goes, Numbered}
-use Rattle.hq_audit.specs.Paired.{Cited}
+use Rattle.hq_audit.specs.Kept.{Grown}
 use Rattle.hq_audit.proofs.Growing.{says_more, cites_more}
-
--- ---- as lines are added
 
 pub release_more : (job : Job) (old new : List Line) (p r x x2 : ℕ) (link : Option ℕ) → Grown old new → ReleaseHolds job old p r x x2 link → ReleaseHolds job new p r x x2 link
 release_more job old new p r x x2 None g h = h
@@ -42,11 +35,3 @@ fences_more job old new p r (ForWriteReadChained x x2 y2 y from link between lin
   says_more old new (length old) (length new) between x2 y2 g g.len h.4,
   cites_more old new (length old) (length new) to y r g g.len h.5,
 )
-
--- ---- what is cited
-
-pub says_later : (job : Job) (a b d : Lines) (p r k : ℕ) → Numbered job a b p r k → Goes job b d → Says (lines_of d) (length (lines_of d)) k p r
-says_later job a b d p r k n g = says_more (lines_of b) (lines_of d) (length (lines_of b)) (length (lines_of d)) k p r g.grown g.grown.len n.says
-
-pub cites_later : (job : Job) (a b d : Lines) (p x : ℕ) (c : Citation) → Cited job a b p x c → Goes job b d → Cites (lines_of d) (length (lines_of d)) (cited c) p x
-cites_later job a b d p x c n g = cites_more (lines_of b) (lines_of d) (length (lines_of b)) (length (lines_of d)) (cited c) p x g.grown g.grown.len n.cites

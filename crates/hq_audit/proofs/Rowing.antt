@@ -16,7 +16,7 @@ use Rattle.hq_model.specs.Certificate.{FencesHold}
 use Rattle.hq_audit.specs.Paired.{pairs_of, Fenced, Longer, HasPairIn, HasAll, AllHold, RowPaired, RowsPaired, AllPaired, SameHeads}
 use Rattle.hq_cert.specs.declared.certificate.Fences.{Fences}
 use Rattle.hq_audit.specs.declared.lines.Lines.{Lines}
-use Rattle.hq_audit.specs.Kept.{lines_of, Kept}
+use Rattle.hq_audit.specs.Kept.{lines_of, Goes, Kept}
 use Rattle.hq_audit.specs.Rowed.{RowsBetween, DraftsRows, IsWhole, CitesRows, AllMayCite, Holds}
 use Rattle.hq_audit.proofs.Adding.{goes_same}
 use Rattle.hq_audit.proofs.Pairing.{one_later}
@@ -41,9 +41,13 @@ cited_rows job lines a b v w d h s = record {
   ];
 }
 
--- what is known by lines that stay as they are
+-- what is known by the lines that others came to
+pub fenced_by : (job : Job) (old new : Lines) (kind : Conflict) (p r : ℕ) (fences : Fences) → Goes job old new → Holds job (lines_of new) kind p r fences → Fenced job old new kind p r fences
+fenced_by job old new kind p r fences goes h = record { goes = goes; hold = h.hold; kind_is = h.kind_is }
+
+-- and by lines that stay as they are
 pub fenced : (job : Job) (l : Lines) (kind : Conflict) (p r : ℕ) (fences : Fences) → Kept job l → Holds job (lines_of l) kind p r fences → Fenced job l l kind p r fences
-fenced job l kind p r fences kept h = record { goes = goes_same job l kept; hold = h.hold; kind_is = h.kind_is }
+fenced job l kind p r fences kept h = fenced_by job l l kind p r fences (goes_same job l kept) h
 
 -- ---- one part behind another
 

@@ -2,7 +2,6 @@
 use Rattle.std.specs.Prelude.{◌≡◌, ℕ, ◌<◌, ◌⊎◌, List, [], length, map, Some, slice_get, slice_index_or, All}
 use Rattle.hq_cert.specs.declared.certificate.Pair.{Pair}
 use Rattle.hq_cert.specs.declared.certificate.Fences.{Fences}
-use Rattle.hq_cert.specs.declared.citation.Citation.{Citation}
 use Rattle.hq_cert.specs.View.{cited, fences_of, pair_of}
 use Rattle.std.specs.Global.{Vec}
 use Rattle.hq_model.specs.Job.{Job, IsPacket}
@@ -12,28 +11,23 @@ use Rattle.hq_model.specs.Certificate.{Cites, FencesHold, ReleaseHolds, AcquireH
 use Rattle.hq_fence.specs.Judgement.{end_of, first_of}
 use Rattle.hq_fence.specs.declared.shown.Release.{Release}
 use Rattle.hq_fence.specs.declared.shown.Acquire.{Acquire}
-use Rattle.hq_audit.specs.declared.pairs.CitedRelease.{CitedRelease}
-use Rattle.hq_audit.specs.declared.pairs.CitedAcquire.{CitedAcquire}
+use Rattle.hq_audit.specs.declared.citing.CitedRelease.{CitedRelease}
+use Rattle.hq_audit.specs.declared.citing.CitedAcquire.{CitedAcquire}
 use Rattle.hq_audit.specs.declared.lines.Lines.{Lines}
 use Rattle.hq_audit.specs.Kept.{lines_of, Goes}
 
--- the citation says that p is x, or before it
-pub record Cited (job : Job) (old new : Lines) (p x : ℕ) (citation : Citation) : Type 0 where
-  pub goes : Goes job old new
-  pub cites : Cites (lines_of new) (length (lines_of new)) (cited citation) p x
-
 -- a release of p, with what it cites: that p is x or before it, and that x is x2 or before it
-pub record ReleaseCited (job : Job) (old new : Lines) (p r : ℕ) (release : Release) (c : CitedRelease) : Type 0 where
-  pub goes : Goes job old new
-  pub from : Cites (lines_of new) (length (lines_of new)) (cited c.from) p c.x
-  pub holds : ReleaseHolds job (lines_of new) p r c.x c.x2 (cited c.link)
+pub record ReleaseCited (job : Job) (lines : List model.Line) (p r : ℕ) (release : Release)
+    (c : CitedRelease) : Type 0 where
+  pub from : Cites lines (length lines) (cited c.from) p c.x
+  pub holds : ReleaseHolds job lines p r c.x c.x2 (cited c.link)
   pub last : c.x2 ≡ end_of release
 
 -- an acquire for r, with what it cites: that y2 is y or before it, and that y is r or before it
-pub record AcquireCited (job : Job) (old new : Lines) (p r : ℕ) (acquire : Acquire) (c : CitedAcquire) : Type 0 where
-  pub goes : Goes job old new
-  pub to : Cites (lines_of new) (length (lines_of new)) (cited c.to) c.y r
-  pub holds : AcquireHolds job (lines_of new) p r c.y2 c.y (cited c.link2)
+pub record AcquireCited (job : Job) (lines : List model.Line) (p r : ℕ) (acquire : Acquire)
+    (c : CitedAcquire) : Type 0 where
+  pub to : Cites lines (length lines) (cited c.to) c.y r
+  pub holds : AcquireHolds job lines p r c.y2 c.y (cited c.link2)
   pub first : c.y2 ≡ first_of acquire
 
 -- the fences order a conflict of this kind of p with r

@@ -11,7 +11,7 @@ use Rattle.hq_model.specs.Certificate as model
 use Rattle.hq_model.specs.Certificate.{FencesHold, kind_of}
 use Rattle.hq_audit.specs.Drafted.{AllDrafted}
 use Rattle.hq_audit.specs.Paired.{pairs_of, HasAll, AllHold}
-use Rattle.hq_audit.specs.declared.spreading.Drafts.{Drafts}
+use Rattle.hq_audit.specs.declared.drafting.Drafts.{Drafts}
 
 -- there is a pair line for each kind of conflict, in one direction, of all pairs whose lesser packet is one from a
 -- up to b

@@ -7,17 +7,16 @@ ghost use Rattle.hq_model.specs.Fence.{Ordered};
 ghost use Rattle.hq_model.specs.Order.{OrderList};
 ghost use Rattle.hq_audit.specs.Drafted.{AllDrafted};
 ghost use Rattle.hq_audit.specs.Paired.{AllPaired, pairs_of};
-ghost use Rattle.hq_audit.specs.Refused.{IsRefused};
+ghost use Rattle.hq_audit.specs.Parts.{AreParts};
+ghost use Rattle.hq_audit.specs.Refused.{IsRefused, AllRefused};
 ghost use Rattle.hq_audit.specs.declared.fault.AuditNo.TheVariants.{Memory};
 
-use crate::drafting::draft_all;
+use crate::drafting::{Drafts, draft_all};
 use crate::fault::AuditNo;
-use crate::gathering::add_all;
-use crate::lines::Lines;
-use crate::needs::Needs;
+use crate::gathering::lines_for;
 use crate::pairs::cite_all;
 use crate::parts::Parts;
-use hq_cert::{Certificate, Pair};
+use hq_cert::Certificate;
 use hq_job::Job;
 use hq_order::{Before, schedule};
 use std::alloc::{AllocError, Global};
@@ -33,24 +32,40 @@ pub fn widened(alloc: Global, numbers: &[u16]) -> Result<Vec<u32>, AllocError>
     Ok(wide)
 }
 
-/// The certificate of an order list, of these needs and of pair lines in which no line has its number yet.
-pub fn certified(
+/// The certificate of an order list and of the pair lines of all packets.
+fn certified(
     alloc: Global,
     before: &Before,
     order: &[u16],
-    needs: Needs,
-    mut pairs: Vec<Pair>,
+    drafts: Drafts,
 ) -> Result<Certificate, AllocError>
     requires order { OrderList before.now order.now }
-    requires drafted { AllDrafted before.now (pairs_of pairs) }
-    requires paired { AllPaired before.now (pairs_of pairs) }
+    requires drafted { AllDrafted before.now (pairs_of drafts.pairs) }
+    requires paired { AllPaired before.now (pairs_of drafts.pairs) }
     ensures { IfOk result (λ c. CertHolds before.now c) }
 {
-    let mut lines = Lines::new(alloc, before, needs)?;
-    add_all(&mut lines, alloc, before)?;
+    let mut pairs = drafts.pairs;
+    let mut lines = lines_for(alloc, before, drafts.needs)?;
     cite_all(&mut pairs, &mut lines, alloc, before)?;
     let order = widened(alloc, order)?;
     Ok(Certificate::new(order, lines.into_lines(), pairs))
+}
+
+/// The certificate of an order list, or the first two packets that aren't ordered.
+pub fn certified_alone(
+    alloc: Global,
+    before: &Before,
+    parts: &Parts,
+    order: &[u16],
+) -> Result<Certificate, AuditNo>
+    requires order { OrderList before.now order.now }
+    requires parts { AreParts before.now parts.now }
+    ensures holds { IfOk result (λ c. CertHolds before.now c) }
+    ensures refused { IfErr result (AllRefused before.now) }
+{
+    let drafts = draft_all(alloc, before, parts)?;
+    let certificate = certified(alloc, before, order, drafts)?;
+    Ok(certificate)
 }
 
 /// The certificate of a job's order.
@@ -69,8 +84,6 @@ pub fn audit(alloc: Global, job: &Job) -> Result<Certificate, AuditNo>
     let order = schedule(alloc, job)?;
     let before = Before::build(alloc, job)?;
     let parts = Parts::build(alloc, job)?;
-    let mut needs = Needs::new(alloc, &before)?;
-    let pairs = draft_all(&mut needs, alloc, &before, &parts)?;
-    let certificate = certified(alloc, &before, &order, needs, pairs)?;
+    let certificate = certified_alone(alloc, &before, &parts, &order)?;
     Ok(certificate)
 }

@@ -1,4 +1,4 @@
-//! The lines that pair lines cite, where all of these are there.
+//! The lines that pair lines cite, where these are there.
 
 ghost use Rattle.std.specs.Prelude.{◌≡◌, ℕ, IfSome, IsTrue, length, map};
 ghost use Rattle.hq_model.specs.Order as order;
@@ -13,14 +13,31 @@ ghost use Rattle.hq_audit.specs.Drafted.{acquire_by, release_by, Drafted, AllDra
 ghost use Rattle.hq_audit.specs.Paired.{pairs_of, ReleaseCited, AcquireCited, AllHold, SameHeads};
 ghost use Rattle.hq_audit.specs.Rowed.{Holds, AllMayDraft, AllMayCite, CitesPart, CitesRows, DraftsRows};
 
+use crate::drafting::Drafts;
 use crate::lines::Lines;
-use crate::pairs::{CitedAcquire, CitedRelease};
-use crate::spreading::Drafts;
 use hq_cert::{Citation, Fences, Pair, ReadChain, WriteChain};
 use hq_order::Before;
 use std::alloc::Global;
 use std::thread;
 use std::thread::Threads;
+
+/// A release, and what is cited for it: that p is x or before it, and that x is x2 or before it.
+#[derive(Clone, Copy, Debug)]
+pub struct CitedRelease {
+    pub x: u32,
+    pub x2: u32,
+    pub from: Citation,
+    pub link: Citation,
+}
+
+/// An acquire, and what is cited for it: that y2 is y or before it, and that y is r or before it.
+#[derive(Clone, Copy, Debug)]
+pub struct CitedAcquire {
+    pub y2: u32,
+    pub y: u32,
+    pub link2: Citation,
+    pub to: Citation,
+}
 
 /// The citation that p is x, or before it, if its line is there.
 fn cite(lines: &Lines, p: usize, x: usize) -> Option<Citation>
@@ -83,9 +100,8 @@ fn cite_release(
     x2: u32,
     link: Citation,
 ) -> Option<CitedRelease>
-    requires kept { Kept before.now lines.now }
     requires release { IsRelease before.now p r (release_by x x2 (cited link)) }
-    ensures { IfSome result (λ c. ReleaseCited before.now lines.now lines.now p r (release_by x x2 (cited link)) c) }
+    ensures { IfSome result (λ c. ReleaseCited before.now (lines_of lines.now) p r (release_by x x2 (cited link)) c) }
 {
     let from = cite(lines, p, x as usize)?;
     match link.number() {
@@ -117,9 +133,8 @@ fn cite_acquire(
     y: u32,
     link2: Citation,
 ) -> Option<CitedAcquire>
-    requires kept { Kept before.now lines.now }
     requires acquire { IsAcquire before.now p r (acquire_by y2 y (cited link2)) }
-    ensures { IfSome result (λ c. AcquireCited before.now lines.now lines.now p r (acquire_by y2 y (cited link2)) c) }
+    ensures { IfSome result (λ c. AcquireCited before.now (lines_of lines.now) p r (acquire_by y2 y (cited link2)) c) }
 {
     let to = cite(lines, y as usize, r)?;
     match link2.number() {
@@ -150,7 +165,6 @@ fn read_chain(
     r: usize,
     chain: ReadChain,
 ) -> Option<Fences>
-    requires kept { Kept before.now lines.now }
     requires system { model.need before.now p r ≡ scope.System }
     requires fences { ReleasesToAcquire before.now p r
         (release_by chain.x chain.x2 (cited chain.link), acquire_by chain.y2 chain.y (cited chain.link2)) }
@@ -202,7 +216,8 @@ fn read_write(lines: &Lines, before: &Before, p: usize, r: usize) -> Option<Fenc
 }
 
 /// The fences with the numbers of the lines that they cite, if these are there.
-fn cite_fences(
+#[inline(always)]
+pub fn cite_fences(
     lines: &Lines,
     alloc: Global,
     before: &Before,
@@ -210,7 +225,6 @@ fn cite_fences(
     r: usize,
     fences: &Fences,
 ) -> Option<Fences>
-    requires kept { Kept before.now lines.now }
     requires drafted { Drafted before.now p r (fences_of fences.now) }
     ensures { IfSome result (Holds before.now (lines_of lines.now) (kind_of (fences_of fences.now)) p r) }
 {

@@ -1,6 +1,6 @@
 //! Pair lines as pairs are judged, before the lines that they cite have numbers.
 
-ghost use Rattle.std.specs.Prelude.{◌≡◌, ◌<◌, ◌⊎◌, IfErr, IfOk, OnOk, IfSome, IsSome, IsTrue, length};
+ghost use Rattle.std.specs.Prelude.{◌≡◌, ◌<◌, ◌⊎◌, [], IfErr, IfOk, OnOk, IfSome, IsSome, IsTrue, length};
 ghost use Rattle.hq_job.specs.Conflicts.{HasConflicts};
 ghost use Rattle.hq_model.specs.Job.{IsPacket};
 ghost use Rattle.hq_model.specs.Order as order;
@@ -134,242 +134,236 @@ fn write_write(
     }
 }
 
-/// Adds a pair line of p with r.
-#[inline(always)]
-fn push_pair(
-    pairs: &mut Vec<Pair>,
-    before: &Before,
-    p: usize,
-    r: usize,
-    fences: Fences,
-) -> Result<(), AllocError>
-    requires drafted { AllDrafted before.now (pairs_of pairs.old) }
-    requires p_is { IsPacket before.now p }
-    requires r_is { IsPacket before.now r }
-    requires fences { Drafted before.now p r (fences_of fences) }
-    ensures goes { OnOk result (DraftsGo before.now (pairs_of pairs.old) (pairs_of pairs.new)) }
-    ensures has { OnOk result (HasPairIn (pairs_of pairs.new) p r (kind_of (fences_of fences))) }
-{
-    before.job().valid();
-    let pair = Pair {
-        p: p as u32,
-        r: r as u32,
-        fences,
-    };
-    pairs.push(pair)?;
-    Ok(())
+/// The pair lines of some packets, in which no line has its number yet, and which lines they need.
+#[derive(Drop)]
+pub struct Drafts {
+    alloc: Global,
+    pub pairs: Vec<Pair>,
+    pub needs: Needs,
 }
 
-/// Adds the pair line of a write that r reads, if there is one.
-#[inline(always)]
-fn add_write_read(
-    pairs: &mut Vec<Pair>,
-    alloc: Global,
-    before: &Before,
-    p: usize,
-    r: usize,
-    fences: Option<(Release, Acquire)>,
-) -> Result<(), AllocError>
-    requires drafted { AllDrafted before.now (pairs_of pairs.old) }
-    requires p_is { IsPacket before.now p }
-    requires r_is { IsPacket before.now r }
-    requires fences { IfSome fences (ReleasesToAcquire before.now p r) }
-    ensures goes { OnOk result (DraftsGo before.now (pairs_of pairs.old) (pairs_of pairs.new)) }
-    ensures has { OnOk result (IsSome fences → HasPairIn (pairs_of pairs.new) p r model.Conflict.WriteRead) }
-{
-    if let Some(fences) = fences {
-        let fences = write_read(alloc, before, p, r, fences)?;
-        push_pair(pairs, before, p, r, fences)?;
+impl Drafts {
+    /// No pair lines.
+    pub fn new(alloc: Global, before: &Before) -> Result<Drafts, AllocError>
+        ensures { IfOk result (λ drafts. drafts.pairs.items ≡ []) }
+    {
+        let needs = Needs::new(alloc, before)?;
+        Ok(Drafts {
+            alloc,
+            pairs: Vec::new(alloc),
+            needs,
+        })
     }
-    Ok(())
-}
 
-/// Adds the pair line of two writes, if there is one.
-#[inline(always)]
-fn add_write_write(
-    pairs: &mut Vec<Pair>,
-    alloc: Global,
-    before: &Before,
-    p: usize,
-    r: usize,
-    release: Option<Release>,
-) -> Result<(), AllocError>
-    requires drafted { AllDrafted before.now (pairs_of pairs.old) }
-    requires p_is { IsPacket before.now p }
-    requires r_is { IsPacket before.now r }
-    requires release { IfSome release (ReleasesBefore before.now p r) }
-    ensures goes { OnOk result (DraftsGo before.now (pairs_of pairs.old) (pairs_of pairs.new)) }
-    ensures has { OnOk result (IsSome release → HasPairIn (pairs_of pairs.new) p r model.Conflict.WriteWrite) }
-{
-    if let Some(release) = release {
-        let fences = write_write(alloc, before, p, r, release)?;
-        push_pair(pairs, before, p, r, fences)?;
+    /// Adds a pair line of p with r.
+    #[inline(always)]
+    fn push(
+        &mut self,
+        before: &Before,
+        p: usize,
+        r: usize,
+        fences: Fences,
+    ) -> Result<(), AllocError>
+        requires drafted { AllDrafted before.now (pairs_of self.old.pairs) }
+        requires p_is { IsPacket before.now p }
+        requires r_is { IsPacket before.now r }
+        requires fences { Drafted before.now p r (fences_of fences) }
+        ensures goes { OnOk result (DraftsGo before.now (pairs_of self.old.pairs) (pairs_of self.new.pairs)) }
+        ensures has { OnOk result (HasPairIn (pairs_of self.new.pairs) p r (kind_of (fences_of fences))) }
+    {
+        before.job().valid();
+        let pair = Pair {
+            p: p as u32,
+            r: r as u32,
+            fences,
+        };
+        self.pairs.push(pair)?;
+        Ok(())
     }
-    Ok(())
-}
 
-/// Adds the pair line of a read of what r writes, if there is one.
-#[inline(always)]
-fn add_read_write(
-    pairs: &mut Vec<Pair>,
-    before: &Before,
-    p: usize,
-    r: usize,
-    there: bool,
-) -> Result<(), AllocError>
-    requires drafted { AllDrafted before.now (pairs_of pairs.old) }
-    requires p_is { IsPacket before.now p }
-    requires r_is { IsPacket before.now r }
-    requires before { IsTrue there → order.Before before.now p r }
-    ensures goes { OnOk result (DraftsGo before.now (pairs_of pairs.old) (pairs_of pairs.new)) }
-    ensures has { OnOk result (IsTrue there → HasPairIn (pairs_of pairs.new) p r model.Conflict.ReadWrite) }
-{
-    if there {
-        push_pair(pairs, before, p, r, Fences::ReadWrite(LATER))?;
+    /// Adds the pair line of a write that r reads, if there is one.
+    #[inline(always)]
+    fn add_write_read(
+        &mut self,
+        before: &Before,
+        p: usize,
+        r: usize,
+        fences: Option<(Release, Acquire)>,
+    ) -> Result<(), AllocError>
+        requires drafted { AllDrafted before.now (pairs_of self.old.pairs) }
+        requires p_is { IsPacket before.now p }
+        requires r_is { IsPacket before.now r }
+        requires fences { IfSome fences (ReleasesToAcquire before.now p r) }
+        ensures goes { OnOk result (DraftsGo before.now (pairs_of self.old.pairs) (pairs_of self.new.pairs)) }
+        ensures has { OnOk result
+            (IsSome fences → HasPairIn (pairs_of self.new.pairs) p r model.Conflict.WriteRead) }
+    {
+        if let Some(fences) = fences {
+            let fences = write_read(self.alloc, before, p, r, fences)?;
+            self.push(before, p, r, fences)?;
+        }
+        Ok(())
     }
-    Ok(())
+
+    /// Adds the pair line of two writes, if there is one.
+    #[inline(always)]
+    fn add_write_write(
+        &mut self,
+        before: &Before,
+        p: usize,
+        r: usize,
+        release: Option<Release>,
+    ) -> Result<(), AllocError>
+        requires drafted { AllDrafted before.now (pairs_of self.old.pairs) }
+        requires p_is { IsPacket before.now p }
+        requires r_is { IsPacket before.now r }
+        requires release { IfSome release (ReleasesBefore before.now p r) }
+        ensures goes { OnOk result (DraftsGo before.now (pairs_of self.old.pairs) (pairs_of self.new.pairs)) }
+        ensures has { OnOk result
+            (IsSome release → HasPairIn (pairs_of self.new.pairs) p r model.Conflict.WriteWrite) }
+    {
+        if let Some(release) = release {
+            let fences = write_write(self.alloc, before, p, r, release)?;
+            self.push(before, p, r, fences)?;
+        }
+        Ok(())
+    }
+
+    /// Adds the pair line of a read of what r writes, if there is one.
+    #[inline(always)]
+    fn add_read_write(
+        &mut self,
+        before: &Before,
+        p: usize,
+        r: usize,
+        there: bool,
+    ) -> Result<(), AllocError>
+        requires drafted { AllDrafted before.now (pairs_of self.old.pairs) }
+        requires p_is { IsPacket before.now p }
+        requires r_is { IsPacket before.now r }
+        requires before { IsTrue there → order.Before before.now p r }
+        ensures goes { OnOk result (DraftsGo before.now (pairs_of self.old.pairs) (pairs_of self.new.pairs)) }
+        ensures has { OnOk result (IsTrue there → HasPairIn (pairs_of self.new.pairs) p r model.Conflict.ReadWrite) }
+    {
+        if there {
+            self.push(before, p, r, Fences::ReadWrite(LATER))?;
+        }
+        Ok(())
+    }
+
+    /// Adds the pair lines of p with r, p first.
+    #[inline(always)]
+    fn add_shown(
+        &mut self,
+        before: &Before,
+        p: usize,
+        r: usize,
+        shown: Shown,
+    ) -> Result<(), AllocError>
+        requires drafted { AllDrafted before.now (pairs_of self.old.pairs) }
+        requires p_is { IsPacket before.now p }
+        requires r_is { IsPacket before.now r }
+        requires shows { Shows before.now p r shown }
+        ensures goes { OnOk result (DraftsGo before.now (pairs_of self.old.pairs) (pairs_of self.new.pairs)) }
+        ensures has { OnOk result (HasAll before.now (pairs_of self.new.pairs) p r) }
+    {
+        self.add_write_read(before, p, r, shown.wr)?;
+        self.add_write_write(before, p, r, shown.ww)?;
+        self.add_read_write(before, p, r, shown.rw)?;
+        Ok(())
+    }
+
+    /// Adds the pair lines of two packets in their direction, and notes which lines these need.
+    #[inline(always)]
+    fn add_directed(&mut self, before: &Before, direction: Directed) -> Result<(), AllocError>
+        requires drafted { AllDrafted before.now (pairs_of self.old.pairs) }
+        requires p_is { IsPacket before.now direction.first }
+        requires r_is { IsPacket before.now direction.second }
+        requires shows { Shows before.now direction.first direction.second direction.shown }
+        ensures goes { OnOk result (DraftsGo before.now (pairs_of self.old.pairs) (pairs_of self.new.pairs)) }
+        ensures has { OnOk result (HasAll before.now (pairs_of self.new.pairs) direction.first direction.second) }
+    {
+        let (p, r) = (direction.first, direction.second);
+        need_shown(&mut self.needs, before, p, r, direction.shown);
+        self.add_shown(before, p, r, direction.shown)?;
+        Ok(())
+    }
+
+    /// Judges a and b, notes which lines their pair lines need, and adds these. `kinds` says how a conflicts with b.
+    fn add_judged(
+        &mut self,
+        before: &Before,
+        a: usize,
+        b: usize,
+        kinds: Kinds,
+    ) -> Result<(), AuditNo>
+        requires drafted { AllDrafted before.now (pairs_of self.old.pairs) }
+        requires a_is { IsPacket before.now a }
+        requires b_is { IsPacket before.now b }
+        requires kinds { HasConflicts before.now a b kinds }
+        ensures goes { OnOk result (DraftsGo before.now (pairs_of self.old.pairs) (pairs_of self.new.pairs)) }
+        ensures has { OnOk result
+            (HasAll before.now (pairs_of self.new.pairs) a b ⊎ HasAll before.now (pairs_of self.new.pairs) b a) }
+        ensures shown { OnOk result (ShownOneWay before.now a b) }
+        ensures refused { IfErr result (PairRefused before.now a b) }
+    {
+        let direction = direct_kinds(before, a, b, kinds)?;
+        self.add_directed(before, direction)?;
+        Ok(())
+    }
+
+    /// Does so, and at once where that costs little.
+    #[inline(always)]
+    fn add_pair(&mut self, before: &Before, a: usize, b: usize) -> Result<(), AuditNo>
+        requires drafted { AllDrafted before.now (pairs_of self.old.pairs) }
+        requires a_is { IsPacket before.now a }
+        requires b_is { IsPacket before.now b }
+        ensures goes { OnOk result (DraftsGo before.now (pairs_of self.old.pairs) (pairs_of self.new.pairs)) }
+        ensures has { OnOk result
+            (HasAll before.now (pairs_of self.new.pairs) a b ⊎ HasAll before.now (pairs_of self.new.pairs) b a) }
+        ensures shown { OnOk result (ShownOneWay before.now a b) }
+        ensures refused { IfErr result (PairRefused before.now a b) }
+    {
+        let kinds = before.job().kinds(a, b);
+        let Some(direction) = direct_at_once(before, a, b, kinds) else {
+            return self.add_judged(before, a, b, kinds);
+        };
+        self.add_directed(before, direction)?;
+        Ok(())
+    }
+
+    /// Adds the pair lines of a with the packets above it.
+    pub fn add_row(&mut self, before: &Before, parts: &Parts, a: usize) -> Result<(), AuditNo>
+        requires drafted { AllDrafted before.now (pairs_of self.old.pairs) }
+        requires parts { AreParts before.now parts.now }
+        requires a_is { IsPacket before.now a }
+        ensures goes { OnOk result (DraftsGo before.now (pairs_of self.old.pairs) (pairs_of self.new.pairs)) }
+        ensures paired { OnOk result
+            (RowPaired before.now (pairs_of self.new.pairs) a (length before.now.packets)) }
+        ensures shown { OnOk result (RowShown before.now a (length before.now.packets)) }
+        ensures refused { IfErr result (RowRefused before.now a) }
+    {
+        before.job().valid();
+        let row = parts.others(before, a);
+        let mut b = row.next(before, a + 1);
+        'others: while b < before.len() {
+            self.add_pair(before, a, b)?;
+            b = row.next(before, b + 1);
+        }
+        Ok(())
+    }
 }
 
-/// Adds the pair lines of p with r, p first.
-#[inline(always)]
-fn add_shown(
-    pairs: &mut Vec<Pair>,
-    alloc: Global,
-    before: &Before,
-    p: usize,
-    r: usize,
-    shown: Shown,
-) -> Result<(), AllocError>
-    requires drafted { AllDrafted before.now (pairs_of pairs.old) }
-    requires p_is { IsPacket before.now p }
-    requires r_is { IsPacket before.now r }
-    requires shows { Shows before.now p r shown }
-    ensures goes { OnOk result (DraftsGo before.now (pairs_of pairs.old) (pairs_of pairs.new)) }
-    ensures has { OnOk result (HasAll before.now (pairs_of pairs.new) p r) }
-{
-    add_write_read(pairs, alloc, before, p, r, shown.wr)?;
-    add_write_write(pairs, alloc, before, p, r, shown.ww)?;
-    add_read_write(pairs, before, p, r, shown.rw)?;
-    Ok(())
-}
-
-/// Adds the pair lines of two packets in their direction, and notes which lines these need.
-#[inline(always)]
-fn add_directed(
-    pairs: &mut Vec<Pair>,
-    needs: &mut Needs,
-    alloc: Global,
-    before: &Before,
-    direction: Directed,
-) -> Result<(), AllocError>
-    requires drafted { AllDrafted before.now (pairs_of pairs.old) }
-    requires p_is { IsPacket before.now direction.first }
-    requires r_is { IsPacket before.now direction.second }
-    requires shows { Shows before.now direction.first direction.second direction.shown }
-    ensures goes { OnOk result (DraftsGo before.now (pairs_of pairs.old) (pairs_of pairs.new)) }
-    ensures has { OnOk result (HasAll before.now (pairs_of pairs.new) direction.first direction.second) }
-{
-    let (p, r) = (direction.first, direction.second);
-    need_shown(needs, before, p, r, direction.shown);
-    add_shown(pairs, alloc, before, p, r, direction.shown)?;
-    Ok(())
-}
-
-/// Judges a and b, notes which lines their pair lines need, and adds these. `kinds` says how a conflicts with b.
-fn add_judged(
-    pairs: &mut Vec<Pair>,
-    needs: &mut Needs,
-    alloc: Global,
-    before: &Before,
-    a: usize,
-    b: usize,
-    kinds: Kinds,
-) -> Result<(), AuditNo>
-    requires drafted { AllDrafted before.now (pairs_of pairs.old) }
-    requires a_is { IsPacket before.now a }
-    requires b_is { IsPacket before.now b }
-    requires kinds { HasConflicts before.now a b kinds }
-    ensures goes { OnOk result (DraftsGo before.now (pairs_of pairs.old) (pairs_of pairs.new)) }
-    ensures has { OnOk result
-        (HasAll before.now (pairs_of pairs.new) a b ⊎ HasAll before.now (pairs_of pairs.new) b a) }
-    ensures shown { OnOk result (ShownOneWay before.now a b) }
-    ensures refused { IfErr result (PairRefused before.now a b) }
-{
-    let direction = direct_kinds(before, a, b, kinds)?;
-    add_directed(pairs, needs, alloc, before, direction)?;
-    Ok(())
-}
-
-/// Does so, and at once where that costs little.
-#[inline(always)]
-fn add_pair(
-    pairs: &mut Vec<Pair>,
-    needs: &mut Needs,
-    alloc: Global,
-    before: &Before,
-    a: usize,
-    b: usize,
-) -> Result<(), AuditNo>
-    requires drafted { AllDrafted before.now (pairs_of pairs.old) }
-    requires a_is { IsPacket before.now a }
-    requires b_is { IsPacket before.now b }
-    ensures goes { OnOk result (DraftsGo before.now (pairs_of pairs.old) (pairs_of pairs.new)) }
-    ensures has { OnOk result
-        (HasAll before.now (pairs_of pairs.new) a b ⊎ HasAll before.now (pairs_of pairs.new) b a) }
-    ensures shown { OnOk result (ShownOneWay before.now a b) }
-    ensures refused { IfErr result (PairRefused before.now a b) }
-{
-    let kinds = before.job().kinds(a, b);
-    let Some(direction) = direct_at_once(before, a, b, kinds) else {
-        return add_judged(pairs, needs, alloc, before, a, b, kinds);
-    };
-    add_directed(pairs, needs, alloc, before, direction)?;
-    Ok(())
-}
-
-/// Adds the pair lines of a with the packets above it.
-pub fn add_row(
-    pairs: &mut Vec<Pair>,
-    needs: &mut Needs,
-    alloc: Global,
-    before: &Before,
-    parts: &Parts,
-    a: usize,
-) -> Result<(), AuditNo>
-    requires drafted { AllDrafted before.now (pairs_of pairs.old) }
+/// The pair lines of all packets. The error is the first two packets that aren't ordered, or that there is no memory.
+pub fn draft_all(alloc: Global, before: &Before, parts: &Parts) -> Result<Drafts, AuditNo>
     requires parts { AreParts before.now parts.now }
-    requires a_is { IsPacket before.now a }
-    ensures goes { OnOk result (DraftsGo before.now (pairs_of pairs.old) (pairs_of pairs.new)) }
-    ensures paired { OnOk result (RowPaired before.now (pairs_of pairs.new) a (length before.now.packets)) }
-    ensures shown { OnOk result (RowShown before.now a (length before.now.packets)) }
-    ensures refused { IfErr result (RowRefused before.now a) }
-{
-    before.job().valid();
-    let row = parts.others(before, a);
-    let mut b = row.next(before, a + 1);
-    'others: while b < before.len() {
-        add_pair(pairs, needs, alloc, before, a, b)?;
-        b = row.next(before, b + 1);
-    }
-    Ok(())
-}
-
-/// The pair lines of all packets, in which no line has its number yet; notes which lines they need. The error is
-/// the first two packets that aren't ordered, or that there is no memory.
-pub fn draft_all(
-    needs: &mut Needs,
-    alloc: Global,
-    before: &Before,
-    parts: &Parts,
-) -> Result<Vec<Pair>, AuditNo>
-    requires parts { AreParts before.now parts.now }
-    ensures drafted { IfOk result (λ pairs. AllDrafted before.now (pairs_of pairs)) }
-    ensures paired { IfOk result (λ pairs. AllPaired before.now (pairs_of pairs)) }
+    ensures drafted { IfOk result (λ drafts. AllDrafted before.now (pairs_of drafts.pairs)) }
+    ensures paired { IfOk result (λ drafts. AllPaired before.now (pairs_of drafts.pairs)) }
     ensures refused { IfErr result (AllRefused before.now) }
 {
-    let mut pairs = Vec::new(alloc);
+    let mut drafts = Drafts::new(alloc, before)?;
     for a in 0..before.len() {
-        add_row(&mut pairs, needs, alloc, before, parts, a)?;
+        drafts.add_row(before, parts, a)?;
     }
-    Ok(pairs)
+    Ok(drafts)
 }

@@ -1,9 +1,10 @@
 //! A line for each that is needed.
 
-ghost use Rattle.std.specs.Prelude.{OnOk, ◌+◌, ◌<◌, ◌≤◌};
+ghost use Rattle.std.specs.Prelude.{IfOk, OnOk, ◌+◌, ◌<◌, ◌≤◌};
 ghost use Rattle.hq_audit.specs.Kept.{Kept};
 
 use crate::lines::Lines;
+use crate::needs::Needs;
 use hq_order::Before;
 use hq_order::bits::{WORDS, lowest, without};
 use std::alloc::{AllocError, Global};
@@ -87,7 +88,7 @@ fn add_round(
 }
 
 /// Adds each line that is needed, by round, then by the first packet, then by the second.
-pub fn add_all(lines: &mut Lines, alloc: Global, before: &Before) -> Result<(), AllocError>
+fn add_all(lines: &mut Lines, alloc: Global, before: &Before) -> Result<(), AllocError>
     requires { Kept before.now lines.old }
     ensures { OnOk result (Kept before.now lines.new) }
 {
@@ -95,4 +96,13 @@ pub fn add_all(lines: &mut Lines, alloc: Global, before: &Before) -> Result<(), 
         add_round(lines, alloc, before, round)?;
     }
     Ok(())
+}
+
+/// The lines that are needed, and no others.
+pub fn lines_for(alloc: Global, before: &Before, needs: Needs) -> Result<Lines, AllocError>
+    ensures { IfOk result (Kept before.now) }
+{
+    let mut lines = Lines::new(alloc, before, needs)?;
+    add_all(&mut lines, alloc, before)?;
+    Ok(lines)
 }

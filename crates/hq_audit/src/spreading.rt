@@ -4,11 +4,10 @@ ghost use Rattle.std.specs.Prelude.{◌+◌, ◌*◌, ◌<◌, IfOk, IfSome, len
 ghost use Rattle.hq_audit.specs.Parts.{AreParts};
 ghost use Rattle.hq_audit.specs.Rowed.{DraftsRows, MayDraft, AllMayDraft, IsWhole};
 
-use crate::drafting::add_row;
+use crate::drafting::Drafts;
 use crate::fault::AuditNo;
 use crate::needs::Needs;
 use crate::parts::Parts;
-use hq_cert::Pair;
 use hq_order::Before;
 use std::alloc::Global;
 use std::thread;
@@ -16,13 +15,6 @@ use std::thread::Threads;
 
 /// How many packets a part has, whose pairs with those above them are judged in a thread of their own.
 const ROWS: usize = 64;
-
-/// The pair lines of a part, in which no line has its number yet, and which lines they need.
-#[derive(Drop)]
-pub struct Drafts {
-    pub pairs: Vec<Pair>,
-    needs: Needs,
-}
 
 /// The pair lines of the packets from one on, up to another, with those above them. The error says nothing of
 /// packets ahead of these.
@@ -36,12 +28,11 @@ fn draft_rows(
     requires { AreParts before.now parts.now }
     ensures { IfOk result (λ d. DraftsRows before.now from to d.pairs) }
 {
-    let mut needs = Needs::new(alloc, before)?;
-    let mut pairs = Vec::new(alloc);
+    let mut drafts = Drafts::new(alloc, before)?;
     for a in from..to.min(before.len()) {
-        add_row(&mut pairs, &mut needs, alloc, before, parts, a)?;
+        drafts.add_row(before, parts, a)?;
     }
-    Ok(Drafts { pairs, needs })
+    Ok(drafts)
 }
 
 /// Those of part k, unless a pair of it isn't ordered, or there is no memory.

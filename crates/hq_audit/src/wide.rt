@@ -12,11 +12,10 @@ ghost use Rattle.hq_audit.specs.Refused.{IsRefused, AllRefused};
 ghost use Rattle.hq_audit.specs.Rowed.{AllMayCite};
 ghost use Rattle.hq_audit.specs.declared.fault.AuditNo.TheVariants.{Memory};
 
-use crate::auditing::{certified, widened};
+use crate::auditing::{certified_alone, widened};
 use crate::citing::cite_wide;
-use crate::drafting::draft_all;
 use crate::fault::AuditNo;
-use crate::gathering::add_all;
+use crate::gathering::lines_for;
 use crate::lines::Lines;
 use crate::needs::Needs;
 use crate::parts::Parts;
@@ -79,16 +78,7 @@ fn joined(
     }
 }
 
-/// The lines that are needed.
-fn lines_for(alloc: Global, before: &Before, needs: Needs) -> Result<Lines, AllocError>
-    ensures { IfOk result (Kept before.now) }
-{
-    let mut lines = Lines::new(alloc, before, needs)?;
-    add_all(&mut lines, alloc, before)?;
-    Ok(lines)
-}
-
-/// The same, if there is memory for them.
+/// The lines that are needed, if there is memory for them.
 fn lines_if(alloc: Global, before: &Before, needs: Needs) -> Option<Lines>
     ensures { IfSome result (Kept before.now) }
 {
@@ -137,25 +127,7 @@ fn certified_wide<R: Threads + Sync>(
     Some(Certificate::new(order, lines.into_lines(), pairs))
 }
 
-/// The certificate of an order list, or the first two packets that aren't ordered.
-fn certified_alone(
-    alloc: Global,
-    before: &Before,
-    parts: &Parts,
-    order: &[u16],
-) -> Result<Certificate, AuditNo>
-    requires order { OrderList before.now order.now }
-    requires parts { AreParts before.now parts.now }
-    ensures holds { IfOk result (λ c. CertHolds before.now c) }
-    ensures refused { IfErr result (AllRefused before.now) }
-{
-    let mut needs = Needs::new(alloc, before)?;
-    let pairs = draft_all(&mut needs, alloc, before, parts)?;
-    let certificate = certified(alloc, before, order, needs, pairs)?;
-    Ok(certificate)
-}
-
-/// The same, in many threads where that is worth it. What isn't ordered is told of by one thread.
+/// What `certified_alone` answers, in many threads where that is worth it. What isn't ordered is told of by one thread.
 fn certified_by_all<R: Threads + Sync>(
     rt: &R,
     alloc: Global,

@@ -10,7 +10,7 @@ pub returns : goal.returns
 returns c =
     let job = c.args.before.now in
     let order = c.args.order.now in
-    let old = c.args.pairs in
+    let old = c.args.drafts.pairs in
     let now = c.cite_all.new.pairs in
     let lines = lines_of c.cite_all.new.lines in
     let done = c.in_ok-cite_all.ensures in

@@ -11,7 +11,7 @@ loop-a-preserved c =
     let row = c.in_ok-add_row.ensures in
     record {
       drafted = row.goes.drafted;
-      paired = rows_paired_next job c.loop-a.a (pairs_of c.loop-a.pairs) (pairs_of c.add_row.new.pairs) c.loop-a.invariant.paired row.goes.longer row.paired;
+      paired = rows_paired_next job c.loop-a.a (pairs_of c.loop-a.drafts.pairs) (pairs_of c.add_row.new.self.pairs) c.loop-a.invariant.paired row.goes.longer row.paired;
       shown = rows_next job c.loop-a.a c.loop-a.invariant.shown row.shown;
     }
 

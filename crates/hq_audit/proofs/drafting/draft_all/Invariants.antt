@@ -5,7 +5,7 @@ use Rattle.hq_audit.proofs.drafting.draft_all.Given as goal
 
 abbrev pub invariant-loop-a : goal.invariant-loop-a
 invariant-loop-a l = record {
-  drafted : AllDrafted l.before (pairs_of l.pairs);
-  paired : RowsPaired l.before (pairs_of l.pairs) l.a;
+  drafted : AllDrafted l.before (pairs_of l.drafts.pairs);
+  paired : RowsPaired l.before (pairs_of l.drafts.pairs) l.a;
   shown : RowsShown l.before l.a;
 }

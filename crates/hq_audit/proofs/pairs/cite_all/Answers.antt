@@ -6,8 +6,8 @@ use Rattle.hq_audit.proofs.pairs.cite_all.Goals as goal
 pub loop-pair-init : goal.loop-pair-init
 loop-pair-init c = cited_start c.args.before.now c.args.lines.now c.args.pairs.now c.requires.kept
 
-pub cite_fences-requires-clause-drafted : goal.cite_fences-requires-clause-drafted
-cite_fences-requires-clause-drafted c =
+pub cite-requires-clause-drafted : goal.cite-requires-clause-drafted
+cite-requires-clause-drafted c =
     let now = c.loop-pair.pairs in
     let i = c.loop-pair.pair-index in
     let x = slice_index_or now i c.pair-item.result in
@@ -21,7 +21,7 @@ loop-pair-preserved c =
     let i = c.loop-pair.pair-index in
     let x = slice_index_or now i c.pair-item.result in
     let low : i < length now = omega (arith, c.loop-pair-test.true, c.loop-pair.invariant.heads.len) in
-    cited_next c.args.before.now c.args.lines.now c.loop-pair.lines c.cite_fences.new.lines c.args.pairs.now now i x c.in_ok-pair.field-0 c.requires.drafted c.loop-pair.invariant
+    cited_next c.args.before.now c.args.lines.now c.loop-pair.lines c.cite.new.lines c.args.pairs.now now i x c.in_ok-pair.field-0 c.requires.drafted c.loop-pair.invariant
     low (get_or_default now i c.pair-item.result x low) c.in_ok-pair.ensures
 
 pub returns-clause-hold : goal.returns-clause-hold

@@ -8,7 +8,7 @@ loop-a-preserved c =
     let row = c.in_ok-add_row.ensures in
     record {
       drafted = row.goes.drafted;
-      paired = rows_next c.args.before.now c.args.from c.loop-a.a (pairs_of c.loop-a.pairs) (pairs_of c.add_row.new.pairs) c.loop-a.invariant.paired row.goes.longer row.paired;
+      paired = rows_next c.args.before.now c.args.from c.loop-a.a (pairs_of c.loop-a.drafts.pairs) (pairs_of c.add_row.new.self.pairs) c.loop-a.invariant.paired row.goes.longer row.paired;
     }
 
 pub returns : goal.returns

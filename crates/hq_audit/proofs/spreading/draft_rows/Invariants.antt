@@ -5,6 +5,6 @@ use Rattle.hq_audit.proofs.spreading.draft_rows.Given as goal
 
 abbrev pub invariant-loop-a : goal.invariant-loop-a
 invariant-loop-a l = record {
-  drafted : AllDrafted l.before (pairs_of l.pairs);
-  paired : RowsBetween l.before (pairs_of l.pairs) l.fn.from l.a;
+  drafted : AllDrafted l.before (pairs_of l.drafts.pairs);
+  paired : RowsBetween l.before (pairs_of l.drafts.pairs) l.fn.from l.a;
 }

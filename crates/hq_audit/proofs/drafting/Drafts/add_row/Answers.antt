@@ -4,12 +4,12 @@ use Rattle.hq_audit.specs.Refused.{IsUnshown, IsFirstOfRow}
 use Rattle.hq_audit.proofs.Pairing.{drafts_same, drafts_more, row_paired_next}
 use Rattle.hq_audit.proofs.Parting.{row_skipped, row_paired_skipped}
 use Rattle.hq_audit.proofs.Turning.{row_next, whole_refused}
-use Rattle.hq_audit.proofs.drafting.add_row.Goals as goal
+use Rattle.hq_audit.proofs.drafting.Drafts.add_row.Goals as goal
 
 pub others-init : goal.others-init
 others-init c =
     let job = c.args.before.now in
-    let pairs = pairs_of c.args.pairs.now in
+    let pairs = pairs_of c.args.self.now.pairs in
     let next = c.next-b.ensures in
     record {
       above = omega (arith, next.above);
@@ -21,12 +21,12 @@ others-init c =
 pub others-preserved : goal.others-preserved
 others-preserved c =
     let job = c.args.before.now in
-    let old = pairs_of c.others.pairs in
-    let new = pairs_of c.add_pair.new.pairs in
+    let old = pairs_of c.others.self.pairs in
+    let new = pairs_of c.add_pair.new.self.pairs in
     let next = c.next-b-in-others.ensures in
     record {
       above = omega (arith, next.above, c.others.invariant.above);
-      goes = drafts_more job (pairs_of c.args.pairs.now) old new c.others.invariant.goes c.in_ok-add_pair.ensures.goes;
+      goes = drafts_more job (pairs_of c.args.self.now.pairs) old new c.others.invariant.goes c.in_ok-add_pair.ensures.goes;
       paired = row_paired_skipped job new c.args.a (c.others.b + 1) c.next-b-in-others.result
           (row_paired_next job c.args.a c.others.b old new c.others.invariant.paired c.in_ok-add_pair.ensures.goes.longer c.in_ok-add_pair.ensures.has) (λ s. next.apart c.args.a s c.others-row.ensures);
       shown = row_skipped job c.args.a (c.others.b + 1) c.next-b-in-others.result (row_next job c.args.a c.others.b c.others.invariant.shown c.in_ok-add_pair.ensures.shown) (λ s. next.apart c.args.a s c.others-row.ensures);

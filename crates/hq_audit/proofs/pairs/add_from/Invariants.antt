@@ -1,0 +1,5 @@
+use Rattle.hq_audit.specs.Kept.{Goes}
+use Rattle.hq_audit.proofs.pairs.add_from.Given as goal
+
+abbrev pub invariant-loop-r : goal.invariant-loop-r
+invariant-loop-r l = Goes l.before l.fn.lines l.lines
