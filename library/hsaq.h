@@ -4,9 +4,9 @@
  *     cc -std=c99 -o program program.c "$(./hsaq --library)"
  *
  * A text is a pointer and a length; a call reads it and keeps nothing of it. A report is what the program of that name prints for the same
- * texts (docs/FORMATS.md). Its first `room` bytes, or all where there are fewer, go to `report`, which is the caller's; what lies behind them stays as
- * it was, and no byte is put behind the report, not even a 0. `*length` is the length of the whole report: where it is more than `room`, ask again
- * with more. No pointer may be NULL, not even with a length of 0, and `report` and `length` must not overlap the texts or each other.
+ * texts (docs/FORMATS.md). Its first `room` bytes, or all where there are fewer, go to `report`, which is the caller's; what lies behind them stays
+ * as it was, and no byte is put behind the report, not even a 0. `*length` is the length of the whole report: where it is more than `room`, ask
+ * again with more. No pointer may be NULL, not even with a length of 0, and `report` and `length` must not overlap the texts or each other.
  *
  * The answer is the program's exit status, one of those below. With HSAQ_STATUS_FILE nothing is said of the report, nor of `*length`: memory ran out
  * while it was put together, or a text has more than some gigabyte.
