@@ -17,5 +17,5 @@ returns c =
     let same = c.deref_mut.ensures.value in
     let heads = subst (λ items. SameHeads items now) same done.heads in
     let back = given_back old.len old.items now (sym old.ok.0) heads.len in
-    cert_same job c.new-2.result order lines (map pair_of now) (c.new-2.ensures.order ∙ c.in_ok-order.ensures) (c.new-2.ensures.lines ∙ ap (map line_of) c.into_lines.ensures) (c.new-2.ensures.pairs ∙ ap (map pair_of) back)
+    cert_same job c.new.result order lines (map pair_of now) (c.new.ensures.order ∙ c.in_ok-order.ensures) (c.new.ensures.lines ∙ ap (map line_of) c.into_lines.ensures) (c.new.ensures.pairs ∙ ap (map pair_of) back)
     (cert_holds job order lines (map pair_of now) c.requires.order done.goes.kept.follow done.hold (paired_cited job old.items now heads c.requires.paired))

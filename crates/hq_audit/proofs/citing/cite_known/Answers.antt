@@ -7,15 +7,15 @@ use Rattle.hq_audit.proofs.citing.cite_known.Goals as goal
 pub loop-pair-init : goal.loop-pair-init
 loop-pair-init c = cited_start c.args.before.now c.args.lines.now c.args.pairs.now c.requires.kept
 
-pub cite_fences-requires-clause-drafted : goal.cite_fences-requires-clause-drafted
-cite_fences-requires-clause-drafted c =
+pub cite_fences-requires : goal.cite_fences-requires
+cite_fences-requires c =
     let now = c.loop-pair.pairs in
     let lines = c.args.lines.now in
     let i = c.loop-pair.pair-index in
     let x = slice_index_or now i c.pair-item.result in
     let low : i < length now = omega (arith, c.loop-pair-test.true, c.loop-pair.invariant.heads.len) in
     let at = drafted_at c.args.before.now c.args.pairs.now now lines lines i x c.requires.drafted c.loop-pair.invariant low (get_or_default now i c.pair-item.result x low) in
-    at.2
+    record { drafted = at.2 }
 
 pub loop-pair-preserved : goal.loop-pair-preserved
 loop-pair-preserved c =

@@ -25,5 +25,5 @@ returns-clause-paired c = λ q s above is.
 pub returns-in_err-add_row-clause-refused : goal.returns-in_err-add_row-clause-refused
 returns-in_err-add_row-clause-refused c =
     let job = c.args.before.now in
-    whole_refused (IsFirstOfRow job c.loop-a.a) (IsFirstUnshown job) c.from_residual.result c.in_err-add_row.field-0.0 c.from_residual.ensures.1 c.in_err-add_row.ensures.refused
+    whole_refused (IsFirstOfRow job c.loop-a.a) (IsFirstUnshown job) c.from_residual-in_err-add_row.result c.in_err-add_row.field-0.0 c.from_residual-in_err-add_row.ensures.1 c.in_err-add_row.ensures.refused
     (λ u is. record { a = c.loop-a.a; row = is; rows = c.loop-a.invariant.shown })
