@@ -13,63 +13,8 @@ use Rattle.hq_model.specs.Theorems.{Valid, CompletePossible}
 use Rattle.hq_model.proofs.Places.{at_place, place_of_packets, numbers_below, numbers_once, in_first, in_rest, in_cons, in_filter, in_numbers}
 use Rattle.hq_model.proofs.Sums.{put2_same, put2_other}
 use Rattle.hq_model.proofs.Journals.{steps_append}
+use Rattle.hq_model.proofs.Finishing.{Pushable, pushable_steps, pushable_start}
 use Rattle.hq_model.proofs.Rested.{Each, is_lane_push, is_agent_push, lanes_pushed, agents_pushed, agent_phases, each_lane_push, each_agent_push, dirty_stands, not_dirty, stands_flat, stands_map}
-
--- ---- only the job's bytes are ever dirty
-
-pub record Inside (job : Job) (state : State) : Type 0 where
-  pub lanes : (l b : ℕ) → is_dirty (state.lane l b) ≡ true → IsByte job b
-  pub agents : (a b : ℕ) → is_dirty (state.agent a b) ≡ true → IsByte job b
-
-no_copy : is_dirty None ≡ true → ⊥
-no_copy e = true≢false (sym e)
-
-put_inside : (P : ℕ → Type 0) (f : ℕ → ℕ → Option Copy) (k l : ℕ) (x : Option Copy) → ((m n : ℕ) → is_dirty (f m n) ≡ true → P n) → (is_dirty x ≡ true → P l) → (m n : ℕ) → is_dirty (put2 f k l x m n) ≡ true → P n
-put_inside P f k l x was here m n d = elim (cases_eq m k) [
-  | inl e ↦ elim (cases_eq n l) [
-    | inl g ↦ subst P (sym g) (here (ap is_dirty (sym (put2_same f k l x m n e g)) ∙ d))
-    | inr g ↦ was m n (ap is_dirty (sym (put2_other f k l x m n (λ _ h. g h))) ∙ d)
-  ]
-  | inr e ↦ was m n (ap is_dirty (sym (put2_other f k l x m n (λ h _. e h))) ∙ d)
-]
-
-dirty_before : (t : Bool) (copy : Option Copy) → is_dirty (cond t (without_clean copy) copy) ≡ true → is_dirty copy ≡ true
-dirty_before false copy e = e
-dirty_before true copy e = elim (cases_Bool (is_dirty copy)) [
-  | inl d ↦ d
-  | inr c ↦ absurd (true≢false (sym e ∙ ap is_dirty (cond-false (is_dirty copy) copy None c)))
-]
-
-inside_step : (job : Job) (old : State) (event : Event) (new : State) → Valid job → Inside job old → Step job old event new → Inside job new
-inside_step job old Submit new valid k step = subst (Inside job) (sym step.2) (record { lanes = k.lanes; agents = k.agents })
-inside_step job old (Launch q) new valid k step = subst (Inside job) (sym step.2) (record { lanes = k.lanes; agents = k.agents })
-inside_step job old (Observe p slot) new valid k step = subst (Inside job) (sym step.6) (record { lanes = k.lanes; agents = k.agents })
-inside_step job old (Enter p) new valid k step = subst (Inside job) (sym step.3) (record {
-  lanes = λ l b d. k.lanes l b (dirty_before _ (old.lane l b) d);
-  agents = λ a b d. k.agents a b (dirty_before _ (old.agent a b) d);
-})
-inside_step job old (Read p i) new valid k step = subst (Inside job) (sym step.4) (record { lanes = k.lanes; agents = k.agents })
-inside_step job old (Store p i) new valid k (there, active, read, within, fresh, is) = subst (Inside job) (sym is) (record {
-  lanes = put_inside (IsByte job) old.lane p (slice_index (packet job p).writes i) _ k.lanes (λ d. valid.writes p i 0 within);
-  agents = k.agents;
-})
-inside_step job old (Event.Finish p) new valid k step = subst (Inside job) (sym step.5) (record { lanes = k.lanes; agents = k.agents })
-inside_step job old (PushLane p b) new valid k (v, there, within, held, is) = subst (Inside job) (sym is) (record {
-  lanes = put_inside (IsByte job) old.lane p b (clean v) k.lanes (λ d. within);
-  agents = put_inside (IsByte job) old.agent (agent_of job p) b (dirty v) k.agents (λ d. within);
-})
-inside_step job old (PushAgent a b) new valid k (v, there, within, held, is) = subst (Inside job) (sym is) (record { lanes = k.lanes; agents = put_inside (IsByte job) old.agent a b (clean v) k.agents (λ d. within) })
-inside_step job old (FillLane p b) new valid k (there, within, held, is) = subst (Inside job) (sym is) (record { lanes = put_inside (IsByte job) old.lane p b _ k.lanes (λ d. within); agents = k.agents })
-inside_step job old (FillAgent a b) new valid k (there, within, held, is) = subst (Inside job) (sym is) (record { lanes = k.lanes; agents = put_inside (IsByte job) old.agent a b _ k.agents (λ d. within) })
-inside_step job old (DropLane p b) new valid k (v, there, within, held, is) = subst (Inside job) (sym is) (record { lanes = put_inside (IsByte job) old.lane p b None k.lanes (λ d. within); agents = k.agents })
-inside_step job old (DropAgent a b) new valid k (v, there, within, held, is) = subst (Inside job) (sym is) (record { lanes = k.lanes; agents = put_inside (IsByte job) old.agent a b None k.agents (λ d. within) })
-
-inside_steps : (job : Job) (old : State) (events : List Event) (new : State) → Valid job → Inside job old → Steps job old events new → Inside job new
-inside_steps job old [] new valid k is = subst (Inside job) (sym is) k
-inside_steps job old (event ∷ events) new valid k (mid, step, rest) = inside_steps job mid events new valid (inside_step job old event mid valid k step) rest
-
-inside_start : (job : Job) → Inside job (start job)
-inside_start job = record { lanes = λ l b d. absurd (no_copy d); agents = λ a b d. absurd (no_copy d) }
 
 -- ---- lists without repetition
 
@@ -180,20 +125,20 @@ module _ (job : Job) (p : ℕ) (old mid last : State) where
   abbrev agents : List ℕ
   agents = only_if (reaches (packet job p).release scope.System) (agent_of job p ∷ [])
 
-  released : Inside job last → Steps job old (lane_pushes job old lanes) mid → Steps job mid (agent_pushes job mid agents) last → Released job last p (packet job p).release
-  released inside a b = record {
+  released : Pushable job last → Steps job old (lane_pushes job old lanes) mid → Steps job mid (agent_pushes job mid agents) last → Released job last p (packet job p).release
+  released pushable a b = record {
     lanes = λ h l c there same. not_dirty (is_dirty (last.lane l c)) (λ d.
         let kept = (agent_phases job mid (agent_pushes job mid agents) last (each_agent_push job mid agents) b).1 in
         let (was, none) = lanes_pushed job old (lane_pushes job old lanes) mid (each_lane_push job old lanes) a l c (ap (λ f. is_dirty (f l c)) (sym kept) ∙ d) in
         none (stands_flat (λ q. map (PushLane q) (dirty_bytes job (old.lane q))) lanes l (PushLane l c)
         (in_filter (λ _. reaches (packet job p).release scope.Agent) (packets_of job (λ q. (packet job q).queue == (packet job p).queue)) l h
         (in_filter (λ q. (packet job q).queue == (packet job p).queue) (numbers (length job.packets)) l (eq-eqb (packet job l).queue (packet job p).queue same) (in_numbers (length job.packets) l there)))
-        (stands_map (PushLane l) (dirty_bytes job (old.lane l)) c (dirty_stands job (old.lane l) c (inside.lanes l c d) was))));
+        (stands_map (PushLane l) (dirty_bytes job (old.lane l)) c (dirty_stands job (old.lane l) c (pushable.lanes l c d).1 was))));
     agent = λ h c. not_dirty (is_dirty (last.agent (agent_of job p) c)) (λ d.
         let (was, none) = agents_pushed job mid (agent_pushes job mid agents) last (each_agent_push job mid agents) b (agent_of job p) c d in
         none (stands_flat (λ q. map (PushAgent q) (dirty_bytes job (mid.agent q))) agents (agent_of job p) (PushAgent (agent_of job p) c)
         (in_filter (λ _. reaches (packet job p).release scope.System) (agent_of job p ∷ []) (agent_of job p) h (in_first (agent_of job p) [] (agent_of job p) refl))
-        (stands_map (PushAgent (agent_of job p)) (dirty_bytes job (mid.agent (agent_of job p))) c (dirty_stands job (mid.agent (agent_of job p)) c (inside.agents (agent_of job p) c d) was))));
+        (stands_map (PushAgent (agent_of job p)) (dirty_bytes job (mid.agent (agent_of job p))) c (dirty_stands job (mid.agent (agent_of job p)) c (pushable.agents (agent_of job p) c d).1 was))));
   }
 
 pub complete_possible : CompletePossible
@@ -209,7 +154,7 @@ complete_possible job events old p valid run there active read stored =
     let (last, b) = agents_pushable job mid (agent_of job p) (reaches (packet job p).release scope.System) (valid.agents (packet job p).queue 0 (valid.queues p there)) in
     let first = lane_same job old (lane_pushes job old lanes) mid (each_lane_push job old lanes) a in
     let second = agent_same job mid (agent_pushes job mid agents) last (each_agent_push job mid agents) b in
-    let inside = inside_steps job mid (agent_pushes job mid agents) last valid (inside_steps job old (lane_pushes job old lanes) mid valid (inside_steps job (start job) events old valid (inside_start job) run) a) b in (
+    let pushable = pushable_steps job mid (agent_pushes job mid agents) last valid (pushable_steps job old (lane_pushes job old lanes) mid valid (pushable_steps job (start job) events old valid (pushable_start job) run) a) b in (
       completed job last p,
       (
         last,
@@ -221,7 +166,7 @@ complete_possible job events old p valid run there active read stored =
             ap (λ f. f p) (second.phase ∙ first.phase) ∙ active,
             λ i l. subst (λ f. IsSome (f p i)) (sym (second.read ∙ first.read)) (read i l),
             λ i l. subst (λ f. IsTrue (f p i)) (sym (second.stored ∙ first.stored)) (stored i l),
-            released job p old mid last inside a b,
+            released job p old mid last pushable a b,
             refl,
           ),
           refl,

@@ -1,0 +1,228 @@
+-- A run that no work is left to is over, where an order list exists.
+use Rattle.std.proofs.Common.{◌≡◌, ℕ, zero, suc, ◌<◌, ◌≢◌, inl, inr, is_some, List, [], ◌∷◌, length, refl, sym, ◌∙◌, ap, subst, arith, Bool, true, false, cond, Option, Some, None, slice_index, lt_trans}
+use Rattle.std.proofs.lemmas.Bool.{cases_eq, cases_Bool, cond-true, cond-false, true≢false}
+use Rattle.hq_model.specs.Job.{Job, Kind, packet, IsPacket, Earlier, Dependency, Decrements, IsBarrier, agent_of, completes_on}
+use Rattle.hq_model.specs.Job.Kind.{Work, BarrierAnd, BarrierOr}
+use Rattle.hq_model.specs.Order.{place, Ahead, FreesFor, OrderList}
+use Rattle.hq_model.specs.Machine.{State, Copy, Phase, Event, Step, Steps, AllRead, AllStored, NoWorkLeft, IsByte, is_dirty, without_clean, clean, dirty, put, put2, start, with_phase, is_launched, acquired, completed, lane_sees, bytes_stored}
+use Rattle.hq_model.specs.Machine.Phase.{Waiting, InQueue, Launched, Active, Complete}
+use Rattle.hq_model.specs.Machine.Event.{Submit, Launch, Observe, Enter, Read, Store, PushLane, PushAgent, FillLane, FillAgent, DropLane, DropAgent}
+use Rattle.hq_model.specs.Theorems.{Valid}
+use Rattle.hq_model.specs.Finishing.{IsOver, FinishLaw}
+use Rattle.hq_model.proofs.Sums.{sum_same, put2_same, put2_other}
+use Rattle.hq_model.proofs.Places.{place_of_packets}
+use Rattle.hq_model.proofs.NoRings.{waits_for_rings}
+use Rattle.hq_model.proofs.Kept.{KeptBy, signal_of, is_complete, count_at, one_at, decrementers_are, kept_start, kept_steps}
+use Rattle.hq_model.proofs.Bound as bounds
+
+dirty_is : (copy : Option Copy) → is_dirty copy ≡ true → (v : ℕ) × (copy ≡ dirty v)
+dirty_is None e = absurd (true≢false (sym e))
+dirty_is (Some c) e = (c.value, λ i. Some (record { value = c.value; dirty = e i }))
+
+not_dirty : (copy : Option Copy) → (is_dirty copy ≡ true → ⊥) → is_dirty copy ≡ false
+not_dirty copy h = elim (cases_Bool (is_dirty copy)) [ inl e ↦ absurd (h e) | inr e ↦ e ]
+
+and≢work : (kind : Kind) → kind ≡ BarrierAnd → kind ≢ Work
+and≢work kind e f = grind arith
+
+or≢work : (kind : Kind) → kind ≡ BarrierOr → kind ≢ Work
+or≢work kind e f = grind arith
+
+phase_is : (phase : Phase) → (phase ≡ Waiting → ⊥) → (phase ≡ InQueue → ⊥) → (phase ≡ Launched → ⊥) → (phase ≡ Active → ⊥) → phase ≡ Complete
+phase_is Waiting w a b c = absurd (w refl)
+phase_is InQueue w a b c = absurd (a refl)
+phase_is Launched w a b c = absurd (b refl)
+phase_is Active w a b c = absurd (c refl)
+phase_is Complete w a b c = refl
+
+some_of : (o : Option ℕ) → (o ≡ None → ⊥) → is_some o ≡ true
+some_of None h = absurd (h refl)
+some_of (Some x) h = refl
+
+-- ---- what is dirty could be pushed
+
+no_copy : is_dirty None ≡ true → ⊥
+no_copy e = true≢false (sym e)
+
+dirty_before : (t : Bool) (copy : Option Copy) → is_dirty (cond t (without_clean copy) copy) ≡ true → is_dirty copy ≡ true
+dirty_before false copy e = e
+dirty_before true copy e = elim (cases_Bool (is_dirty copy)) [
+  | inl d ↦ d
+  | inr c ↦ absurd (true≢false (sym e ∙ ap is_dirty (cond-false (is_dirty copy) copy None c)))
+]
+
+-- Only lanes of packets, agents of the job and bytes of its memory are ever dirty.
+pub record Pushable (job : Job) (state : State) : Type 0 where
+  pub lanes : (p b : ℕ) → is_dirty (state.lane p b) ≡ true → IsPacket job p × IsByte job b
+  pub agents : (a b : ℕ) → is_dirty (state.agent a b) ≡ true → (a < job.agents) × IsByte job b
+
+put_pushable : (P : ℕ → ℕ → Type 0) (f : ℕ → ℕ → Option Copy) (k l : ℕ) (x : Option Copy) → ((m n : ℕ) → is_dirty (f m n) ≡ true → P m n) → (is_dirty x ≡ true → P k l) → (m n : ℕ) → is_dirty (put2 f k l x m n) ≡ true → P m n
+put_pushable P f k l x was here m n d = elim (cases_eq m k) [
+  | inl e ↦ elim (cases_eq n l) [
+    | inl g ↦ subst (P m) (sym g) (subst (λ y. P y l) (sym e) (here (ap is_dirty (sym (put2_same f k l x m n e g)) ∙ d)))
+    | inr g ↦ was m n (ap is_dirty (sym (put2_other f k l x m n (λ _ h. g h))) ∙ d)
+  ]
+  | inr e ↦ was m n (ap is_dirty (sym (put2_other f k l x m n (λ h _. e h))) ∙ d)
+]
+
+pushable_step : (job : Job) (old : State) (event : Event) (new : State) → Valid job → Pushable job old → Step job old event new → Pushable job new
+pushable_step job old Submit new valid k step = subst (Pushable job) (sym step.2) (record { lanes = k.lanes; agents = k.agents })
+pushable_step job old (Launch q) new valid k step = subst (Pushable job) (sym step.2) (record { lanes = k.lanes; agents = k.agents })
+pushable_step job old (Observe p slot) new valid k step = subst (Pushable job) (sym step.6) (record { lanes = k.lanes; agents = k.agents })
+pushable_step job old (Enter p) new valid k step = subst (Pushable job) (sym step.3) (record {
+  lanes = λ l b d. k.lanes l b (dirty_before _ (old.lane l b) d);
+  agents = λ a b d. k.agents a b (dirty_before _ (old.agent a b) d);
+})
+pushable_step job old (Read p i) new valid k step = subst (Pushable job) (sym step.4) (record { lanes = k.lanes; agents = k.agents })
+pushable_step job old (Store p i) new valid k (there, active, read, within, fresh, is) = subst (Pushable job) (sym is) (record {
+  lanes = put_pushable (λ l b. IsPacket job l × IsByte job b) old.lane p (slice_index (packet job p).writes i) _ k.lanes (λ d. (there, valid.writes p i 0 within));
+  agents = k.agents;
+})
+pushable_step job old (Event.Finish p) new valid k step = subst (Pushable job) (sym step.5) (record { lanes = k.lanes; agents = k.agents })
+pushable_step job old (PushLane p b) new valid k (v, there, within, held, is) = subst (Pushable job) (sym is) (record {
+  lanes = put_pushable (λ l c. IsPacket job l × IsByte job c) old.lane p b (clean v) k.lanes (λ d. (there, within));
+  agents = put_pushable (λ a c. (a < job.agents) × IsByte job c) old.agent (agent_of job p) b (dirty v) k.agents (λ d. (valid.agents (packet job p).queue 0 (valid.queues p there), within));
+})
+pushable_step job old (PushAgent a b) new valid k (v, there, within, held, is) = subst (Pushable job) (sym is) (record {
+  lanes = k.lanes;
+  agents = put_pushable (λ m c. (m < job.agents) × IsByte job c) old.agent a b (clean v) k.agents (λ d. (there, within));
+})
+pushable_step job old (FillLane p b) new valid k (there, within, held, is) = subst (Pushable job) (sym is) (record {
+  lanes = put_pushable (λ l c. IsPacket job l × IsByte job c) old.lane p b _ k.lanes (λ d. (there, within));
+  agents = k.agents;
+})
+pushable_step job old (FillAgent a b) new valid k (there, within, held, is) = subst (Pushable job) (sym is) (record {
+  lanes = k.lanes;
+  agents = put_pushable (λ m c. (m < job.agents) × IsByte job c) old.agent a b _ k.agents (λ d. (there, within));
+})
+pushable_step job old (DropLane p b) new valid k (v, there, within, held, is) = subst (Pushable job) (sym is) (record {
+  lanes = put_pushable (λ l c. IsPacket job l × IsByte job c) old.lane p b None k.lanes (λ d. (there, within));
+  agents = k.agents;
+})
+pushable_step job old (DropAgent a b) new valid k (v, there, within, held, is) = subst (Pushable job) (sym is) (record {
+  lanes = k.lanes;
+  agents = put_pushable (λ m c. (m < job.agents) × IsByte job c) old.agent a b None k.agents (λ d. (there, within));
+})
+
+pub pushable_steps : (job : Job) (old : State) (events : List Event) (new : State) → Valid job → Pushable job old → Steps job old events new → Pushable job new
+pushable_steps job old [] new valid k is = subst (Pushable job) (sym is) k
+pushable_steps job old (event ∷ events) new valid k (mid, step, rest) = pushable_steps job mid events new valid (pushable_step job old event mid valid k step) rest
+
+pub pushable_start : (job : Job) → Pushable job (start job)
+pushable_start job = record { lanes = λ l b d. absurd (no_copy d); agents = λ a b d. absurd (no_copy d) }
+
+-- ---- the end
+
+module _ (job : Job) (list : List ℕ) (valid : Valid job) (order : OrderList job list) (state : State) (kept : KeptBy job state) (pushable : Pushable job state) (rings : (p : ℕ) → state.phase p ≡ Waiting → job.rings ≡ true) (stuck : NoWorkLeft job state) where
+  lanes_clean : (p b : ℕ) → is_dirty (state.lane p b) ≡ false
+  lanes_clean p b = not_dirty (state.lane p b) (λ e.
+      let (there, within) = pushable.lanes p b e in
+      let (v, is) = dirty_is (state.lane p b) e in
+      stuck (PushLane p b) (record state { lane = put2 state.lane p b (clean v); agent = put2 state.agent (agent_of job p) b (dirty v) }) refl (v, there, within, is, refl))
+
+  agents_clean : (a b : ℕ) → is_dirty (state.agent a b) ≡ false
+  agents_clean a b = not_dirty (state.agent a b) (λ e.
+      let (there, within) = pushable.agents a b e in
+      let (v, is) = dirty_is (state.agent a b) e in
+      stuck (PushAgent a b) (record state { agent = put2 state.agent a b (clean v); memory = put state.memory b v }) refl (v, there, within, is, refl))
+
+  -- where all decrementers are complete, the signal is 0
+  signal_zero : (p slot s : ℕ) → Dependency job p slot s → ((d : ℕ) → Decrements job d s → state.phase d ≡ Complete) → state.signal s ≡ 0
+  signal_zero p slot s w h = omega (
+    arith,
+    kept.signals s,
+    valid.balanced.exact p slot s w,
+    decrementers_are job s,
+    sum_same (length job.packets) (count_at job state.phase s) (one_at job s) (λ d l. same d l (completes_on s (packet job d)) refl),
+  )
+    where
+      same : (d : ℕ) → d < length job.packets → (t : Bool) → completes_on s (packet job d) ≡ t → count_at job state.phase s d ≡ one_at job s d
+      same d l true e =
+          let c = h d (record { is_packet = l; signal = signal_of s (packet job d).done e }) in
+          ap (λ x. bounds.counted_at (completes_on s (packet job d)) (is_complete x)) c
+      same d l false e = ap (λ x. bounds.counted_at x (is_complete (state.phase d))) e ∙ sym (ap (λ x. bounds.counted x) e)
+
+  observed : (p slot s : ℕ) → Dependency job p slot s → IsBarrier job p → state.phase p ≡ Launched → ((d : ℕ) → Decrements job d s → state.phase d ≡ Complete) → state.observed p slot ≡ true
+  observed p slot s w barrier launched h = elim (cases_Bool (state.observed p slot)) [
+    | inl e ↦ e
+    | inr e ↦ absurd (stuck (Observe p slot) (record state { observed = put2 state.observed p slot true }) refl (s, w, barrier, launched, signal_zero p slot s w h, e, refl))
+  ]
+
+  -- Where what frees slots for p is complete, p doesn't wait: the first that does could be submitted.
+  none_waits : (n p : ℕ) → IsPacket job p → state.phase p ≡ Waiting → ((e : ℕ) → FreesFor job e p → state.phase e ≡ Complete) → place job.submissions p < n → ⊥
+  none_waits zero p there waits h l = omega arith
+  none_waits (suc n) p there waits h l = stuck Submit (with_phase state p InQueue) refl (
+    p,
+    record {
+      rings = rings p waits;
+      is_packet = there;
+      waits = waits;
+      next = λ e ahead w. none_waits n e (packet_at e ahead) w (λ q f. h q (passed q e f ahead)) (lower (place job.submissions e) (place job.submissions p) n ahead l);
+      slot = λ e f. h e (record { is_packet = there; m = p; upto = inl refl; frees = f });
+    },
+    refl,
+  )
+    where
+      lower : (a b n : ℕ) → a < b → b < suc n → a < n
+      lower a b n l m = omega arith
+
+      packet_at : (e : ℕ) → Ahead job.submissions e p → IsPacket job e
+      packet_at e ahead = place_of_packets (IsPacket job) job.submissions e valid.submissions.packets (omega (arith, ahead, valid.submissions.all p there))
+
+      passed : (q e : ℕ) → FreesFor job q e → Ahead job.submissions e p → FreesFor job q p
+      passed q e f ahead = record { is_packet = there; m = f.m; upto = inr (elim f.upto [ inl is ↦ subst (λ x. Ahead job.submissions x p) (sym is) ahead | inr before ↦ lt_trans before ahead ]); frees = f.frees }
+
+  no_wait : (p : ℕ) → IsPacket job p → ((e : ℕ) → place list e < place list p → state.phase e ≡ Complete) → state.phase p ≡ Complete
+  no_wait p there h = phase_is (state.phase p)
+      (λ e. none_waits (suc (place job.submissions p)) p there e (λ q f. h q (order.slots q p f)) (omega arith))
+      (λ e. stuck (Launch (packet job p).queue) (with_phase state p Launched) refl (
+        p,
+        record {
+          is_packet = there;
+          queue = refl;
+          waits = e;
+          next = λ q f. ap is_launched (earlier q f);
+          bit = λ _ q f. earlier q f;
+          barriers = λ q f _. earlier q f;
+        },
+        refl,
+      ))
+      (λ e. stuck (Enter p) (with_phase (acquired job state p) p Active) refl (
+        there,
+        e,
+        record {
+          each = λ k slot s w. observed p slot s w (and≢work (packet job p).kind k) e (λ d f. h d (order.ands p slot s d k w f));
+          one = λ k. let (slot, s, w, all) = order.ors p there k in (slot, s, w, observed p slot s w (or≢work (packet job p).kind k) e (λ d f. h d (all d f)));
+        },
+        refl,
+      ))
+      (λ e.
+      let read : AllRead job state p = λ i l. some_of (state.read p i) (λ none. stuck (Read p i) (record state { read = put2 state.read p i (Some (lane_sees job state p (slice_index (packet job p).reads i))) }) refl (there, e, l, none, refl)) in
+      let stored : AllStored job state p = λ i l. elim (cases_Bool (state.stored p i)) [
+        | inl t ↦ t
+        | inr f ↦ absurd (stuck (Store p i) (record state { stored = put2 state.stored p i true; lane = put2 state.lane p (slice_index (packet job p).writes i) (dirty (slice_index (bytes_stored job state p) i)) }) refl (there, e, read, l, f, refl))
+      ] in
+      stuck (Event.Finish p) (completed job state p) refl (there, e, read, stored, record { lanes = λ _ l b _ _. lanes_clean l b; agent = λ _ b. agents_clean (agent_of job p) b }, refl))
+    where
+      earlier : (q : ℕ) → Earlier job q p → state.phase q ≡ Complete
+      earlier q f = h q (order.queues q p f)
+
+  complete_below : (k p : ℕ) → IsPacket job p → place list p < k → state.phase p ≡ Complete
+  complete_below zero p there l = absurd (omega arith)
+  complete_below (suc k) p there l = no_wait p there (λ e m. complete_below k e (packet_at e (omega arith)) (omega arith))
+    where
+      packet_at : (e : ℕ) → place list e < length list → IsPacket job e
+      packet_at e i = place_of_packets (IsPacket job) list e order.each_once.packets i
+
+  complete : (p : ℕ) → IsPacket job p → state.phase p ≡ Complete
+  complete p there = complete_below (suc (place list p)) p there (omega arith)
+
+  pub over : IsOver job state
+  over = record { complete = complete; lanes_clean = lanes_clean; agents_clean = agents_clean }
+
+pub is_over : (job : Job) (list : List ℕ) (events : List Event) (state : State) → Valid job → OrderList job list → Steps job (start job) events state → NoWorkLeft job state → IsOver job state
+is_over job list events state valid order run stuck =
+    over job list valid order state (kept_steps job (start job) events state valid.balanced (kept_start job) run) (pushable_steps job (start job) events state valid (pushable_start job) run) (waits_for_rings job events state run) stuck
+
+pub finish_law : FinishLaw
+finish_law job list events state valid order run stuck = is_over job list events state valid order run stuck
