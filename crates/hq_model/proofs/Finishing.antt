@@ -1,16 +1,21 @@
--- A run that no work is left to is over, where an order list exists.
-use Rattle.std.proofs.Common.{◌≡◌, ℕ, zero, suc, ◌<◌, ◌≢◌, inl, inr, is_some, List, [], ◌∷◌, length, refl, sym, ◌∙◌, ap, subst, arith, Bool, true, false, cond, Option, Some, None, slice_index, lt_trans}
+-- A run that no work is left to has completed all but what is stuck.
+use Rattle.std.proofs.Common.{◌≡◌, ℕ, zero, suc, ◌<◌, ◌≢◌, ◌⊎◌, inl, inr, is_some, filter, List, [], ◌∷◌, length, refl, sym, ◌∙◌, ap, subst, arith, Bool, true, false, cond, Option, Some, None, slice_index, lt_trans}
+use Rattle.std.proofs.lemmas.List.Elements.{filter_passes}
 use Rattle.std.proofs.lemmas.Bool.{cases_eq, cases_Bool, cond-true, cond-false, true≢false}
 use Rattle.hq_model.specs.Job.{Job, Kind, packet, IsPacket, Earlier, Dependency, Decrements, IsBarrier, agent_of, completes_on}
 use Rattle.hq_model.specs.Job.Kind.{Work, BarrierAnd, BarrierOr}
-use Rattle.hq_model.specs.Order.{place, Ahead, FreesFor, OrderList}
-use Rattle.hq_model.specs.Machine.{State, Copy, Phase, Event, Step, Steps, AllRead, AllStored, NoWorkLeft, IsByte, is_dirty, without_clean, clean, dirty, put, put2, start, with_phase, is_launched, acquired, completed, lane_sees, bytes_stored}
+use Rattle.hq_model.specs.Order.{place, In, Ahead, FreesFor, StuckSet, Stuck}
+use Rattle.hq_model.specs.Schedule.{MayCome, left_of}
+use Rattle.hq_model.specs.Machine.{State, Copy, Phase, Event, Step, Steps, Run, listed, AllRead, AllStored, NoWorkLeft, IsByte, is_dirty, without_clean, clean, dirty, put, put2, start, with_phase, is_launched, acquired, completed, lane_sees, bytes_stored}
 use Rattle.hq_model.specs.Machine.Phase.{Waiting, InQueue, Launched, Active, Complete}
 use Rattle.hq_model.specs.Machine.Event.{Submit, Launch, Observe, Enter, Read, Store, PushLane, PushAgent, FillLane, FillAgent, DropLane, DropAgent}
 use Rattle.hq_model.specs.Theorems.{Valid}
-use Rattle.hq_model.specs.Finishing.{IsOver, FinishLaw}
+use Rattle.hq_model.specs.Finishing.{IsOver, StandstillLaw, FinishLaw}
 use Rattle.hq_model.proofs.Sums.{sum_same, put2_same, put2_other}
-use Rattle.hq_model.proofs.Places.{place_of_packets}
+use Rattle.hq_model.proofs.Places.{place_of_packets, in_or_not, in_filter, in_numbers}
+use Rattle.hq_model.proofs.Schedule.{IsLeft, left_in, left_out, left_packets, comes_or_blocked}
+use Rattle.hq_model.proofs.Orders.{none_where_stuck}
+use Rattle.hq_model.proofs.Stuck.{stuck_law}
 use Rattle.hq_model.proofs.NoRings.{waits_for_rings}
 use Rattle.hq_model.proofs.Kept.{KeptBy, signal_of, is_complete, count_at, one_at, decrementers_are, kept_start, kept_steps}
 use Rattle.hq_model.proofs.Bound as bounds
@@ -38,6 +43,13 @@ phase_is Complete w a b c = refl
 some_of : (o : Option ℕ) → (o ≡ None → ⊥) → is_some o ≡ true
 some_of None h = absurd (h refl)
 some_of (Some x) h = refl
+
+complete_of : (phase : Phase) → is_complete phase ≡ true → phase ≡ Complete
+complete_of Waiting e = absurd (true≢false (sym e))
+complete_of InQueue e = absurd (true≢false (sym e))
+complete_of Launched e = absurd (true≢false (sym e))
+complete_of Active e = absurd (true≢false (sym e))
+complete_of Complete e = refl
 
 -- ---- what is dirty could be pushed
 
@@ -113,7 +125,7 @@ pushable_start job = record { lanes = λ l b d. absurd (no_copy d); agents = λ 
 
 -- ---- the end
 
-module _ (job : Job) (list : List ℕ) (valid : Valid job) (order : OrderList job list) (state : State) (kept : KeptBy job state) (pushable : Pushable job state) (rings : (p : ℕ) → state.phase p ≡ Waiting → job.rings ≡ true) (stuck : NoWorkLeft job state) where
+module _ (job : Job) (state : State) (pushable : Pushable job state) (stuck : NoWorkLeft job state) where
   lanes_clean : (p b : ℕ) → is_dirty (state.lane p b) ≡ false
   lanes_clean p b = not_dirty (state.lane p b) (λ e.
       let (there, within) = pushable.lanes p b e in
@@ -126,6 +138,7 @@ module _ (job : Job) (list : List ℕ) (valid : Valid job) (order : OrderList jo
       let (v, is) = dirty_is (state.agent a b) e in
       stuck (PushAgent a b) (record state { agent = put2 state.agent a b (clean v); memory = put state.memory b v }) refl (v, there, within, is, refl))
 
+module _ (job : Job) (valid : Valid job) (state : State) (kept : KeptBy job state) (pushable : Pushable job state) (rings : (p : ℕ) → state.phase p ≡ Waiting → job.rings ≡ true) (stuck : NoWorkLeft job state) where
   -- where all decrementers are complete, the signal is 0
   signal_zero : (p slot s : ℕ) → Dependency job p slot s → ((d : ℕ) → Decrements job d s → state.phase d ≡ Complete) → state.signal s ≡ 0
   signal_zero p slot s w h = omega (
@@ -172,9 +185,19 @@ module _ (job : Job) (list : List ℕ) (valid : Valid job) (order : OrderList jo
       passed : (q e : ℕ) → FreesFor job q e → Ahead job.submissions e p → FreesFor job q p
       passed q e f ahead = record { is_packet = there; m = f.m; upto = inr (elim f.upto [ inl is ↦ subst (λ x. Ahead job.submissions x p) (sym is) ahead | inr before ↦ lt_trans before ahead ]); frees = f.frees }
 
-  no_wait : (p : ℕ) → IsPacket job p → ((e : ℕ) → place list e < place list p → state.phase e ≡ Complete) → state.phase p ≡ Complete
-  no_wait p there h = phase_is (state.phase p)
-      (λ e. none_waits (suc (place job.submissions p)) p there e (λ q f. h q (order.slots q p f)) (omega arith))
+  -- the packets that are complete
+  abbrev done : List ℕ
+  done = filter (λ p. is_complete (state.phase p)) (listed (length job.packets) (λ p. p))
+
+  done_complete : (p : ℕ) → In done p → state.phase p ≡ Complete
+  done_complete p i = complete_of (state.phase p) (place_of_packets (λ q. is_complete (state.phase q) ≡ true) done p (filter_passes (λ q. is_complete (state.phase q)) (listed (length job.packets) (λ q. q))) i)
+
+  complete_done : (p : ℕ) → IsPacket job p → state.phase p ≡ Complete → In done p
+  complete_done p there e = in_filter (λ q. is_complete (state.phase q)) (listed (length job.packets) (λ q. q)) p (ap is_complete e) (in_numbers (length job.packets) p there)
+
+  no_wait : (p : ℕ) → MayCome job done p → state.phase p ≡ Complete
+  no_wait p may = phase_is (state.phase p)
+      (λ e. none_waits (suc (place job.submissions p)) p there e (λ q f. done_complete q (may.slots q f)) (omega arith))
       (λ e. stuck (Launch (packet job p).queue) (with_phase state p Launched) refl (
         p,
         record {
@@ -191,8 +214,8 @@ module _ (job : Job) (list : List ℕ) (valid : Valid job) (order : OrderList jo
         there,
         e,
         record {
-          each = λ k slot s w. observed p slot s w (and≢work (packet job p).kind k) e (λ d f. h d (order.ands p slot s d k w f));
-          one = λ k. let (slot, s, w, all) = order.ors p there k in (slot, s, w, observed p slot s w (or≢work (packet job p).kind k) e (λ d f. h d (all d f)));
+          each = λ k slot s w. observed p slot s w (and≢work (packet job p).kind k) e (λ d f. done_complete d (may.ands slot s d k w f));
+          one = λ k. let (slot, s, w, all) = may.ors k in (slot, s, w, observed p slot s w (or≢work (packet job p).kind k) e (λ d f. done_complete d (all d f)));
         },
         refl,
       ))
@@ -202,27 +225,52 @@ module _ (job : Job) (list : List ℕ) (valid : Valid job) (order : OrderList jo
         | inl t ↦ t
         | inr f ↦ absurd (stuck (Store p i) (record state { stored = put2 state.stored p i true; lane = put2 state.lane p (slice_index (packet job p).writes i) (dirty (slice_index (bytes_stored job state p) i)) }) refl (there, e, read, l, f, refl))
       ] in
-      stuck (Event.Finish p) (completed job state p) refl (there, e, read, stored, record { lanes = λ _ l b _ _. lanes_clean l b; agent = λ _ b. agents_clean (agent_of job p) b }, refl))
+      stuck (Event.Finish p) (completed job state p) refl (there, e, read, stored, record { lanes = λ _ l b _ _. lanes_clean job state pushable stuck l b; agent = λ _ b. agents_clean job state pushable stuck (agent_of job p) b }, refl))
     where
+      there : IsPacket job p
+      there = may.is_packet
+
       earlier : (q : ℕ) → Earlier job q p → state.phase q ≡ Complete
-      earlier q f = h q (order.queues q p f)
+      earlier q f = done_complete q (may.queues q f)
 
-  complete_below : (k p : ℕ) → IsPacket job p → place list p < k → state.phase p ≡ Complete
-  complete_below zero p there l = absurd (omega arith)
-  complete_below (suc k) p there l = no_wait p there (λ e m. complete_below k e (packet_at e (omega arith)) (omega arith))
-    where
-      packet_at : (e : ℕ) → place list e < length list → IsPacket job e
-      packet_at e i = place_of_packets (IsPacket job) list e order.each_once.packets i
+  none_comes : (p : ℕ) → MayCome job done p → ⊥
+  none_comes p may = may.new (complete_done p may.is_packet (no_wait p may))
 
-  complete : (p : ℕ) → IsPacket job p → state.phase p ≡ Complete
-  complete p there = complete_below (suc (place list p)) p there (omega arith)
+  -- what isn't complete is stuck
+  left_stuck : (p : ℕ) → IsLeft job done p → StuckSet job (left_of job done)
+  left_stuck p i = record {
+    some = omega (arith, i);
+    packets = left_packets job done;
+    blocked = λ r j. elim (comes_or_blocked job done r (place_of_packets (λ q. IsPacket job q) (left_of job done) r (left_packets job done) j) (left_out job done r j)) [
+      | inl may ↦ absurd (none_comes r may)
+      | inr blocked ↦ blocked
+    ];
+  }
 
-  pub over : IsOver job state
-  over = record { complete = complete; lanes_clean = lanes_clean; agents_clean = agents_clean }
+  pub complete_or_stuck : (p : ℕ) → IsPacket job p → (state.phase p ≡ Complete) ⊎ ((set : List ℕ) × StuckSet job set × In set p)
+  complete_or_stuck p there = elim (in_or_not done p) [
+    | inl i ↦ inl (done_complete p i)
+    | inr o ↦ let left = left_in job done p there o in inr (left_of job done, left_stuck p left, left)
+  ]
 
-pub is_over : (job : Job) (list : List ℕ) (events : List Event) (state : State) → Valid job → OrderList job list → Steps job (start job) events state → NoWorkLeft job state → IsOver job state
-is_over job list events state valid order run stuck =
-    over job list valid order state (kept_steps job (start job) events state valid.balanced (kept_start job) run) (pushable_steps job (start job) events state valid (pushable_start job) run) (waits_for_rings job events state run) stuck
+pub ended : (job : Job) (events : List Event) (state : State) → Valid job → Run job events state → NoWorkLeft job state → (p : ℕ) → IsPacket job p → (state.phase p ≡ Complete) ⊎ Stuck job p
+ended job events state valid run stuck = complete_or_stuck job valid state (kept_steps job (start job) events state valid.balanced (kept_start job) run) (pushable_steps job (start job) events state valid (pushable_start job) run) (waits_for_rings job events state run) stuck
+
+pub standstill_law : StandstillLaw
+standstill_law job events state valid run stuck p there = (
+  λ complete held. stuck_law job held.0 events state valid held.1 run p held.2 complete,
+  λ free. elim (ended job events state valid run stuck p there) [
+    | inl complete ↦ complete
+    | inr held ↦ absurd (free held)
+  ],
+)
 
 pub finish_law : FinishLaw
-finish_law job list events state valid order run stuck = is_over job list events state valid order run stuck
+finish_law job list events state valid order run stuck = record {
+  complete = λ p there. elim (ended job events state valid run stuck p there) [
+    | inl complete ↦ complete
+    | inr held ↦ absurd (none_where_stuck job list held.0 order held.1)
+  ];
+  lanes_clean = lanes_clean job state (pushable_steps job (start job) events state valid (pushable_start job) run) stuck;
+  agents_clean = agents_clean job state (pushable_steps job (start job) events state valid (pushable_start job) run) stuck;
+}

@@ -1,7 +1,7 @@
--- Runs that come to their end: none stops before it where an order list exists.
-use Rattle.std.specs.Prelude.{◌≡◌, ℕ, false, List}
+-- How runs end: none stops while a packet that isn't stuck could go on.
+use Rattle.std.specs.Prelude.{◌≡◌, ℕ, ◌↔◌, false, List}
 use Rattle.hq_model.specs.Job.{Job, IsPacket}
-use Rattle.hq_model.specs.Order.{OrderList}
+use Rattle.hq_model.specs.Order.{OrderList, Stuck}
 use Rattle.hq_model.specs.Machine.{State, Event, Run, NoWorkLeft, is_dirty}
 use Rattle.hq_model.specs.Machine.Phase.{Complete}
 use Rattle.hq_model.specs.Theorems.{Valid}
@@ -12,8 +12,14 @@ pub record IsOver (job : Job) (state : State) : Type 0 where
   pub lanes_clean : (p b : ℕ) → is_dirty (state.lane p b) ≡ false
   pub agents_clean : (a b : ℕ) → is_dirty (state.agent a b) ≡ false
 
+-- A run that no work is left to has completed exactly the packets that stand in no stuck set: so these, and no others,
+-- can complete. As the work steps of a run are at most the bound, every run gets there, whatever its steps are.
+abbrev pub StandstillLaw : Type 0
+StandstillLaw = (job : Job) (events : List Event) (state : State) → Valid job → Run job events state → NoWorkLeft job state
+    → (p : ℕ) → IsPacket job p → ((state.phase p ≡ Complete) ↔ (Stuck job p → ⊥))
+
 -- Where an order list exists there is no deadlock, whether or not the job's conflicts are ordered: a run that no work
--- is left to is over. As the work steps of a run are at most the bound, each run gets there, whatever its steps are.
+-- is left to is over.
 abbrev pub FinishLaw : Type 0
 FinishLaw = (job : Job) (list : List ℕ) (events : List Event) (state : State) → Valid job → OrderList job list
     → Run job events state → NoWorkLeft job state → IsOver job state

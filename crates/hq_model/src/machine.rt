@@ -3,7 +3,7 @@
 ghost use Rattle.hq_model.specs.Theorems.{StepsDetermined, WithoutRings, OrderLaw, SignalLaw, BoundLaw, StuckLaw};
 ghost use Rattle.hq_model.specs.Theorems.{CompletePossible, JournalsRun};
 ghost use Rattle.hq_model.specs.Moves.{CopiesMoveAlways, FillsUnseenAlways, PushesWriteAlways, FenceLaw};
-ghost use Rattle.hq_model.specs.Finishing.{FinishLaw};
+ghost use Rattle.hq_model.specs.Finishing.{FinishLaw, StandstillLaw};
 ghost use Rattle.hq_model.specs.Journal.{CoarseLaw};
 ghost use Rattle.hq_model.specs.Readied.{CompletionReached, EntryReadied};
 ghost use Rattle.hq_model.specs.Origins.{OriginsTell, RunsHaveOrigins};
@@ -56,6 +56,11 @@ pub fn bound_law()
 /// In no run does a packet of a stuck set complete.
 pub fn stuck_law()
     ensures { StuckLaw }
+{}
+
+/// A run that no work is left to has completed exactly the packets that stand in no stuck set.
+pub fn standstill_law()
+    ensures { StandstillLaw }
 {}
 
 /// Where an order list exists, a run that no work is left to is over: every packet is complete, and nothing is dirty.
