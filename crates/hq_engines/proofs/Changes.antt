@@ -8,7 +8,7 @@ use Rattle.hq_job.specs.Rewritten.{heads_of}
 use Rattle.hq_job.specs.declared.rows.Placed.{Placed}
 use Rattle.hq_model.specs.Job.{Job}
 use Rattle.hq_model.specs.Settings.{SameButHeads, highest}
-use Rattle.hq_model.specs.Theorems.{Valid, StuckLaw}
+use Rattle.hq_model.specs.Theorems.{Valid}
 use Rattle.hq_model.proofs.SettingsKept.{heads_leave_valid}
 use Rattle.hq_model.proofs.SettingsSteps.{highest_is_highest}
 use Rattle.hq_text.specs.Intake.{OfText}
@@ -23,7 +23,7 @@ use Rattle.hq_job.specs.declared.fault.Reason.TheVariants as reason
 use Rattle.hq_job.proofs.NotRead.{not_read}
 use Rattle.hq_audit.specs.Refused.{IsRefused}
 use Rattle.hq_audit.specs.declared.fault.AuditNo.{AuditNo}
-use Rattle.hq_engines.specs.Audit.{NoSaid}
+use Rattle.hq_engines.specs.Audit.{StuckExactly, NoSaid}
 use Rattle.hq_engines.specs.Change.{ChangeReport, IsChanged, TellsChange, TellsText, judged_job}
 use Rattle.hq_engines.specs.Change.ChangeReport.{not_ordered}
 use Rattle.hq_engines.specs.Reports.{IsUnread, JobTextReport, NoJob, OfReader, ReaderReport, Reported, SaysNoJob}
@@ -61,7 +61,7 @@ judged_valid : (a : Aim) (job : Job) → Valid job → Valid (judged_job a job)
 judged_valid aim.Fix job valid = (heads_leave_valid job (highest job) (highest_is_highest job job refl).same).0 valid
 judged_valid aim.Trim job valid = valid
 
-pub no_change : StuckLaw → (a : Aim) (text : List ℕ) (job : JobValue) → Valid (plan job) → (refusal : AuditNo) (was is : Option (List ℕ)) (answered : Status) → IsRefused (judged_job a (plan job)) refusal → NoSaid refusal was is answered → Reported (ChangeReport a text job) was is answered
+pub no_change : StuckExactly → (a : Aim) (text : List ℕ) (job : JobValue) → Valid (plan job) → (refusal : AuditNo) (was is : Option (List ℕ)) (answered : Status) → IsRefused (judged_job a (plan job)) refusal → NoSaid refusal was is answered → Reported (ChangeReport a text job) was is answered
 no_change law a text job valid refusal was is answered refused said =
     let r = no_reported law (judged_job a (plan job)) (judged_valid a (plan job) valid) refusal was is answered refused said in
     (r.0, r.1, not_ordered r.2, r.3)

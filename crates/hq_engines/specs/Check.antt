@@ -89,7 +89,7 @@ abbrev pub SaysNoCertificate : CertFault → Option (List ℕ) → Option (List 
 SaysNoCertificate fault old new answered =
     ((fault.reason ≡ reason.Memory) × Said old new (with_feed (codes "out of memory")) Memory answered)
     ⊎ ((¬ (fault.reason ≡ reason.Memory))
-        × Said old new (with_feed (cert_refusal fault)) (CertificateRefused fault) answered)
+    × Said old new (with_feed (cert_refusal fault)) (CertificateRefused fault) answered)
 
 abbrev pub NoSaid : CheckNo → Option (List ℕ) → Option (List ℕ) → Status → Type 0
 NoSaid refusal old new answered = Said old new (with_feed (refusal_text refusal)) (refusal_status refusal) answered

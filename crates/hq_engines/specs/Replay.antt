@@ -63,7 +63,7 @@ abbrev pub SaysNoTimeline : TimeFault → Option (List ℕ) → Option (List ℕ
 SaysNoTimeline fault old new answered =
     ((fault.reason ≡ reason.Memory) × Said old new (with_feed (codes "out of memory")) Memory answered)
     ⊎ ((¬ (fault.reason ≡ reason.Memory))
-        × Said old new (with_feed (time_refusal fault)) (TimelineRefused fault) answered)
+    × Said old new (with_feed (time_refusal fault)) (TimelineRefused fault) answered)
 
 -- why the events don't all happen is written
 abbrev pub StopSaid : ReplayFault → Option (List ℕ) → Option (List ℕ) → Status → Type 0

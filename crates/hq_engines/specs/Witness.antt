@@ -67,7 +67,7 @@ witness_text job w = lines_text w.p w.r w.kind (difference_of job w)
 pub data WitnessReport (job : JobValue) : List ℕ → List ℕ → List ℕ → Status → Type 0 where
   shown : (w : WitnessValue) → IsWitness (plan job) w
       → WitnessReport job (text_of w.good) (text_of w.bad) (with_feed (witness_text job w))
-        (Shown (difference_of job w))
+      (Shown (difference_of job w))
   ordered : Ordered (plan job) → WitnessReport job [] [] (with_feed (codes "ordered")) Done
   not_ordered : {out : List ℕ} {status : Status} → NotOrdered (plan job) out status → WitnessReport job [] [] out status
   broken : (w : WitnessValue) → IsWitness (plan job) w

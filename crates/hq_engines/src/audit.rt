@@ -6,6 +6,7 @@ ghost use Rattle.hq_job.specs.Plan.{plan};
 ghost use Rattle.hq_engines.specs.Audit.{JobReport, NoSaid, conflict_text};
 ghost use Rattle.hq_engines.specs.Reports.{JobTextReport, ReaderReport, Reported, Said, with_feed};
 
+use crate::laws::stuck_exactly;
 use crate::saying::{say, say_memory};
 use crate::status::Status;
 use crate::stuck::say_stuck;
@@ -14,7 +15,6 @@ use hq_audit::{AuditNo, audit};
 use hq_cert::{Certificate, PrintFault, print};
 use hq_fence::{Kind, Why};
 use hq_job::Job;
-use hq_model::machine::stuck_law;
 use std::alloc::Global;
 use std::fmt;
 use std::io::{Read, Write};
@@ -75,7 +75,7 @@ fn audit_found<W: Write>(alloc: Global, writer: &mut W, job: &Job) -> Status
     ensures { Reported (JobReport (plan job.now)) (W.contents writer.old) (W.contents writer.new) result }
 {
     job.valid();
-    stuck_law();
+    stuck_exactly();
     match audit(alloc, job) {
         Ok(certificate) => say_certificate(alloc, writer, &certificate),
         Err(no) => say_no_certificate(writer, no),

@@ -7,13 +7,13 @@ ghost use Rattle.hq_engines.specs.Audit.{JobReport};
 ghost use Rattle.hq_engines.specs.Reports.{JobTextReport, ReaderReport, Reported, Said, with_feed};
 
 use crate::audit::say_no_certificate;
+use crate::laws::stuck_exactly;
 use crate::saying::say_memory;
 use crate::status::Status;
 use crate::taking::take_job;
 use hq_audit::audit_wide;
 use hq_cert::{Certificate, PrintFault, print_wide};
 use hq_job::Job;
-use hq_model::machine::stuck_law;
 use std::alloc::Global;
 use std::io::{Read, Write};
 use std::thread::Threads;
@@ -46,7 +46,7 @@ fn audit_found<R: Threads + Sync, W: Write>(
     ensures { Reported (JobReport (plan job.now)) (W.contents writer.old) (W.contents writer.new) result }
 {
     job.valid();
-    stuck_law();
+    stuck_exactly();
     match audit_wide(rt, alloc, job) {
         Ok(certificate) => say_certificate(rt, alloc, writer, &certificate),
         Err(no) => say_no_certificate(writer, no),

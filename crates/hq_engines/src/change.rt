@@ -11,13 +11,13 @@ ghost use Rattle.hq_engines.specs.Change.{ChangeReport, IsChanged, TellsChange, 
 ghost use Rattle.hq_engines.specs.Reports.{JobTextReport, OfReader, ReaderReport, Reported};
 
 use crate::audit::say_no_certificate;
+use crate::laws::stuck_exactly;
 use crate::saying::say_text;
 use crate::status::Status;
 use crate::taking::{let_go, take_job_text};
 use hq_audit::AuditNo;
 use hq_change::{Watch, fix, trim};
 use hq_job::{Job, rewrite};
-use hq_model::machine::stuck_law;
 use hq_packet::Head;
 use std::alloc::{AllocError, Global};
 use std::io::{Read, Write};
@@ -126,7 +126,7 @@ fn change_found<W: Write>(
     ensures told { IfSome result.1 (λ it. TellsChange aim job.now it) }
 {
     job.valid();
-    stuck_law();
+    stuck_exactly();
     match text_changed(alloc, text, job, aim, watch) {
         Ok((new, changed)) => (say_text(writer, &new), Some(changed)),
         Err(no) => (say_no_certificate(writer, no), None),

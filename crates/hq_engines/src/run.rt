@@ -12,13 +12,13 @@ ghost use Rattle.hq_engines.specs.Run.{BothSaid, Recorded, RunReport, contents_i
 use crate::accepting::accept;
 use crate::audit::say_no_certificate;
 use crate::buffers::buffers_text_of;
+use crate::laws::stuck_exactly;
 use crate::saying::{say, say_file, say_memory, say_text};
 use crate::status::{RunFailure, Status};
 use hq_certcheck::Accepted;
 use hq_job::Job;
 use hq_kernels::Kit;
 use hq_machine::Journal;
-use hq_model::machine::stuck_law;
 use hq_runner::{Gate, RunFault, run};
 use hq_timeline::{PrintFault, print};
 use std::alloc::Global;
@@ -157,7 +157,7 @@ pub fn run_engine<R: Threads + Wait + Sync, G: Gate, T: Write, W: Write>(
         (W.contents writer.old) (W.contents writer.new) result }
 {
     job.valid();
-    stuck_law();
+    stuck_exactly();
     match accept(rt, alloc, job) {
         Ok(accepted) => run_accepted(rt, alloc, &accepted, kits, gate, timeline, writer),
         Err(no) => say_no_certificate(writer, no),

@@ -11,6 +11,7 @@ ghost use Rattle.hq_engines.specs.Witness.{Witnessed, WitnessReport, byte_text, 
 ghost use Rattle.hq_engines.specs.Witness.{lines_text, origin_text, pair_text, place_text, spot_at, witness_text};
 
 use crate::audit::say_no_certificate;
+use crate::laws::stuck_exactly;
 use crate::run::write_timeline;
 use crate::saying::{say, say_file, say_memory};
 use crate::status::{Difference, Status};
@@ -18,7 +19,6 @@ use hq_audit::AuditNo;
 use hq_explain::{Spot, spot_of};
 use hq_fence::Kind;
 use hq_job::Job;
-use hq_model::machine::stuck_law;
 use hq_timeline::PrintFault;
 use hq_witness::{Origin, Place, Witness, WitnessNo, witness};
 use std::alloc::Global;
@@ -269,7 +269,7 @@ pub fn witness_engine<T: Write, W: Write>(
         }) result }
 {
     job.valid();
-    stuck_law();
+    stuck_exactly();
     match witness(alloc, job) {
         Ok(witness) => say_witness(alloc, good, bad, writer, job, &witness),
         Err(fault) => match refusal_of(fault) {

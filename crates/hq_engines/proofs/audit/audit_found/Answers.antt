@@ -7,4 +7,4 @@ returns-in-Ok g c = certificate_reported (plan c.args.job.now) c.in-Ok.certifica
 
 pub returns-in-Err : goal.returns-in-Err
 returns-in-Err g c =
-    no_certificate (plan c.args.job.now) _ _ c.say_no_certificate.result (no_reported c.stuck_law.ensures (plan c.args.job.now) c.valid.ensures.valid c.in-Err.no _ _ c.say_no_certificate.result c.in-Err.ensures.refused c.say_no_certificate.ensures)
+    no_certificate (plan c.args.job.now) _ _ c.say_no_certificate.result (no_reported c.stuck_exactly.ensures (plan c.args.job.now) c.valid.ensures.valid c.in-Err.no _ _ c.say_no_certificate.result c.in-Err.ensures.refused c.say_no_certificate.ensures)

@@ -17,4 +17,4 @@ returns-in-Ok-clause-report g c =
 
 pub returns-in-Err-clause-report : goal.returns-in-Err-clause-report
 returns-in-Err-clause-report g c =
-    no_change c.stuck_law.ensures c.args.aim c.args.text.now c.args.job.now c.valid.ensures.valid c.in-Err.no _ _ c.say_no_certificate.result c.in-Err.ensures.refused c.say_no_certificate.ensures
+    no_change c.stuck_exactly.ensures c.args.aim c.args.text.now c.args.job.now c.valid.ensures.valid c.in-Err.no _ _ c.say_no_certificate.result c.in-Err.ensures.refused c.say_no_certificate.ensures

@@ -7,4 +7,4 @@ use Rattle.hq_engines.proofs.run.run_engine.Goals as goal
 pub returns-in-Err : goal.returns-in-Err
 returns-in-Err g c =
     not_ordered_reported c.args.job _ _ _ _ c.say_no_certificate.result refl
-    (no_reported c.stuck_law.ensures (plan c.args.job) c.valid.ensures.valid c.in-Err.no _ _ c.say_no_certificate.result c.in-Err.ensures.refused c.say_no_certificate.ensures)
+    (no_reported c.stuck_exactly.ensures (plan c.args.job) c.valid.ensures.valid c.in-Err.no _ _ c.say_no_certificate.result c.in-Err.ensures.refused c.say_no_certificate.ensures)
