@@ -44,7 +44,7 @@ fences_words (ForWriteWriteChained x x2 from link on) = codes "wwc" ∷ decimal 
     ∷ decimal link ∷ decimal on ∷ []
 fences_words (ForWriteReadChained x x2 y2 y from link between link2 to) =
     codes "wrc" ∷ decimal x ∷ decimal x2 ∷ decimal y2 ∷ decimal y ∷ citation_word from ∷ citation_word link
-        ∷ decimal between ∷ citation_word link2 ∷ citation_word to ∷ []
+    ∷ decimal between ∷ citation_word link2 ∷ citation_word to ∷ []
 
 -- `pair P R` and the fences
 abbrev pub pair_words : model.Pair → List (List ℕ)

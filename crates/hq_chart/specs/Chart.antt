@@ -67,7 +67,7 @@ outline_text from to y = codes "M" ++ decimal from ++ codes "0 " ++ decimal y ++
 abbrev pub bar_text : Phase → Outline → ShownPacket → List ℕ
 bar_text which outline shown =
     codes "<path class='" ++ phase_word which ++ codes "' d='" ++ outline_text outline.from outline.to outline.y
-        ++ codes "'><title>" ++ told shown ++ codes "</title></path>\n"
+    ++ codes "'><title>" ++ told shown ++ codes "</title></path>\n"
 
 abbrev pub mark_text : Mark → ℕ → ℕ → List ℕ
 mark_text mark.Sees at y = codes "<path d='M" ++ decimal at ++ codes "0 " ++ decimal y ++ codes "v-7'/>\n"

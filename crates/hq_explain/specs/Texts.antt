@@ -184,10 +184,10 @@ why_line why.Unordered p r = codes "  nothing puts one before the other of packe
     ++ decimal r ++ codes "\n"
 why_line why.NotReleased p r =
     codes "  nothing between them releases what packet " ++ decimal p ++ codes " wrote, as far as packet " ++ decimal r
-        ++ codes "\n"
+    ++ codes "\n"
 why_line why.NotAcquired p r =
     codes "  packet " ++ decimal p ++ codes " is released, but nothing after that acquires for packet " ++ decimal r
-        ++ codes "\n"
+    ++ codes "\n"
 
 -- ---- what would order them
 

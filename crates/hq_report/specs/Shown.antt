@@ -64,7 +64,7 @@ abbrev pub head_text : Packet → List ℕ
 head_text p =
     let head = head_of p in
     (if head.barrier then codes "bit" else codes "-") ++ codes " " ++ scope_word head.acquire ++ codes " "
-        ++ scope_word head.release
+    ++ scope_word head.release
     ++ codes " " ++ decimal (completion_of p)
 
 -- a packet apart from its place: its kind, its head, and what it does
