@@ -33,8 +33,8 @@ abbrev pub conflict_text : ℕ → ℕ → Kind → Why → List ℕ
 conflict_text p r kind why = codes "conflict " ++ decimal p ++ codes " " ++ decimal r ++ codes " " ++ kind_name kind
     ++ codes " " ++ why_name why
 
--- Exactly the packets that can never complete: in no run does one of them, and in each run that no work is left to all
--- others have.
+-- Packets that can never complete: in no run does one of them, and in each run that no work is left to all others
+-- have.
 pub record NeverComplete (job : Job) (packets : List ℕ) : Type 0 where
   pub stuck : AreStuck job packets
   pub never : (p : ℕ) → In packets p → (events : List Event) (state : State) → Run job events state

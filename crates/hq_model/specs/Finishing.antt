@@ -12,8 +12,8 @@ pub record IsOver (job : Job) (state : State) : Type 0 where
   pub lanes_clean : (p b : ℕ) → is_dirty (state.lane p b) ≡ false
   pub agents_clean : (a b : ℕ) → is_dirty (state.agent a b) ≡ false
 
--- A run that no work is left to has completed exactly the packets that stand in no stuck set: so these, and no others,
--- can complete. As the work steps of a run are at most the bound, every run gets there, whatever its steps are.
+-- A run that no work is left to has completed exactly the packets that stand in no stuck set. That each run can be taken
+-- so far isn't said here; the bound says that it has no more work steps than so many.
 abbrev pub StandstillLaw : Type 0
 StandstillLaw = (job : Job) (events : List Event) (state : State) → Valid job → Run job events state → NoWorkLeft job state
     → (p : ℕ) → IsPacket job p → ((state.phase p ≡ Complete) ↔ (Stuck job p → ⊥))
