@@ -18,7 +18,10 @@ use Rattle.hq_engines.specs.declared.status.Status.TheVariants as status
 never_complete : StuckExactly → (job : Job) → Valid job → (packets : List ℕ) → AreStuck job packets → NeverComplete job packets
 never_complete law job valid packets are = record {
   stuck = are;
-  never = λ p inside events state run. let set = (are.stuck p).0 inside in law.0 job set.0 events state valid set.1 run p set.2;
+  never = λ p there. (
+    λ inside. (law.0 job valid p there).0 ((are.stuck p).0 inside),
+    λ none. (are.stuck p).1 ((law.0 job valid p there).1 none),
+  );
   others = λ p there out events state run over. (law.1 job events state valid run over p there).1 (λ held. out ((are.stuck p).1 held));
 }
 

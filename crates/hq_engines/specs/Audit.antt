@@ -1,12 +1,11 @@
 -- What `audit` writes.
-use Rattle.std.specs.Prelude.{ℕ, ◌≡◌, ◌≢◌, List, [], ◌∷◌, ◌++◌, Option, codes}
+use Rattle.std.specs.Prelude.{ℕ, ◌≡◌, ◌≢◌, ◌↔◌, List, [], ◌∷◌, ◌++◌, Option, codes}
 use Rattle.std.specs.Fmt.{decimal}
 use Rattle.hq_model.specs.Job.{Job, IsPacket}
 use Rattle.hq_model.specs.Order.{In}
 use Rattle.hq_model.specs.Machine.{Event, State, Run, NoWorkLeft}
 use Rattle.hq_model.specs.Machine.Phase.{Complete}
-use Rattle.hq_model.specs.Theorems.{StuckLaw}
-use Rattle.hq_model.specs.Finishing.{StandstillLaw}
+use Rattle.hq_model.specs.Finishing.{StandstillLaw, StuckExact}
 use Rattle.hq_model.specs.Certificate.{Certificate, CertHolds}
 use Rattle.hq_order.specs.Placing.{AreStuck}
 use Rattle.hq_fence.specs.Names.{kind_name, why_name}
@@ -33,18 +32,18 @@ abbrev pub conflict_text : ℕ → ℕ → Kind → Why → List ℕ
 conflict_text p r kind why = codes "conflict " ++ decimal p ++ codes " " ++ decimal r ++ codes " " ++ kind_name kind
     ++ codes " " ++ why_name why
 
--- Packets that can never complete: in no run does one of them, and in each run that no work is left to all others
--- have.
+-- Exactly the packets that can never complete, those that no run completes; each run that no work is left to has
+-- completed all others.
 pub record NeverComplete (job : Job) (packets : List ℕ) : Type 0 where
   pub stuck : AreStuck job packets
-  pub never : (p : ℕ) → In packets p → (events : List Event) (state : State) → Run job events state
-      → state.phase p ≢ Complete
+  pub never : (p : ℕ) → IsPacket job p
+      → (In packets p ↔ ((events : List Event) (state : State) → Run job events state → state.phase p ≢ Complete))
   pub others : (p : ℕ) → IsPacket job p → (In packets p → ⊥) → (events : List Event) (state : State)
       → Run job events state → NoWorkLeft job state → state.phase p ≡ Complete
 
 -- so it is with stuck packets in every job
 abbrev pub StuckExactly : Type 0
-StuckExactly = StuckLaw × StandstillLaw
+StuckExactly = StuckExact × StandstillLaw
 
 -- What is written of a job that isn't shown to be ordered: the packets that can never complete, where there is no
 -- order list; or the first conflict that isn't ordered; or that memory ran out.

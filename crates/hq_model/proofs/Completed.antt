@@ -21,7 +21,7 @@ and≢work kind e f = grind arith
 pub or≢work : (kind : Kind) → kind ≡ BarrierOr → kind ≢ Work
 or≢work kind e f = grind arith
 
-and≢or : (kind : Kind) → kind ≡ BarrierAnd → kind ≢ BarrierOr
+pub and≢or : (kind : Kind) → kind ≡ BarrierAnd → kind ≢ BarrierOr
 and≢or kind e f = grind arith
 
 -- ---- signals

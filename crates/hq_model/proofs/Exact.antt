@@ -1,5 +1,5 @@
 -- What holds a packet back is exactly what every run completes before it; and where the order relation says just that.
-use Rattle.std.proofs.Common.{◌≡◌, ℕ, zero, suc, ◌<◌, ◌≢◌, inl, inr, List, ◌∷◌, sym, subst, arith, lt_trans, false}
+use Rattle.std.proofs.Common.{◌≡◌, ℕ, zero, suc, ◌<◌, ◌≢◌, inl, inr, List, ◌∷◌, sym, subst, arith, false}
 use Rattle.std.proofs.lemmas.Bool.{cases_eq}
 use Rattle.hq_model.specs.Job.{Job, IsPacket, Decrements}
 use Rattle.hq_model.specs.Order.{Before, Branch, In, Ahead, place}

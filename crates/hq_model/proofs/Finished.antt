@@ -1,5 +1,5 @@
 -- What a completion waits for can be written back.
-use Rattle.std.proofs.Common.{◌≡◌, ℕ, suc, ◌<◌, ◌≢◌, inl, inr, IsTrue, IsSome, List, [], ◌∷◌, length, map, filter, refl, sym, ◌∙◌, ap, subst, arith, Bool, true, false, cond, ◌==◌, Option, Some, None, slice_index, AllPairs}
+use Rattle.std.proofs.Common.{◌≡◌, ℕ, suc, ◌<◌, ◌≢◌, inl, inr, IsTrue, IsSome, List, [], ◌∷◌, length, map, filter, refl, sym, ◌∙◌, ap, subst, arith, Bool, true, false, ◌==◌, Option, Some, None, AllPairs}
 use Rattle.std.proofs.lemmas.Bool.{cases_eq, cases_Bool, cond-true, cond-false, eq-eqb, true≢false}
 use Rattle.std.proofs.lemmas.List.Kept.{AllPairs-filter}
 use Rattle.hq_model.specs.Job.{Job, packet, IsPacket, agent_of}
@@ -9,9 +9,9 @@ use Rattle.hq_model.specs.Order.{In, place}
 use Rattle.hq_model.specs.Machine.{State, Copy, Event, Step, Steps, IsByte, Released, is_dirty, without_clean, clean, dirty, put2, start, completed}
 use Rattle.hq_model.specs.Machine.Event.{Submit, Launch, Observe, Enter, Read, Store, PushLane, PushAgent, FillLane, FillAgent, DropLane, DropAgent}
 use Rattle.hq_model.specs.Journal.{numbers, packets_of, dirty_bytes, lane_pushes, agent_pushes, only_if}
-use Rattle.hq_model.specs.Theorems.{Valid, CompletePossible}
+use Rattle.hq_model.specs.Theorems.{CompletePossible}
 use Rattle.hq_model.proofs.Places.{at_place, place_of_packets, numbers_below, numbers_once, in_first, in_rest, in_cons, in_filter, in_numbers}
-use Rattle.hq_model.proofs.Sums.{put2_same, put2_other}
+use Rattle.hq_model.proofs.Sums.{put2_other}
 use Rattle.hq_model.proofs.Journals.{steps_append}
 use Rattle.hq_model.proofs.Finishing.{Pushable, pushable_steps, pushable_start}
 use Rattle.hq_model.proofs.Rested.{Each, is_lane_push, is_agent_push, lanes_pushed, agents_pushed, agent_phases, each_lane_push, each_agent_push, dirty_stands, not_dirty, stands_flat, stands_map}

@@ -1,7 +1,7 @@
 -- A run that no work is left to has completed all but what is stuck.
 use Rattle.std.proofs.Common.{◌≡◌, ℕ, zero, suc, ◌<◌, ◌≢◌, ◌⊎◌, inl, inr, is_some, filter, List, [], ◌∷◌, length, refl, sym, ◌∙◌, ap, subst, arith, Bool, true, false, cond, Option, Some, None, slice_index, lt_trans}
 use Rattle.std.proofs.lemmas.List.Elements.{filter_passes}
-use Rattle.std.proofs.lemmas.Bool.{cases_eq, cases_Bool, cond-true, cond-false, true≢false}
+use Rattle.std.proofs.lemmas.Bool.{cases_eq, cases_Bool, cond-false, true≢false}
 use Rattle.hq_model.specs.Job.{Job, Kind, packet, IsPacket, Earlier, Dependency, Decrements, IsBarrier, agent_of, completes_on}
 use Rattle.hq_model.specs.Job.Kind.{Work, BarrierAnd, BarrierOr}
 use Rattle.hq_model.specs.Order.{place, In, Ahead, FreesFor, StuckSet, Stuck}
@@ -10,7 +10,7 @@ use Rattle.hq_model.specs.Machine.{State, Copy, Phase, Event, Step, Steps, Run, 
 use Rattle.hq_model.specs.Machine.Phase.{Waiting, InQueue, Launched, Active, Complete}
 use Rattle.hq_model.specs.Machine.Event.{Submit, Launch, Observe, Enter, Read, Store, PushLane, PushAgent, FillLane, FillAgent, DropLane, DropAgent}
 use Rattle.hq_model.specs.Theorems.{Valid}
-use Rattle.hq_model.specs.Finishing.{IsOver, StandstillLaw, FinishLaw}
+use Rattle.hq_model.specs.Finishing.{StandstillLaw, FinishLaw}
 use Rattle.hq_model.proofs.Sums.{sum_same, put2_same, put2_other}
 use Rattle.hq_model.proofs.Places.{place_of_packets, in_or_not, in_filter, in_numbers}
 use Rattle.hq_model.proofs.Schedule.{IsLeft, left_in, left_out, left_packets, comes_or_blocked}
@@ -20,11 +20,11 @@ use Rattle.hq_model.proofs.NoRings.{waits_for_rings}
 use Rattle.hq_model.proofs.Kept.{KeptBy, signal_of, is_complete, count_at, one_at, decrementers_are, kept_start, kept_steps}
 use Rattle.hq_model.proofs.Bound as bounds
 
-dirty_is : (copy : Option Copy) → is_dirty copy ≡ true → (v : ℕ) × (copy ≡ dirty v)
+pub dirty_is : (copy : Option Copy) → is_dirty copy ≡ true → (v : ℕ) × (copy ≡ dirty v)
 dirty_is None e = absurd (true≢false (sym e))
 dirty_is (Some c) e = (c.value, λ i. Some (record { value = c.value; dirty = e i }))
 
-not_dirty : (copy : Option Copy) → (is_dirty copy ≡ true → ⊥) → is_dirty copy ≡ false
+pub not_dirty : (copy : Option Copy) → (is_dirty copy ≡ true → ⊥) → is_dirty copy ≡ false
 not_dirty copy h = elim (cases_Bool (is_dirty copy)) [ inl e ↦ absurd (h e) | inr e ↦ e ]
 
 and≢work : (kind : Kind) → kind ≡ BarrierAnd → kind ≢ Work
@@ -40,7 +40,7 @@ phase_is Launched w a b c = absurd (b refl)
 phase_is Active w a b c = absurd (c refl)
 phase_is Complete w a b c = refl
 
-some_of : (o : Option ℕ) → (o ≡ None → ⊥) → is_some o ≡ true
+pub some_of : (o : Option ℕ) → (o ≡ None → ⊥) → is_some o ≡ true
 some_of None h = absurd (h refl)
 some_of (Some x) h = refl
 

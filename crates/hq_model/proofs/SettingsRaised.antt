@@ -10,7 +10,7 @@ use Rattle.hq_model.specs.Order.Branch.{itself, after}
 use Rattle.hq_model.specs.Fence.{Conflict, FenceReaches, SameOrBefore, Releases, Acquires, Forwards, Release, Acquire, ShownFor, Shown, Ordered, need}
 use Rattle.hq_model.specs.Fence.Conflict.{WriteRead, WriteWrite, ReadWrite}
 use Rattle.hq_model.specs.Settings.{head_of, HeadRaises, Raises, RaisingOrders, RaisingShows, RaisedIsOrdered, RefusedStaysRefused}
-use Rattle.hq_model.proofs.SettingsKept.{SamePackets, with_packets, packets_same, other_is, queue_kept, kind_kept, is_packet_kept, agent_kept, earlier_kept, dependency_kept, decrements_kept, bit_kept, queue_rule_kept, and_kept, any_kept, conflicts_kept, need_kept, order_list_kept}
+use Rattle.hq_model.proofs.SettingsKept.{SamePackets, with_packets, packets_same, other_is, queue_kept, is_packet_kept, agent_kept, dependency_kept, decrements_kept, bit_kept, queue_rule_kept, and_kept, any_kept, conflicts_kept, need_kept, order_list_kept}
 
 pub reaches_on : (a b c : Scope) → IsTrue (reaches a b) → IsTrue (reaches b c) → IsTrue (reaches a c)
 reaches_on a b scope.None f g = refl

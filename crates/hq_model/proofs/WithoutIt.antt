@@ -1,7 +1,7 @@
 -- Runs that come as far as they can while one packet never begins.
 use Rattle.std.proofs.Common.{◌≡◌, ℕ, zero, suc, ◌<◌, ◌≤◌, ◌≢◌, ◌⊎◌, inl, inr, IsTrue, List, [], ◌∷◌, ◌++◌, length, refl, sym, ◌∙◌, ap, subst, arith, Bool, false, not, ◌&&◌, eqb}
-use Rattle.std.proofs.lemmas.Bool.{cases_eq, cases_Bool, true≢false, and_from, and_parts, ne_eqb, eq-eqb, not-true, not_from_false}
-use Rattle.hq_model.specs.Job.{Job, Kind, packet, IsPacket, Earlier, Dependency, Decrements, IsBarrier}
+use Rattle.std.proofs.lemmas.Bool.{cases_eq, true≢false, and_from, and_parts, ne_eqb, eq-eqb, not-true, not_from_false}
+use Rattle.hq_model.specs.Job.{Job, Kind, packet, IsPacket, Earlier, Dependency, Decrements}
 use Rattle.hq_model.specs.Job.Kind.{Work, BarrierAnd, BarrierOr}
 use Rattle.hq_model.specs.Order.{ByBit, ByQueue, In}
 use Rattle.hq_model.specs.Machine.{State, Phase, Event, Run, MayLaunch, is_launched, first_phase, start, with_phase}
@@ -14,14 +14,16 @@ use Rattle.hq_model.specs.HoldsBack.NeedsOneOf.{for_bit, for_queue, for_and, for
 use Rattle.hq_model.proofs.Sums.{sum_one, put_same, put_other}
 use Rattle.hq_model.proofs.Orders.{earlier_packet}
 use Rattle.hq_model.proofs.Places.{in_first, in_rest, in_cons, in_filter, in_numbers}
-use Rattle.hq_model.proofs.Kept.{KeptBy, kept_start, kept_steps, is_complete, waiting≢complete, launched≢complete, active≢complete, first_waits}
+use Rattle.hq_model.proofs.Kept.{KeptBy, kept_start, kept_steps, is_complete, waiting≢complete, launched≢complete, first_waits}
 use Rattle.hq_model.proofs.NoRings.{without_rings}
 use Rattle.hq_model.proofs.Bound.{weight, of_phases}
 use Rattle.hq_model.proofs.Finds.{find}
 use Rattle.hq_model.proofs.Finished.{filtered, in_below}
 use Rattle.hq_model.proofs.Journals.{steps_append}
-use Rattle.hq_model.proofs.Waits.{of_queue, of_each, of_some}
+use Rattle.hq_model.proofs.Waits.{of_each, of_some}
 use Rattle.hq_model.proofs.Completed as whole
+use Rattle.hq_model.proofs.Launching.{open_or_complete}
+use Rattle.hq_model.proofs.Launching as launching
 
 -- ---- phases and kinds
 
@@ -31,24 +33,12 @@ launched≢active phase e f = grind arith
 complete≢active : (phase : Phase) → phase ≡ Complete → phase ≢ Active
 complete≢active phase e f = grind arith
 
-open_or_complete : (phase : Phase) → (phase ≢ Complete) ⊎ (phase ≡ Complete)
-open_or_complete Waiting = inl (waiting≢complete Waiting refl)
-open_or_complete InQueue = inl (waiting≢complete InQueue refl)
-open_or_complete Launched = inl (launched≢complete Launched refl)
-open_or_complete Active = inl (active≢complete Active refl)
-open_or_complete Complete = inr refl
-
 open_is : (phase : Phase) → phase ≢ Complete → is_complete phase ≡ false
 open_is Waiting d = refl
 open_is InQueue d = refl
 open_is Launched d = refl
 open_is Active d = refl
 open_is Complete d = absurd (d refl)
-
-barrier_or_work : (kind : Kind) → (kind ≢ Work) ⊎ (kind ≡ Work)
-barrier_or_work Work = inr refl
-barrier_or_work BarrierAnd = inl (whole.and≢work BarrierAnd refl)
-barrier_or_work BarrierOr = inl (whole.or≢work BarrierOr refl)
 
 -- ---- one packet's phase
 
@@ -117,42 +107,11 @@ module _ (job : Job) (p : ℕ) (valid : Valid job) (plain : job.rings ≡ false)
 
     -- ---- launches
 
-    -- an earlier packet that x's launch waits for, or doesn't
     abbrev Stops : ℕ → ℕ → Type 0
-    Stops x e = (is_launched (w.state.phase e) ≡ false) ⊎ ((IsTrue (packet job x).bit ⊎ IsBarrier job e) × Open e)
-
-    record Passes (x e : ℕ) : Type 0 where
-      pub next : IsTrue (is_launched (w.state.phase e))
-      pub bit : IsTrue (packet job x).bit → w.state.phase e ≡ Complete
-      pub barrier : IsBarrier job e → w.state.phase e ≡ Complete
-
-    stops_or_passes : (x e : ℕ) → IsPacket job e → Stops x e ⊎ Passes x e
-    stops_or_passes x e there = elim (open_or_complete (phase e)) [
-      | inr c ↦ inr (record { next = ap is_launched c; bit = λ _. c; barrier = λ _. c })
-      | inl o ↦ elim (cases_Bool (is_launched (phase e))) [
-        | inr none ↦ inl (inl none)
-        | inl gone ↦ elim (cases_Bool (packet job x).bit) [
-          | inl b ↦ inl (inr (inl b, o))
-          | inr none ↦ elim (barrier_or_work (packet job e).kind) [
-            | inl b ↦ inl (inr (inr b, o))
-            | inr work ↦ inr (record { next = gone; bit = λ b. absurd (true≢false (sym b ∙ none)); barrier = λ b. absurd (b work) })
-          ]
-        ]
-      ]
-    ]
+    Stops = launching.Stops job w.state
 
     may_launch : (x : ℕ) → IsPacket job x → phase x ≡ InQueue → ((e : ℕ) × Earlier job e x × Stops x e) ⊎ MayLaunch job w.state (packet job x).queue x
-    may_launch x there waits = elim (of_queue job (Stops x) (Passes x) (stops_or_passes x) x there) [
-      | inl f ↦ inl f
-      | inr all ↦ inr (record {
-        is_packet = there;
-        queue = refl;
-        waits = waits;
-        next = λ e f. (all e f).next;
-        bit = λ b e f. (all e f).bit b;
-        barriers = λ e f b. (all e f).barrier b;
-      })
-    ]
+    may_launch = launching.may_launch job w.state
 
     launch : (x : ℕ) → MayLaunch job w.state (packet job x).queue x → Further w
     launch x may =

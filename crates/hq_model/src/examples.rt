@@ -1,7 +1,7 @@
 //! Small jobs, worked out.
 
-ghost use Rattle.hq_model.specs.RowsHold.{OrderedRows, ResultsOfRows, RefusedRows, EitherRows, MissedRows};
-ghost use Rattle.hq_model.specs.RowsHold.{StuckRows, RunsOfRows};
+ghost use Rattle.hq_model.specs.ExamplesHold.{OrderedRows, ResultsOfRows, RefusedRows, EitherRows, MissedRows};
+ghost use Rattle.hq_model.specs.ExamplesHold.{StuckRows, RunsOfRows};
 
 /// These jobs are ordered, and these certificates hold.
 pub fn rows_are_ordered()

@@ -3,7 +3,7 @@
 ghost use Rattle.hq_model.specs.Theorems.{StepsDetermined, WithoutRings, OrderLaw, SignalLaw, BoundLaw, StuckLaw};
 ghost use Rattle.hq_model.specs.Theorems.{CompletePossible, JournalsRun};
 ghost use Rattle.hq_model.specs.Moves.{CopiesMoveAlways, FillsUnseenAlways, PushesWriteAlways, FenceLaw};
-ghost use Rattle.hq_model.specs.Finishing.{FinishLaw, StandstillLaw};
+ghost use Rattle.hq_model.specs.Finishing.{FinishLaw, StandstillLaw, StandstillReached, StuckExact};
 ghost use Rattle.hq_model.specs.Journal.{CoarseLaw};
 ghost use Rattle.hq_model.specs.Readied.{CompletionReached, EntryReadied};
 ghost use Rattle.hq_model.specs.Origins.{OriginsTell, RunsHaveOrigins};
@@ -58,9 +58,19 @@ pub fn stuck_law()
     ensures { StuckLaw }
 {}
 
+/// From wherever a run stands, work steps lead to where no work is left.
+pub fn standstill_reached()
+    ensures { StandstillReached }
+{}
+
 /// A run that no work is left to has completed exactly the packets that stand in no stuck set.
 pub fn standstill_law()
     ensures { StandstillLaw }
+{}
+
+/// The packets of stuck sets are exactly those that no run completes.
+pub fn stuck_exact()
+    ensures { StuckExact }
 {}
 
 /// Where an order list exists, a run that no work is left to is over: every packet is complete, and nothing is dirty.

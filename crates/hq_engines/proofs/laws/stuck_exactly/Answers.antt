@@ -1,4 +1,4 @@
 use Rattle.hq_engines.proofs.laws.stuck_exactly.Goals as goal
 
 pub returns : goal.returns
-returns c = (c.stuck_law.ensures, c.standstill_law.ensures)
+returns c = (c.stuck_exact.ensures, c.standstill_law.ensures)

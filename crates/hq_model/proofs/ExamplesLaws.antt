@@ -1,13 +1,13 @@
 -- The rows, put together as their laws.
 use Rattle.std.proofs.Common.{refl}
-use Rattle.hq_model.specs.RowsHold.{OrderedRows, ResultsOfRows, RefusedRows, EitherRows, MissedRows, StuckRows, RunsOfRows}
-use Rattle.hq_model.proofs.Rows as plain
-use Rattle.hq_model.proofs.RowsChained as chain
-use Rattle.hq_model.proofs.RowsRings as rings
-use Rattle.hq_model.proofs.RowsMore as more
-use Rattle.hq_model.proofs.RowsEither as choice
-use Rattle.hq_model.proofs.RowsBack as back
-use Rattle.hq_model.proofs.RowsRuns as run
+use Rattle.hq_model.specs.ExamplesHold.{OrderedRows, ResultsOfRows, RefusedRows, EitherRows, MissedRows, StuckRows, RunsOfRows}
+use Rattle.hq_model.proofs.ExamplesFirst as plain
+use Rattle.hq_model.proofs.ExamplesChained as chain
+use Rattle.hq_model.proofs.ExamplesRings as rings
+use Rattle.hq_model.proofs.ExamplesMore as more
+use Rattle.hq_model.proofs.ExamplesEither as choice
+use Rattle.hq_model.proofs.ExamplesBack as back
+use Rattle.hq_model.proofs.ExamplesRuns as run
 
 pub rows_are_ordered : OrderedRows
 rows_are_ordered = record {

@@ -8,7 +8,7 @@ use Rattle.hq_model.specs.Machine.{State, Phase, Event, Run, MayLaunch, WaitOver
 use Rattle.hq_model.specs.Machine.Phase.{Launched, Active, Complete}
 use Rattle.hq_model.specs.OneByOne.{given}
 use Rattle.hq_model.specs.Theorems.{Headline}
-use Rattle.hq_model.specs.Rows.{one_byte, two_nops, unreleased_run, early_fill_run, second_first_run}
+use Rattle.hq_model.specs.Examples.{one_byte, two_nops, unreleased_run, early_fill_run, second_first_run}
 use Rattle.hq_model.proofs.Orders.{order_lists_extend}
 use Rattle.hq_model.proofs.Tested.{order_by_test, each_once_by_test}
 use Rattle.hq_packet.specs.declared.packet.Scope.{Scope}

@@ -10,11 +10,11 @@ use Rattle.hq_model.specs.OneByOne.{one_by_one, given}
 use Rattle.hq_model.specs.Certificate.{CertHolds}
 use Rattle.hq_model.specs.Theorems.{Valid, Headline}
 use Rattle.hq_model.specs.HoldsBack.{AlwaysBefore, HoldsBack, FullOrderList}
-use Rattle.hq_model.specs.Rows.{fill_copy, fill_copy_certificate, without_bits, copy_fill, fence_between}
-use Rattle.hq_model.specs.Rows.{two_agents, two_writers, chained, chained_certificate, unacquired, waits_for_itself}
-use Rattle.hq_model.specs.Rows.{either, either_certificate, free_branch, back_branch, three_in_ring, stuck_ring}
-use Rattle.hq_model.specs.Rows.{moved_ring, one_byte, unreleased_run, early_fill_run, two_nops, second_first_run}
-use Rattle.hq_model.specs.Rows.{slot_in_use}
+use Rattle.hq_model.specs.Examples.{fill_copy, fill_copy_certificate, without_bits, copy_fill, fence_between}
+use Rattle.hq_model.specs.Examples.{two_agents, two_writers, chained, chained_certificate, unacquired, waits_for_itself}
+use Rattle.hq_model.specs.Examples.{either, either_certificate, free_branch, back_branch, three_in_ring, stuck_ring}
+use Rattle.hq_model.specs.Examples.{moved_ring, one_byte, unreleased_run, early_fill_run, two_nops, second_first_run}
+use Rattle.hq_model.specs.Examples.{slot_in_use}
 use Rattle.hq_packet.specs.declared.packet.Scope.TheVariants as scope
 
 -- Jobs that are ordered, by the bit, by a chain on each agent, by a barrier-OR, by their ring, and where only a

@@ -10,11 +10,11 @@ use Rattle.hq_model.specs.Order.Before.{by_bit, by_queue, by_and, by_or, through
 use Rattle.hq_model.specs.Fence.{Ordered, Shown, ShownFor, Release, Acquire, Reason}
 use Rattle.hq_model.specs.Fence.Conflict.{WriteRead, WriteWrite, ReadWrite}
 use Rattle.hq_model.specs.Fence.Why.{Unordered, NotReleased, NotAcquired}
-use Rattle.hq_model.specs.Rows.{without_bits, copy_fill, fence_between, two_agents, two_writers}
+use Rattle.hq_model.specs.Examples.{without_bits, copy_fill, fence_between, two_agents, two_writers}
 use Rattle.hq_model.proofs.Places.{place_of_packets}
 use Rattle.hq_model.proofs.Orders.{ahead_of}
 use Rattle.hq_model.proofs.Tested.{order_by_test, each_once_by_test}
-use Rattle.hq_model.proofs.Rows.{four_below, none_in}
+use Rattle.hq_model.proofs.ExamplesFirst.{four_below, none_in}
 use Rattle.hq_packet.specs.declared.packet.Scope.TheVariants as scope
 
 pub some_same : {X : Type 0} (x y : X) → Some x ≡ Some y → x ≡ y

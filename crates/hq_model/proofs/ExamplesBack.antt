@@ -7,16 +7,16 @@ use Rattle.hq_model.specs.Job.Kind.{Work, BarrierAnd, BarrierOr}
 use Rattle.hq_model.specs.Order.{Before, Branch, In, OrderList}
 use Rattle.hq_model.specs.Order.Before.{by_bit, by_queue, by_and, by_or, through}
 use Rattle.hq_model.specs.Order.Branch.{itself, after}
-use Rattle.hq_model.specs.Rows.{either, back_branch}
+use Rattle.hq_model.specs.Examples.{either, back_branch}
 use Rattle.hq_model.specs.Theorems.{Valid}
 use Rattle.hq_model.specs.HoldsBack.{AlwaysBefore, NeedsOneOf, HoldsBack, FullOrderList}
 use Rattle.hq_model.specs.HoldsBack.NeedsOneOf.{for_and, for_or}
 use Rattle.hq_model.proofs.Places.{place_of_packets}
 use Rattle.hq_model.proofs.Tested.{order_by_test, each_once_by_test, full_by_test}
-use Rattle.hq_model.proofs.Rows.{numbers_each_once, number_ahead, none_apart, work≢or}
-use Rattle.hq_model.proofs.RowsMore.{some_same, none_some}
-use Rattle.hq_model.proofs.RowsChained.{one_slot, some_some, null_some}
-use Rattle.hq_model.proofs.RowsEither.{either_order}
+use Rattle.hq_model.proofs.ExamplesFirst.{numbers_each_once, number_ahead, none_apart, work≢or}
+use Rattle.hq_model.proofs.ExamplesMore.{some_same, none_some}
+use Rattle.hq_model.proofs.ExamplesChained.{one_slot, some_some, null_some}
+use Rattle.hq_model.proofs.ExamplesEither.{either_order}
 use Rattle.hq_model.proofs.HeldBack.{held_back}
 use Rattle.hq_model.proofs.Exact.{full_order_exact}
 

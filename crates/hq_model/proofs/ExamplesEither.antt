@@ -11,11 +11,11 @@ use Rattle.hq_model.specs.Fence.Conflict.{WriteRead, WriteWrite, ReadWrite}
 use Rattle.hq_model.specs.Certificate.{Certificate, Line, Follows, LineHolds, HasPairs, PairHolds, CertHolds}
 use Rattle.hq_model.specs.Certificate.Rule.{Bit, Queue, And, Or, Through}
 use Rattle.hq_model.specs.Certificate.Fences.{ForWriteRead}
-use Rattle.hq_model.specs.Rows.{fill_copy, fill_copy_certificate, either, either_certificate, free_branch}
+use Rattle.hq_model.specs.Examples.{fill_copy, fill_copy_certificate, either, either_certificate, free_branch}
 use Rattle.hq_model.proofs.Orders.{ahead_of}
 use Rattle.hq_model.proofs.Tested.{order_by_test, each_once_by_test}
-use Rattle.hq_model.proofs.Rows.{none_in}
-use Rattle.hq_model.proofs.RowsMore.{some_same, none_some, or≢work, apart}
+use Rattle.hq_model.proofs.ExamplesFirst.{none_in}
+use Rattle.hq_model.proofs.ExamplesMore.{some_same, none_some, or≢work, apart}
 
 -- ---- what a barrier-OR orders
 
