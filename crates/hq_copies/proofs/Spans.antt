@@ -7,7 +7,7 @@ use Rattle.std.specs.Ordering.{nat_cmp}
 use Rattle.hq_model.specs.Machine.{Copy, is_dirty}
 use Rattle.hq_model.specs.View.{Held, copies_of}
 use Rattle.hq_copies.specs.declared.span.Span.{Span}
-use Rattle.hq_copies.specs.Copies.{a_copy, held, dirty_only, dirty_within, cleaned, taken, fed, IsCopies}
+use Rattle.hq_copies.specs.Copies.{a_copy, held, dirty_only, dirty_within, cleaned, taken, after_pushes, IsCopies}
 use Rattle.hq_copies.specs.Spans.{Inside, AreInside}
 use Rattle.hq_copies.proofs.Gathered.{same_held}
 use Rattle.hq_copies.proofs.Levels.{get_only}
@@ -249,31 +249,31 @@ cleaned_inside lanes new holding marked further start end are within outside oth
 
 -- ---- what stands below
 
-fed_none : (lanes : List Held) (start n b : ℕ) (below : Option Copy) → ((k : ℕ) → start ≤ k → k < start + n → is_dirty (copies_of lanes k b) ≡ false) → fed lanes start n b below ≡ below
-fed_none lanes start zero b below none = refl
-fed_none lanes start (suc n) b below none =
+after_pushes_none : (lanes : List Held) (start n b : ℕ) (below : Option Copy) → ((k : ℕ) → start ≤ k → k < start + n → is_dirty (copies_of lanes k b) ≡ false) → after_pushes lanes start n b below ≡ below
+after_pushes_none lanes start zero b below none = refl
+after_pushes_none lanes start (suc n) b below none =
     let upper = copies_of lanes (start + n) b in
-    cond-false (is_dirty upper) upper (fed lanes start n b below) (none (start + n) (omega arith) (omega arith)) ∙ fed_none lanes start n b below (λ k from to. none k from (omega arith))
+    cond-false (is_dirty upper) upper (after_pushes lanes start n b below) (none (start + n) (omega arith) (omega arith)) ∙ after_pushes_none lanes start n b below (λ k from to. none k from (omega arith))
 
-fed_more : (lanes : List Held) (start m n t b : ℕ) (below : Option Copy) → t ≡ m + n → fed lanes start t b below ≡ fed lanes (start + m) n b (fed lanes start m b below)
-fed_more lanes start m zero t b below e =
+after_pushes_more : (lanes : List Held) (start m n t b : ℕ) (below : Option Copy) → t ≡ m + n → after_pushes lanes start t b below ≡ after_pushes lanes (start + m) n b (after_pushes lanes start m b below)
+after_pushes_more lanes start m zero t b below e =
     let f : t ≡ m = omega arith in
-    ap (λ k. fed lanes start k b below) f
-fed_more lanes start m (suc n) t b below e =
+    ap (λ k. after_pushes lanes start k b below) f
+after_pushes_more lanes start m (suc n) t b below e =
     let f : t ≡ suc (m + n) = omega arith in
     let g : start + (m + n) ≡ (start + m) + n = omega arith in
-    ap (λ k. fed lanes start k b below) f ∙ ap₂ taken (ap (λ k. copies_of lanes k b) g) (fed_more lanes start m n (m + n) b below refl)
+    ap (λ k. after_pushes lanes start k b below) f ∙ ap₂ taken (ap (λ k. copies_of lanes k b) g) (after_pushes_more lanes start m n (m + n) b below refl)
 
-pub fed_narrowed : (lanes : List Held) (holding marked : Span) (start end low high b : ℕ) (below : Option Copy) → AreInside lanes holding marked → start ≤ low → low ≤ high → high ≤ end → ((k : ℕ) → start ≤ k → k < end → Inside marked k → (low ≤ k) × (k < high))
-    → fed lanes low (high - low) b below ≡ fed lanes start (end - start) b below
-fed_narrowed lanes holding marked start end low high b below are x y z all =
-    let before : fed lanes start (low - start) b below ≡ below = fed_none lanes start (low - start) b below (λ k from to. not_dirty lanes holding marked k b are (λ i. let h = (all k from (omega arith) i).0 in omega arith)) in
-    let middle = fed lanes low (high - low) b below in
-    let past : fed lanes high (end - high) b middle ≡ middle = fed_none lanes high (end - high) b middle (λ k from to. not_dirty lanes holding marked k b are (λ i. let h = (all k (omega arith) (omega arith) i).1 in omega arith)) in
+pub after_pushes_narrowed : (lanes : List Held) (holding marked : Span) (start end low high b : ℕ) (below : Option Copy) → AreInside lanes holding marked → start ≤ low → low ≤ high → high ≤ end → ((k : ℕ) → start ≤ k → k < end → Inside marked k → (low ≤ k) × (k < high))
+    → after_pushes lanes low (high - low) b below ≡ after_pushes lanes start (end - start) b below
+after_pushes_narrowed lanes holding marked start end low high b below are x y z all =
+    let before : after_pushes lanes start (low - start) b below ≡ below = after_pushes_none lanes start (low - start) b below (λ k from to. not_dirty lanes holding marked k b are (λ i. let h = (all k from (omega arith) i).0 in omega arith)) in
+    let middle = after_pushes lanes low (high - low) b below in
+    let past : after_pushes lanes high (end - high) b middle ≡ middle = after_pushes_none lanes high (end - high) b middle (λ k from to. not_dirty lanes holding marked k b are (λ i. let h = (all k (omega arith) (omega arith) i).1 in omega arith)) in
     let first : start + (low - start) ≡ low = omega arith in
     let second : low + (high - low) ≡ high = omega arith in
-    sym (fed_more lanes start (low - start) (end - low) (end - start) b below (omega arith)
-    ∙ ap₂ (λ k t. fed lanes k (end - low) b t) first before
-    ∙ fed_more lanes low (high - low) (end - high) (end - low) b below (omega arith)
-    ∙ ap (λ k. fed lanes k (end - high) b middle) second
+    sym (after_pushes_more lanes start (low - start) (end - low) (end - start) b below (omega arith)
+    ∙ ap₂ (λ k t. after_pushes lanes k (end - low) b t) first before
+    ∙ after_pushes_more lanes low (high - low) (end - high) (end - low) b below (omega arith)
+    ∙ ap (λ k. after_pushes lanes k (end - high) b middle) second
     ∙ past)

@@ -10,7 +10,7 @@ use Rattle.hq_packet.specs.declared.packet.Scope.TheVariants as scope
 use Rattle.hq_packet.specs.Scopes.{reaches}
 use Rattle.hq_model.specs.Machine.{is_dirty}
 use Rattle.hq_model.specs.View.{Held, copies_of}
-use Rattle.hq_copies.specs.Copies.{CopiesValue, dirty_only, dirty_within, held, IsClean, IsReleased, NoneDirty, cleaned, written, fed, LanesReleased, AgentReleased}
+use Rattle.hq_copies.specs.Copies.{CopiesValue, dirty_only, dirty_within, held, IsClean, IsReleased, NoneDirty, cleaned, written, after_pushes, LanesReleased, AgentReleased}
 
 pub within_step : (xs : List Held) (start i : ℕ) (x : Held) → start ≤ i → i < length xs → x ≡ get_or (dirty_within start i xs) i x → set (dirty_within start i xs) i (dirty_only x) ≡ dirty_within start (suc i) xs
 within_step [] start i x l h e = absurd (omega arith)
@@ -56,15 +56,15 @@ set_there xs a q m b d = ap (λ t. finite.get t b) (get_or-set_other xs a q m fi
 
 pub lanes_done : (old : CopiesValue) (start end a : ℕ) (lanes : List Held) (below : Held) → a < length old.agents → length lanes ≡ length old.lanes
     → ((l b : ℕ) → start ≤ l → l < end → copies_of lanes l b ≡ cleaned (copies_of old.lanes l b)) → ((l b : ℕ) → (l < start) ⊎ (end ≤ l) → copies_of lanes l b ≡ copies_of old.lanes l b)
-    → ((b : ℕ) → finite.get below b ≡ fed old.lanes start (end - start) b (copies_of old.agents a b)) → LanesReleased old start end a (record old { lanes = lanes; agents = set old.agents a below })
-lanes_done old start end a lanes below there count inside outside fed_below = record {
+    → ((b : ℕ) → finite.get below b ≡ after_pushes old.lanes start (end - start) b (copies_of old.agents a b)) → LanesReleased old start end a (record old { lanes = lanes; agents = set old.agents a below })
+lanes_done old start end a lanes below there count inside outside after_pushes_below = record {
   memory = refl;
   lane_agents = refl;
   lane_count = count;
   agent_count = length-set old.agents a below;
   inside = inside;
   outside = outside;
-  agent = λ b. set_here old.agents a below b there ∙ fed_below b;
+  agent = λ b. set_here old.agents a below b there ∙ after_pushes_below b;
   others = λ q b d. set_there old.agents a q below b d;
 }
 

@@ -122,8 +122,8 @@ dirty_within start end maps = take start maps ++ map dirty_only (drop start (tak
 
 -- An acquire fence: of scope agent or system it drops the clean copies of the lanes from start on and before end,
 -- of scope system also those of the agent. Dirty copies stay.
-abbrev pub fenced : CopiesValue → ℕ → ℕ → ℕ → Scope → CopiesValue
-fenced c start end a fence =
+abbrev pub after_acquire : CopiesValue → ℕ → ℕ → ℕ → Scope → CopiesValue
+after_acquire c start end a fence =
     record c {
       lanes = if reaches fence scope.Agent then dirty_within start end c.lanes else c.lanes;
       agents = if reaches fence scope.System then set c.agents a (dirty_only (held c.agents a)) else c.agents;
@@ -145,9 +145,9 @@ abbrev pub written : Option Copy → ℕ → ℕ
 written copy byte = if is_dirty copy then value_or copy byte else byte
 
 -- what stands below a byte where so many lanes from start on have written their dirty bytes back, one behind the other
-abbrev pub fed : List Held → ℕ → ℕ → ℕ → Option Copy → Option Copy
-fed lanes start zero b below = below
-fed lanes start (suc count) b below = taken (copies_of lanes (start + count) b) (fed lanes start count b below)
+abbrev pub after_pushes : List Held → ℕ → ℕ → ℕ → Option Copy → Option Copy
+after_pushes lanes start zero b below = below
+after_pushes lanes start (suc count) b below = taken (copies_of lanes (start + count) b) (after_pushes lanes start count b below)
 
 -- All dirty bytes of the lanes from start on and before end are written back to agent a, and are clean.
 pub record LanesReleased (old : CopiesValue) (start end a : ℕ) (new : CopiesValue) : Type 0 where
@@ -157,7 +157,7 @@ pub record LanesReleased (old : CopiesValue) (start end a : ℕ) (new : CopiesVa
   pub agent_count : length new.agents ≡ length old.agents
   pub inside : (l b : ℕ) → start ≤ l → l < end → copies_of new.lanes l b ≡ cleaned (copies_of old.lanes l b)
   pub outside : (l b : ℕ) → (l < start) ⊎ (end ≤ l) → copies_of new.lanes l b ≡ copies_of old.lanes l b
-  pub agent : (b : ℕ) → copies_of new.agents a b ≡ fed old.lanes start (end - start) b (copies_of old.agents a b)
+  pub agent : (b : ℕ) → copies_of new.agents a b ≡ after_pushes old.lanes start (end - start) b (copies_of old.agents a b)
   pub others : (q b : ℕ) → q ≢ a → copies_of new.agents q b ≡ copies_of old.agents q b
 
 -- All dirty bytes of agent a are written back to memory, and are clean.

@@ -7,10 +7,10 @@ ghost use Rattle.hq_packet.specs.Scopes.{reaches};
 ghost use Rattle.hq_model.specs.Machine.{is_dirty};
 ghost use Rattle.hq_model.specs.View.{copies_of};
 ghost use Rattle.hq_copies.specs.Copies.{opened, stored, lane_filled, agent_filled, lane_dropped, agent_dropped};
-ghost use Rattle.hq_copies.specs.Copies.{fenced, lane_byte, lane_bytes, IsLaneByte, IsAgentByte, IsDirty, IsClean};
+ghost use Rattle.hq_copies.specs.Copies.{after_acquire, lane_byte, lane_bytes, IsLaneByte, IsAgentByte, IsDirty, IsClean};
 ghost use Rattle.hq_copies.specs.Copies.{IsReleased, IsFirstDirty, NoneDirty, held, PushedLane, PushedAgent};
 ghost use Rattle.hq_copies.specs.Copies.{IsAbsent, agent_byte, dirty_within, IsRunCount, LanesReleased};
-ghost use Rattle.hq_copies.specs.Copies.{AgentReleased, Released, fed, cleaned, stored_run};
+ghost use Rattle.hq_copies.specs.Copies.{AgentReleased, Released, after_pushes, cleaned, stored_run};
 
 use crate::fault::CopiesFault;
 use crate::level::Level;
@@ -336,7 +336,7 @@ impl Copies {
         requires agent { agent < length self.old.agents }
         requires rising { lanes.start ≤ lanes.end }
         requires lanes { lanes.end ≤ length self.old.lanes }
-        ensures { self.new ≡ fenced self.old lanes.start lanes.end agent scope }
+        ensures { self.new ≡ after_acquire self.old lanes.start lanes.end agent scope }
     {
         if scope.reaches(Scope::Agent) {
             self.drop_clean_bytes(lanes.start, lanes.end);
@@ -369,7 +369,7 @@ impl Copies {
     {
         let dirty = self.marked.cut(lanes.start, lanes.end);
         let mut below = self.agents[agent].copy()?;
-        feed_each(&self.lanes, dirty.start, dirty.end, &mut below)?;
+        push_each(&self.lanes, dirty.start, dirty.end, &mut below)?;
         self.agents[agent] = below;
         mark_clean(&mut self.lanes, dirty.start, dirty.end);
         self.marked = self.marked.narrowed(lanes.start, lanes.end, Span::new());
@@ -522,14 +522,14 @@ fn have_no_dirty(levels: &[Level], start: usize, end: usize) -> bool
 }
 
 // Lets a level take in the dirty bytes of those from start on and before end, one behind the other.
-fn feed_each(lanes: &[Level], start: usize, end: usize, below: &mut Level) -> Result<(), AllocError>
+fn push_each(lanes: &[Level], start: usize, end: usize, below: &mut Level) -> Result<(), AllocError>
     requires rising { start ≤ end }
     requires within { end ≤ length lanes.now }
     ensures { OnOk result
-        ((b : ℕ) → finite.get below.new b ≡ fed lanes.now start (end - start) b (finite.get below.old b)) }
+        ((b : ℕ) → finite.get below.new b ≡ after_pushes lanes.now start (end - start) b (finite.get below.old b)) }
 {
     for i in start..end {
-        lanes[i].feed(below)?;
+        lanes[i].push_into(below)?;
     }
     Ok(())
 }

@@ -220,7 +220,7 @@ impl Level {
     }
 
     /// The level below takes all dirty bytes in.
-    pub fn feed(&self, below: &mut Level) -> Result<(), AllocError>
+    pub fn push_into(&self, below: &mut Level) -> Result<(), AllocError>
         ensures { OnOk result
             ((n : ℕ) → finite.get below.new n ≡ taken (finite.get self.now n) (finite.get below.old n)) }
     {

@@ -12,7 +12,7 @@ use Rattle.hq_copies.specs.Copies.{CopiesValue, PushedLane, PushedAgent, IsDirty
 use Rattle.hq_copies.specs.declared.fault.CopiesFault.{CopiesFault}
 use Rattle.hq_copies.specs.declared.fault.CopiesFault.TheVariants as copies_fault
 use Rattle.hq_machine.specs.State.{StateValue}
-use Rattle.hq_machine.specs.View.{IsStateOf, DirtyWithin, Moved, Refused, recopied, fault_of, state_of}
+use Rattle.hq_machine.specs.View.{IsStateOf, DirtyWithin, Moved, Refused, with_copies, fault_of, state_of}
 use Rattle.hq_machine.proofs.Jobs.{agent_below}
 use Rattle.hq_machine.proofs.Places.{copies_of_remove}
 use Rattle.hq_machine.proofs.Within.{within_step}
@@ -24,8 +24,8 @@ pub record SameShape (old new : CopiesValue) : Type 0 where
   pub lanes : length new.lanes ≡ length old.lanes
   pub lane_agents : new.lane_agents ≡ old.lane_agents
 
-pub recopied_keeps : (job : Job) (v : StateValue) (copies : CopiesValue) → IsStateOf job v → SameShape v.copies copies → DirtyWithin job (state_of job (recopied v copies)) → IsStateOf job (recopied v copies)
-recopied_keeps job v copies k s d = record {
+pub with_copies_keeps : (job : Job) (v : StateValue) (copies : CopiesValue) → IsStateOf job v → SameShape v.copies copies → DirtyWithin job (state_of job (with_copies v copies)) → IsStateOf job (with_copies v copies)
+with_copies_keeps job v copies k s d = record {
   lengths = record {
     phases = k.lengths.phases;
     observed = k.lengths.observed;
@@ -43,9 +43,9 @@ recopied_keeps job v copies k s d = record {
   dirty = d;
 }
 
-pub recopied_moved : (job : Job) (v : StateValue) (copies : CopiesValue) (event : Event) → Valid job → IsStateOf job v → SameShape v.copies copies → Step job (state_of job v) event (state_of job (recopied v copies)) → Moved job v event (recopied v copies)
-recopied_moved job v copies event valid k s step =
-    record { is = recopied_keeps job v copies k s (within_step job (state_of job v) event (state_of job (recopied v copies)) valid k.dirty step); step = step }
+pub with_copies_moved : (job : Job) (v : StateValue) (copies : CopiesValue) (event : Event) → Valid job → IsStateOf job v → SameShape v.copies copies → Step job (state_of job v) event (state_of job (with_copies v copies)) → Moved job v event (with_copies v copies)
+with_copies_moved job v copies event valid k s step =
+    record { is = with_copies_keeps job v copies k s (within_step job (state_of job v) event (state_of job (with_copies v copies)) valid k.dirty step); step = step }
 
 pub list_put : (xs : List ℕ) (k x : ℕ) → k < length xs → (λ (n : ℕ). slice_index (set xs k x) n) ≡ put (λ (n : ℕ). slice_index xs n) k x
 list_put xs k x l = λ i n. at n i
@@ -58,59 +58,59 @@ list_put xs k x l = λ i n. at n i
 
 -- ---- the steps
 
-pub moved_push_lane : (job : Job) (v : StateValue) (p b : ℕ) (copies : CopiesValue) → Valid job → IsStateOf job v → IsPacket job p → IsByte job b → PushedLane v.copies p b copies → Moved job v (PushLane p b) (recopied v copies)
+pub moved_push_lane : (job : Job) (v : StateValue) (p b : ℕ) (copies : CopiesValue) → Valid job → IsStateOf job v → IsPacket job p → IsByte job b → PushedLane v.copies p b copies → Moved job v (PushLane p b) (with_copies v copies)
 moved_push_lane job v p b copies valid k there within (value, held, is) =
     let a = slice_index v.copies.lane_agents p in
     let on : a ≡ agent_of job p = k.lengths.lane_agents p there in
     let low = agent_below job p valid there in
     let lanes = copies_of_insert v.copies.lanes p b (a_copy value false) (omega (arith, k.lengths.lanes)) in
     let agents = copies_of_insert v.copies.agents a b (a_copy value true) (omega (arith, k.lengths.agents)) ∙ ap (λ x. put2 (copies_of v.copies.agents) x b (dirty value)) on in
-    let new : state_of job (recopied v (lane_pushed v.copies p b value)) ≡ record (state_of job v) { lane = put2 (copies_of v.copies.lanes) p b (clean value); agent = put2 (copies_of v.copies.agents) (agent_of job p) b (dirty value) } =
+    let new : state_of job (with_copies v (lane_pushed v.copies p b value)) ≡ record (state_of job v) { lane = put2 (copies_of v.copies.lanes) p b (clean value); agent = put2 (copies_of v.copies.agents) (agent_of job p) b (dirty value) } =
     λ i. record (state_of job v) { lane = lanes i; agent = agents i } in
-    subst (λ c. Moved job v (PushLane p b) (recopied v c)) (sym is)
-    (recopied_moved job v (lane_pushed v.copies p b value) (PushLane p b) valid k (record { memory = refl; agents = length-set v.copies.agents a _; lanes = length-set v.copies.lanes p _; lane_agents = refl }) (value, there, within, held, new))
+    subst (λ c. Moved job v (PushLane p b) (with_copies v c)) (sym is)
+    (with_copies_moved job v (lane_pushed v.copies p b value) (PushLane p b) valid k (record { memory = refl; agents = length-set v.copies.agents a _; lanes = length-set v.copies.lanes p _; lane_agents = refl }) (value, there, within, held, new))
 
-pub moved_push_agent : (job : Job) (v : StateValue) (a b : ℕ) (copies : CopiesValue) → Valid job → IsStateOf job v → a < job.agents → IsByte job b → PushedAgent v.copies a b copies → Moved job v (PushAgent a b) (recopied v copies)
+pub moved_push_agent : (job : Job) (v : StateValue) (a b : ℕ) (copies : CopiesValue) → Valid job → IsStateOf job v → a < job.agents → IsByte job b → PushedAgent v.copies a b copies → Moved job v (PushAgent a b) (with_copies v copies)
 moved_push_agent job v a b copies valid k there within (value, held, is) =
     let agents = copies_of_insert v.copies.agents a b (a_copy value false) (omega (arith, k.lengths.agents)) in
     let memory = list_put v.copies.memory b value (omega (arith, k.lengths.memory)) in
-    let new : state_of job (recopied v (agent_pushed v.copies a b value)) ≡ record (state_of job v) { agent = put2 (copies_of v.copies.agents) a b (clean value); memory = put (λ (b : ℕ). slice_index v.copies.memory b) b value } =
+    let new : state_of job (with_copies v (agent_pushed v.copies a b value)) ≡ record (state_of job v) { agent = put2 (copies_of v.copies.agents) a b (clean value); memory = put (λ (b : ℕ). slice_index v.copies.memory b) b value } =
     λ i. record (state_of job v) { agent = agents i; memory = memory i } in
-    subst (λ c. Moved job v (PushAgent a b) (recopied v c)) (sym is)
-    (recopied_moved job v (agent_pushed v.copies a b value) (PushAgent a b) valid k (record { memory = length-set v.copies.memory b value; agents = length-set v.copies.agents a _; lanes = refl; lane_agents = refl }) (value, there, within, held, new))
+    subst (λ c. Moved job v (PushAgent a b) (with_copies v c)) (sym is)
+    (with_copies_moved job v (agent_pushed v.copies a b value) (PushAgent a b) valid k (record { memory = length-set v.copies.memory b value; agents = length-set v.copies.agents a _; lanes = refl; lane_agents = refl }) (value, there, within, held, new))
 
-pub moved_fill_lane : (job : Job) (v : StateValue) (p b : ℕ) (copies : CopiesValue) → Valid job → IsStateOf job v → IsPacket job p → IsByte job b → IsAbsent (copies_of v.copies.lanes p b) × (copies ≡ lane_filled v.copies p b) → Moved job v (FillLane p b) (recopied v copies)
+pub moved_fill_lane : (job : Job) (v : StateValue) (p b : ℕ) (copies : CopiesValue) → Valid job → IsStateOf job v → IsPacket job p → IsByte job b → IsAbsent (copies_of v.copies.lanes p b) × (copies ≡ lane_filled v.copies p b) → Moved job v (FillLane p b) (with_copies v copies)
 moved_fill_lane job v p b copies valid k there within (held, is) =
     let on : slice_index v.copies.lane_agents p ≡ agent_of job p = k.lengths.lane_agents p there in
     let lanes = copies_of_insert v.copies.lanes p b (a_copy (agent_byte v.copies (slice_index v.copies.lane_agents p) b) false) (omega (arith, k.lengths.lanes)) ∙ ap (λ a. put2 (copies_of v.copies.lanes) p b (clean (agent_byte v.copies a b))) on in
-    let new : state_of job (recopied v (lane_filled v.copies p b)) ≡ record (state_of job v) { lane = put2 (copies_of v.copies.lanes) p b (clean (agent_sees (state_of job v) (agent_of job p) b)) } =
+    let new : state_of job (with_copies v (lane_filled v.copies p b)) ≡ record (state_of job v) { lane = put2 (copies_of v.copies.lanes) p b (clean (agent_sees (state_of job v) (agent_of job p) b)) } =
     λ i. record (state_of job v) { lane = lanes i } in
-    subst (λ c. Moved job v (FillLane p b) (recopied v c)) (sym is)
-    (recopied_moved job v (lane_filled v.copies p b) (FillLane p b) valid k (record { memory = refl; agents = refl; lanes = length-set v.copies.lanes p _; lane_agents = refl }) (there, within, held, new))
+    subst (λ c. Moved job v (FillLane p b) (with_copies v c)) (sym is)
+    (with_copies_moved job v (lane_filled v.copies p b) (FillLane p b) valid k (record { memory = refl; agents = refl; lanes = length-set v.copies.lanes p _; lane_agents = refl }) (there, within, held, new))
 
-pub moved_fill_agent : (job : Job) (v : StateValue) (a b : ℕ) (copies : CopiesValue) → Valid job → IsStateOf job v → a < job.agents → IsByte job b → IsAbsent (copies_of v.copies.agents a b) × (copies ≡ agent_filled v.copies a b) → Moved job v (FillAgent a b) (recopied v copies)
+pub moved_fill_agent : (job : Job) (v : StateValue) (a b : ℕ) (copies : CopiesValue) → Valid job → IsStateOf job v → a < job.agents → IsByte job b → IsAbsent (copies_of v.copies.agents a b) × (copies ≡ agent_filled v.copies a b) → Moved job v (FillAgent a b) (with_copies v copies)
 moved_fill_agent job v a b copies valid k there within (held, is) =
     let agents = copies_of_insert v.copies.agents a b (a_copy (slice_index v.copies.memory b) false) (omega (arith, k.lengths.agents)) in
-    let new : state_of job (recopied v (agent_filled v.copies a b)) ≡ record (state_of job v) { agent = put2 (copies_of v.copies.agents) a b (clean (slice_index v.copies.memory b)) } =
+    let new : state_of job (with_copies v (agent_filled v.copies a b)) ≡ record (state_of job v) { agent = put2 (copies_of v.copies.agents) a b (clean (slice_index v.copies.memory b)) } =
     λ i. record (state_of job v) { agent = agents i } in
-    subst (λ c. Moved job v (FillAgent a b) (recopied v c)) (sym is)
-    (recopied_moved job v (agent_filled v.copies a b) (FillAgent a b) valid k (record { memory = refl; agents = length-set v.copies.agents a _; lanes = refl; lane_agents = refl }) (there, within, held, new))
+    subst (λ c. Moved job v (FillAgent a b) (with_copies v c)) (sym is)
+    (with_copies_moved job v (agent_filled v.copies a b) (FillAgent a b) valid k (record { memory = refl; agents = length-set v.copies.agents a _; lanes = refl; lane_agents = refl }) (there, within, held, new))
 
-pub moved_drop_lane : (job : Job) (v : StateValue) (p b : ℕ) (copies : CopiesValue) → Valid job → IsStateOf job v → IsPacket job p → IsByte job b → IsClean (copies_of v.copies.lanes p b) × (copies ≡ lane_dropped v.copies p b) → Moved job v (DropLane p b) (recopied v copies)
+pub moved_drop_lane : (job : Job) (v : StateValue) (p b : ℕ) (copies : CopiesValue) → Valid job → IsStateOf job v → IsPacket job p → IsByte job b → IsClean (copies_of v.copies.lanes p b) × (copies ≡ lane_dropped v.copies p b) → Moved job v (DropLane p b) (with_copies v copies)
 moved_drop_lane job v p b copies valid k there within ((value, held), is) =
     let lanes = copies_of_remove v.copies.lanes p b (omega (arith, k.lengths.lanes)) in
-    let new : state_of job (recopied v (lane_dropped v.copies p b)) ≡ record (state_of job v) { lane = put2 (copies_of v.copies.lanes) p b None } =
+    let new : state_of job (with_copies v (lane_dropped v.copies p b)) ≡ record (state_of job v) { lane = put2 (copies_of v.copies.lanes) p b None } =
     λ i. record (state_of job v) { lane = lanes i } in
-    subst (λ c. Moved job v (DropLane p b) (recopied v c)) (sym is)
-    (recopied_moved job v (lane_dropped v.copies p b) (DropLane p b) valid k (record { memory = refl; agents = refl; lanes = length-set v.copies.lanes p _; lane_agents = refl }) (value, there, within, held, new))
+    subst (λ c. Moved job v (DropLane p b) (with_copies v c)) (sym is)
+    (with_copies_moved job v (lane_dropped v.copies p b) (DropLane p b) valid k (record { memory = refl; agents = refl; lanes = length-set v.copies.lanes p _; lane_agents = refl }) (value, there, within, held, new))
 
-pub moved_drop_agent : (job : Job) (v : StateValue) (a b : ℕ) (copies : CopiesValue) → Valid job → IsStateOf job v → a < job.agents → IsByte job b → IsClean (copies_of v.copies.agents a b) × (copies ≡ agent_dropped v.copies a b) → Moved job v (DropAgent a b) (recopied v copies)
+pub moved_drop_agent : (job : Job) (v : StateValue) (a b : ℕ) (copies : CopiesValue) → Valid job → IsStateOf job v → a < job.agents → IsByte job b → IsClean (copies_of v.copies.agents a b) × (copies ≡ agent_dropped v.copies a b) → Moved job v (DropAgent a b) (with_copies v copies)
 moved_drop_agent job v a b copies valid k there within ((value, held), is) =
     let agents = copies_of_remove v.copies.agents a b (omega (arith, k.lengths.agents)) in
-    let new : state_of job (recopied v (agent_dropped v.copies a b)) ≡ record (state_of job v) { agent = put2 (copies_of v.copies.agents) a b None } =
+    let new : state_of job (with_copies v (agent_dropped v.copies a b)) ≡ record (state_of job v) { agent = put2 (copies_of v.copies.agents) a b None } =
     λ i. record (state_of job v) { agent = agents i } in
-    subst (λ c. Moved job v (DropAgent a b) (recopied v c)) (sym is)
-    (recopied_moved job v (agent_dropped v.copies a b) (DropAgent a b) valid k (record { memory = refl; agents = length-set v.copies.agents a _; lanes = refl; lane_agents = refl }) (value, there, within, held, new))
+    subst (λ c. Moved job v (DropAgent a b) (with_copies v c)) (sym is)
+    (with_copies_moved job v (agent_dropped v.copies a b) (DropAgent a b) valid k (record { memory = refl; agents = length-set v.copies.agents a _; lanes = refl; lane_agents = refl }) (value, there, within, held, new))
 
 -- ---- why they are refused
 

@@ -15,12 +15,12 @@ use Rattle.hq_model.specs.Machine.Event.{Enter}
 use Rattle.hq_model.specs.Machine.Phase.{Active}
 use Rattle.hq_model.specs.Theorems.{Valid}
 use Rattle.hq_model.specs.View.{Held, copies_of}
-use Rattle.hq_copies.specs.Copies.{fenced, dirty_only, dirty_within, held}
+use Rattle.hq_copies.specs.Copies.{after_acquire, dirty_only, dirty_within, held}
 use Rattle.hq_machine.specs.State.{StateValue}
-use Rattle.hq_machine.specs.View.{IsStateOf, Moved, MayEnter, phased, recopied, state_of}
+use Rattle.hq_machine.specs.View.{IsStateOf, Moved, MayEnter, in_phase, with_copies, state_of}
 use Rattle.hq_machine.proofs.Jobs.{agent_below}
-use Rattle.hq_machine.proofs.Moves.{phased_is, phased_keeps}
-use Rattle.hq_machine.proofs.CopyMoves.{SameShape, recopied_keeps}
+use Rattle.hq_machine.proofs.Moves.{in_phase_is, in_phase_keeps}
+use Rattle.hq_machine.proofs.CopyMoves.{SameShape, with_copies_keeps}
 use Rattle.hq_machine.proofs.Within.{within_step}
 
 get_dirty_only : (m : Held) (b : ℕ) → finite.get (dirty_only m) b ≡ without_clean (finite.get m b)
@@ -67,10 +67,10 @@ module _ (start stop : ℕ) (maps : List Held) (rise : start ≤ stop) (fits : s
       ∙ get_or-drop stop maps (l - stop) finite.empty ∙ ap (λ n. get_or maps n finite.empty) (omega arith)
 
 -- the change of a fence over the lanes
-lanes_fenced : (job : Job) (q start stop : ℕ) (maps : List Held) (t : Bool) → AreOfQueue job q start stop → start ≤ stop → stop ≤ length maps → length maps ≡ length job.packets → (l b : ℕ)
+lanes_after_acquire : (job : Job) (q start stop : ℕ) (maps : List Held) (t : Bool) → AreOfQueue job q start stop → start ≤ stop → stop ≤ length maps → length maps ≡ length job.packets → (l b : ℕ)
     → copies_of (cond t (dirty_within start stop maps) maps) l b ≡ cond (t && (eqb (packet job l).queue q)) (without_clean (copies_of maps l b)) (copies_of maps l b)
-lanes_fenced job q start stop maps false are rise fits same l b = refl
-lanes_fenced job q start stop maps true are rise fits same l b = elim (cases_lt l start) [
+lanes_after_acquire job q start stop maps false are rise fits same l b = refl
+lanes_after_acquire job q start stop maps true are rise fits same l b = elim (cases_lt l start) [
   | inl low ↦ ap (λ m. finite.get m b) (below start stop maps rise fits l low) ∙ sym (cond-false (eqb (packet job l).queue q) _ _ (ne_eqb (packet job l).queue q (λ e. let h = are.within l (omega arith) e in omega arith)))
   | inr high ↦ elim (cases_lt l stop) [
     | inl within ↦ ap (λ m. finite.get m b) (inside start stop maps rise fits l high within) ∙ get_dirty_only (get_or maps l finite.empty) b ∙ sym (cond-true (eqb (packet job l).queue q) _ _ (eq-eqb (packet job l).queue q (are.of_queue l high within).1))
@@ -87,10 +87,10 @@ lanes_fenced job q start stop maps true are rise fits same l b = elim (cases_lt 
     either false e = e
     either true e = ap without_clean e
 
-agents_fenced : (a : ℕ) (maps : List Held) (t : Bool) → a < length maps → (x b : ℕ)
+agents_after_acquire : (a : ℕ) (maps : List Held) (t : Bool) → a < length maps → (x b : ℕ)
     → copies_of (cond t (set maps a (dirty_only (held maps a))) maps) x b ≡ cond (t && eqb x a) (without_clean (copies_of maps x b)) (copies_of maps x b)
-agents_fenced a maps false l x b = refl
-agents_fenced a maps true l x b = elim (cases_eq x a) [
+agents_after_acquire a maps false l x b = refl
+agents_after_acquire a maps true l x b = elim (cases_eq x a) [
   | inl e ↦
       ap (λ y. finite.get (get_or (set maps a (dirty_only (held maps a))) y finite.empty) b) e ∙ ap (λ m. finite.get m b) (get_or-set_same maps a (dirty_only (held maps a)) finite.empty l)
       ∙ get_dirty_only (held maps a) b ∙ ap (λ y. without_clean (copies_of maps y b)) (sym e) ∙ sym (cond-true (eqb x a) _ _ (eq-eqb x a e))
@@ -99,7 +99,7 @@ agents_fenced a maps true l x b = elim (cases_eq x a) [
 
 -- ---- entries
 
-pub acquired_shape : (job : Job) (v : StateValue) (p start stop : ℕ) → start ≤ stop → stop ≤ length v.copies.lanes → SameShape v.copies (fenced v.copies start stop (agent_of job p) (packet job p).acquire)
+pub acquired_shape : (job : Job) (v : StateValue) (p start stop : ℕ) → start ≤ stop → stop ≤ length v.copies.lanes → SameShape v.copies (after_acquire v.copies start stop (agent_of job p) (packet job p).acquire)
 acquired_shape job v p start stop rise fits = record {
   memory = refl;
   agents = one (reaches (packet job p).acquire scope.System);
@@ -116,26 +116,26 @@ acquired_shape job v p start stop rise fits = record {
     all true = within_length start stop v.copies.lanes rise fits
 
 acquired_is : (job : Job) (v : StateValue) (p start stop : ℕ) → Valid job → IsStateOf job v → IsPacket job p → AreOfQueue job (packet job p).queue start stop → start ≤ stop → stop ≤ length v.copies.lanes
-    → state_of job (recopied v (fenced v.copies start stop (agent_of job p) (packet job p).acquire)) ≡ acquired job (state_of job v) p
+    → state_of job (with_copies v (after_acquire v.copies start stop (agent_of job p) (packet job p).acquire)) ≡ acquired job (state_of job v) p
 acquired_is job v p start stop valid k there are rise fits =
     let fence = (packet job p).acquire in
     let low = agent_below job p valid there in
     let lane : copies_of (cond (reaches fence scope.Agent) (dirty_within start stop v.copies.lanes) v.copies.lanes) ≡ (λ (l b : ℕ). cond (reaches fence scope.Agent && (eqb (packet job l).queue (packet job p).queue)) (without_clean (copies_of v.copies.lanes l b)) (copies_of v.copies.lanes l b)) =
-    λ i l b. lanes_fenced job (packet job p).queue start stop v.copies.lanes (reaches fence scope.Agent) are rise fits k.lengths.lanes l b i in
+    λ i l b. lanes_after_acquire job (packet job p).queue start stop v.copies.lanes (reaches fence scope.Agent) are rise fits k.lengths.lanes l b i in
     let agent : copies_of (cond (reaches fence scope.System) (set v.copies.agents (agent_of job p) (dirty_only (held v.copies.agents (agent_of job p)))) v.copies.agents) ≡ (λ (a b : ℕ). cond (reaches fence scope.System && (eqb a (agent_of job p))) (without_clean (copies_of v.copies.agents a b)) (copies_of v.copies.agents a b)) =
-    λ i a b. agents_fenced (agent_of job p) v.copies.agents (reaches fence scope.System) (omega (arith, k.lengths.agents)) a b i in
+    λ i a b. agents_after_acquire (agent_of job p) v.copies.agents (reaches fence scope.System) (omega (arith, k.lengths.agents)) a b i in
     λ i. record (state_of job v) { lane = lane i; agent = agent i }
 
 pub moved_enter : (job : Job) (v : StateValue) (p start stop : ℕ) → Valid job → IsStateOf job v → AreOfQueue job (packet job p).queue start stop → start ≤ stop → stop ≤ length v.copies.lanes → MayEnter job (state_of job v) p
-    → Moved job v (Enter p) (phased (recopied v (fenced v.copies start stop (agent_of job p) (packet job p).acquire)) p Active)
+    → Moved job v (Enter p) (in_phase (with_copies v (after_acquire v.copies start stop (agent_of job p) (packet job p).acquire)) p Active)
 moved_enter job v p start stop valid k are rise fits may =
     let there = may.is_packet in
-    let mid = recopied v (fenced v.copies start stop (agent_of job p) (packet job p).acquire) in
-    let e : state_of job (phased mid p Active) ≡ with_phase (acquired job (state_of job v) p) p Active =
-    phased_is job mid p Active (omega (arith, k.lengths.phases)) ∙ ap (λ (s : State). with_phase s p Active) (acquired_is job v p start stop valid k there are rise fits) in
-    let step : Step job (state_of job v) (Enter p) (state_of job (phased mid p Active)) = (there, may.launched, may.over, e) in
-    let d = within_step job (state_of job v) (Enter p) (state_of job (phased mid p Active)) valid k.dirty step in
+    let mid = with_copies v (after_acquire v.copies start stop (agent_of job p) (packet job p).acquire) in
+    let e : state_of job (in_phase mid p Active) ≡ with_phase (acquired job (state_of job v) p) p Active =
+    in_phase_is job mid p Active (omega (arith, k.lengths.phases)) ∙ ap (λ (s : State). with_phase s p Active) (acquired_is job v p start stop valid k there are rise fits) in
+    let step : Step job (state_of job v) (Enter p) (state_of job (in_phase mid p Active)) = (there, may.launched, may.over, e) in
+    let d = within_step job (state_of job v) (Enter p) (state_of job (in_phase mid p Active)) valid k.dirty step in
     record {
-      is = phased_keeps job mid p Active (recopied_keeps job v (fenced v.copies start stop (agent_of job p) (packet job p).acquire) k (acquired_shape job v p start stop rise fits) (record { lanes = d.lanes; agents = d.agents }));
+      is = in_phase_keeps job mid p Active (with_copies_keeps job v (after_acquire v.copies start stop (agent_of job p) (packet job p).acquire) k (acquired_shape job v p start stop rise fits) (record { lanes = d.lanes; agents = d.agents }));
       step = step;
     }

@@ -13,7 +13,7 @@ use Rattle.hq_machine.specs.State.{StateValue, named}
 use Rattle.hq_machine.specs.declared.phase.Phase.{Phase}
 use Rattle.hq_machine.specs.declared.phase.Phase.TheVariants as phase
 use Rattle.std.proofs.lemmas.List.{map-set}
-use Rattle.hq_machine.specs.View.{IsStateOf, Moved, Enabled, Observes, SlotMissing, SlotObserved, MayObserve, phased, observing, state_of, row_of}
+use Rattle.hq_machine.specs.View.{IsStateOf, Moved, Enabled, Observes, SlotMissing, SlotObserved, MayObserve, in_phase, observing, state_of, row_of}
 use Rattle.hq_machine.proofs.Places.{row_put2, row_set}
 
 -- ---- a phase
@@ -39,13 +39,13 @@ own_named phase.Complete = refl
 pub named_same : (x y : Phase) → named x ≡ named y → x ≡ y
 named_same x y e = sym (own_named x) ∙ ap own e ∙ own_named y
 
-pub phased_is : (job : Job) (v : StateValue) (p : ℕ) (x : machine.Phase) → p < length v.phases → state_of job (phased v p x) ≡ with_phase (state_of job v) p x
-phased_is job v p x l =
+pub in_phase_is : (job : Job) (v : StateValue) (p : ℕ) (x : machine.Phase) → p < length v.phases → state_of job (in_phase v p x) ≡ with_phase (state_of job v) p x
+in_phase_is job v p x l =
     let e = phases_of_set (first_phase job) v.phases p x l in
     λ i. record (state_of job v) { phase = e i }
 
-pub phased_keeps : (job : Job) (v : StateValue) (p : ℕ) (x : machine.Phase) → IsStateOf job v → IsStateOf job (phased v p x)
-phased_keeps job v p x k = record {
+pub in_phase_keeps : (job : Job) (v : StateValue) (p : ℕ) (x : machine.Phase) → IsStateOf job v → IsStateOf job (in_phase v p x)
+in_phase_keeps job v p x k = record {
   lengths = record {
     phases = length-set v.phases p x ∙ k.lengths.phases;
     observed = k.lengths.observed;
@@ -63,15 +63,15 @@ phased_keeps job v p x k = record {
   dirty = record { lanes = k.dirty.lanes; agents = k.dirty.agents };
 }
 
-pub moved_submit : (job : Job) (v : StateValue) (p : ℕ) → IsStateOf job v → MaySubmit job (state_of job v) p → Moved job v Submit (phased v p InQueue)
+pub moved_submit : (job : Job) (v : StateValue) (p : ℕ) → IsStateOf job v → MaySubmit job (state_of job v) p → Moved job v Submit (in_phase v p InQueue)
 moved_submit job v p k may =
     let there = may.is_packet in
-    record { is = phased_keeps job v p InQueue k; step = (p, may, phased_is job v p InQueue (omega (arith, k.lengths.phases))) }
+    record { is = in_phase_keeps job v p InQueue k; step = (p, may, in_phase_is job v p InQueue (omega (arith, k.lengths.phases))) }
 
-pub moved_launch : (job : Job) (v : StateValue) (q p : ℕ) → IsStateOf job v → MayLaunch job (state_of job v) q p → Moved job v (Launch q) (phased v p Launched)
+pub moved_launch : (job : Job) (v : StateValue) (q p : ℕ) → IsStateOf job v → MayLaunch job (state_of job v) q p → Moved job v (Launch q) (in_phase v p Launched)
 moved_launch job v q p k may =
     let there = may.is_packet in
-    record { is = phased_keeps job v p Launched k; step = (p, may, phased_is job v p Launched (omega (arith, k.lengths.phases))) }
+    record { is = in_phase_keeps job v p Launched k; step = (p, may, in_phase_is job v p Launched (omega (arith, k.lengths.phases))) }
 
 -- ---- an observation
 

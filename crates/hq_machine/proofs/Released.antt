@@ -6,7 +6,7 @@ use Rattle.hq_model.specs.Machine.{Copy, is_dirty, clean, dirty, put2}
 use Rattle.hq_model.specs.View.{Held, copies_of}
 use Rattle.hq_model.proofs.View.{copies_of_insert}
 use Rattle.hq_model.proofs.Sums.{put2_same, put2_other}
-use Rattle.hq_copies.specs.Copies.{CopiesValue, held, a_copy, lane_pushed, agent_pushed, cleaned, taken, written, fed, LanesReleased, AgentReleased}
+use Rattle.hq_copies.specs.Copies.{CopiesValue, held, a_copy, lane_pushed, agent_pushed, cleaned, taken, written, after_pushes, LanesReleased, AgentReleased}
 use Rattle.hq_copies.proofs.Gathered.{same_held}
 use Rattle.hq_machine.specs.Pushes.Holders.{Lanes, Agents}
 use Rattle.hq_machine.specs.Pushes.{push_of, pushes_of, dirty_of, AllPushed, Within, Swept}
@@ -190,7 +190,7 @@ lanes_none old start a within =
         agent_count = refl;
         inside = λ l b x y. absurd (omega arith);
         outside = λ l b x. refl;
-        agent = λ b. sym (ap (λ n. fed old.lanes start n b (copies_of old.agents a b)) z);
+        agent = λ b. sym (ap (λ n. after_pushes old.lanes start n b (copies_of old.agents a b)) z);
         others = λ q b d. refl;
       };
     }
@@ -226,7 +226,7 @@ lanes_more old start stop a low high there on s =
         agent = λ b.
             touched_taken (copies_of mid.lanes stop b) (copies_of new.lanes stop b) (copies_of mid.agents a b) (copies_of new.agents a b) (none b) (e.touched b)
             ∙ ap₂ taken (same b ∙ ap (λ k. copies_of old.lanes k b) (sym at)) (r.agent b)
-            ∙ sym (ap (λ n. fed old.lanes start n b (copies_of old.agents a b)) z);
+            ∙ sym (ap (λ n. after_pushes old.lanes start n b (copies_of old.agents a b)) z);
         others = λ q b d. e.agents q b d ∙ r.others q b d;
       };
     }

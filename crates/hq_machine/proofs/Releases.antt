@@ -21,7 +21,7 @@ use Rattle.hq_copies.specs.Copies.{CopiesValue}
 use Rattle.hq_machine.specs.State.{StateValue}
 use Rattle.hq_machine.specs.Pushes.Holders.{Lanes, Agents}
 use Rattle.hq_machine.specs.Pushes.{AllPushed, Within, WrittenBack, IsWorked, LanesOf, AgentsOf, span, pushes_of}
-use Rattle.hq_machine.specs.View.{IsStateOf, DirtyWithin, Applied, Possible, MayFinish, recopied, phased, signalled, state_of}
+use Rattle.hq_machine.specs.View.{IsStateOf, DirtyWithin, Applied, Possible, MayFinish, with_copies, in_phase, with_decrement, state_of}
 use Rattle.hq_machine.proofs.CopyMoves.{moved_push_lane, moved_push_agent}
 use Rattle.hq_machine.proofs.Finishing.{moved_finish}
 use Rattle.hq_machine.proofs.Jobs.{agent_below}
@@ -113,16 +113,16 @@ within_of job v valid k = record {
       omega (arith, k.lengths.lane_agents p there, low, k.lengths.agents);
 }
 
-carried : (job : Job) (v : StateValue) (events : List Event) (c : CopiesValue) → Valid job → IsStateOf job v → AllPushed v.copies events c → IsStateOf job (recopied v c) × Steps job (state_of job v) events (state_of job (recopied v c))
-carried job v [] c valid k is = (subst (λ x. IsStateOf job (recopied v x)) (sym is) k, ap (λ x. state_of job (recopied v x)) is)
+carried : (job : Job) (v : StateValue) (events : List Event) (c : CopiesValue) → Valid job → IsStateOf job v → AllPushed v.copies events c → IsStateOf job (with_copies v c) × Steps job (state_of job v) events (state_of job (with_copies v c))
+carried job v [] c valid k is = (subst (λ x. IsStateOf job (with_copies v x)) (sym is) k, ap (λ x. state_of job (with_copies v x)) is)
 carried job v (PushLane p b ∷ events) c valid k (mid, ((l, m), pushed), rest) =
     let moved = moved_push_lane job v p b mid valid k (subst (λ n. p < n) k.lengths.lanes l) (subst (λ n. b < n) k.lengths.memory m) pushed in
-    let (is, steps) = carried job (recopied v mid) events c valid moved.is rest in
-    (is, (state_of job (recopied v mid), moved.step, steps))
+    let (is, steps) = carried job (with_copies v mid) events c valid moved.is rest in
+    (is, (state_of job (with_copies v mid), moved.step, steps))
 carried job v (PushAgent a b ∷ events) c valid k (mid, ((l, m), pushed), rest) =
     let moved = moved_push_agent job v a b mid valid k (subst (λ n. a < n) k.lengths.agents l) (subst (λ n. b < n) k.lengths.memory m) pushed in
-    let (is, steps) = carried job (recopied v mid) events c valid moved.is rest in
-    (is, (state_of job (recopied v mid), moved.step, steps))
+    let (is, steps) = carried job (with_copies v mid) events c valid moved.is rest in
+    (is, (state_of job (with_copies v mid), moved.step, steps))
 carried job v (event ∷ events) c valid k (mid, none, rest) = absurd none
 
 lane_list : (job : Job) (v : StateValue) (ks : List ℕ) → IsStateOf job v → pushes_of Lanes v.copies ks ≡ lane_pushes job (state_of job v) ks
@@ -133,39 +133,39 @@ agent_list job v ks k = ap (λ n. flat_map (λ a. map (PushAgent a) (filter (λ 
 
 -- the pushes, as the model has them
 record Written (job : Job) (v : StateValue) (lanes agents : List ℕ) (c : CopiesValue) : Type 0 where
-  pub is : IsStateOf job (recopied v c)
-  pub pushes : Pushes job (state_of job v) lanes agents (state_of job (recopied v c))
+  pub is : IsStateOf job (with_copies v c)
+  pub pushes : Pushes job (state_of job v) lanes agents (state_of job (with_copies v c))
 
 written : (job : Job) (v : StateValue) (lane lanes agent agents : ℕ) (c : CopiesValue) → Valid job → IsStateOf job v → WrittenBack v.copies lane lanes agent agents c → Written job v (span lane lanes) (span agent agents) c
 written job v lane lanes agent agents c valid k w =
     let (first, a) = carried job v (pushes_of Lanes v.copies (span lane lanes)) w.mid valid k w.lanes_swept.run in
-    let between = recopied v w.mid in
+    let between = with_copies v w.mid in
     let (last, b) = carried job between (pushes_of Agents w.mid (span agent agents)) c valid first w.agents_swept.run in
     record {
       is = last;
       pushes = (
         state_of job between,
         subst (λ xs. Steps job (state_of job v) xs (state_of job between)) (lane_list job v (span lane lanes) k) a,
-        subst (λ xs. Steps job (state_of job between) xs (state_of job (recopied v c))) (agent_list job between (span agent agents) first) b,
+        subst (λ xs. Steps job (state_of job between) xs (state_of job (with_copies v c))) (agent_list job between (span agent agents) first) b,
       );
     }
 
 -- ---- the rest
 
-pub applied_rest : (job : Job) (v : StateValue) (c : CopiesValue) → Valid job → IsStateOf job v → WrittenBack v.copies 0 (length job.packets) 0 job.agents c → Applied job v Rest (recopied v c)
+pub applied_rest : (job : Job) (v : StateValue) (c : CopiesValue) → Valid job → IsStateOf job v → WrittenBack v.copies 0 (length job.packets) 0 job.agents c → Applied job v Rest (with_copies v c)
 applied_rest job v c valid k w =
     let all = written job v 0 (length job.packets) 0 job.agents c valid k w in
     record {
       is = all.is;
       happens =
-          subst (λ ls. Pushes job (state_of job v) ls (numbers job.agents) (state_of job (recopied v c))) (span_all (length job.packets))
-          (subst (λ as'. Pushes job (state_of job v) (span 0 (length job.packets)) as' (state_of job (recopied v c))) (span_all job.agents) all.pushes);
+          subst (λ ls. Pushes job (state_of job v) ls (numbers job.agents) (state_of job (with_copies v c))) (span_all (length job.packets))
+          (subst (λ as'. Pushes job (state_of job v) (span 0 (length job.packets)) as' (state_of job (with_copies v c))) (span_all job.agents) all.pushes);
     }
 
 pub possible_rest : (job : Job) (v : StateValue) → Valid job → IsStateOf job v → Possible job v Rest
 possible_rest job v valid k =
     let (c, w) = can_write_back v.copies 0 (length job.packets) 0 job.agents (within_of job v valid k) (omega arith) (omega (arith, k.lengths.lanes)) (omega arith) (omega (arith, k.lengths.agents)) in
-    (state_of job (recopied v c), (applied_rest job v c valid k w).happens)
+    (state_of job (with_copies v c), (applied_rest job v c valid k w).happens)
 
 -- ---- what pushes leave as it was
 
@@ -207,10 +207,10 @@ released job p old mid last inside a b = record {
 }
 
 pub applied_complete : (job : Job) (v : StateValue) (p lane lanes agent agents : ℕ) (c : CopiesValue) → Valid job → IsStateOf job v → IsWorked job (state_of job v) p → IfSome (packet job p).done (λ s. s < length v.signals) → LanesOf job p lane lanes → AgentsOf job p agent agents → WrittenBack v.copies lane lanes agent agents c
-    → Applied job v (Complete p) (phased (signalled (recopied v c) (packet job p).done) p machine.Phase.Complete)
+    → Applied job v (Complete p) (in_phase (with_decrement (with_copies v c) (packet job p).done) p machine.Phase.Complete)
 applied_complete job v p lane lanes agent agents c valid k worked below of on w =
     let all = written job v lane lanes agent agents c valid k w in
-    let next = recopied v c in
+    let next = with_copies v c in
     let pushes : Pushes job (state_of job v) (lanes_of job p) (agents_of job p) (state_of job next) =
     subst (λ ls. Pushes job (state_of job v) ls (agents_of job p) (state_of job next)) (sym (lanes_are job p lane lanes of))
     (subst (λ as'. Pushes job (state_of job v) (span lane lanes) as' (state_of job next)) (sym (agents_are job p agent agents on)) all.pushes) in

@@ -2,7 +2,7 @@
 use Rattle.std.specs.Prelude.{◌≡◌, ◌≢◌, ℕ, ◌+◌, ◌-◌, ◌<◌, ◌≤◌, true, false, List, [], ◌∷◌, length, slice_index, map}
 use Rattle.std.specs.Prelude.{filter, flat_map}
 use Rattle.hq_machine.specs.State.{StateValue}
-use Rattle.hq_machine.specs.View.{recopied}
+use Rattle.hq_machine.specs.View.{with_copies}
 use Rattle.hq_copies.specs.Copies.{CopiesValue, Released, PushedLane, PushedAgent, IsLaneByte, IsAgentByte}
 use Rattle.hq_job.specs.Access.{AreOfQueue}
 use Rattle.hq_model.specs.Job.{Job, packet, IsPacket, agent_of}
@@ -117,4 +117,4 @@ pub record AgentsOf (job : Job) (p start stop : ℕ) : Type 0 where
 pub record WroteBack (job : Job) (old : StateValue) (p start stop : ℕ) (new : StateValue) : Type 0 where
   pub copies : CopiesValue
   pub released : Released old.copies start stop (agent_of job p) (packet job p).release copies
-  pub state : new ≡ recopied old copies
+  pub state : new ≡ with_copies old copies

@@ -12,7 +12,7 @@ use Rattle.hq_machine.specs.declared.fault.StepFault.{StepFault}
 use Rattle.hq_machine.specs.declared.fault.StepFault.TheVariants as fault
 use Rattle.hq_copies.specs.declared.fault.CopiesFault.{CopiesFault}
 use Rattle.hq_copies.specs.declared.fault.CopiesFault.TheVariants as copies_fault
-use Rattle.hq_copies.specs.Copies.{CopiesValue, opened, fenced}
+use Rattle.hq_copies.specs.Copies.{CopiesValue, opened, after_acquire}
 use Rattle.hq_machine.specs.State.{StateValue, StoresValue, no_stores}
 
 -- the row of packet p, or the one that stands where there is none
@@ -198,12 +198,12 @@ abbrev pub observing : StateValue → ℕ → ℕ → StateValue
 observing v p slot = record v { observed = set v.observed p (set (row_of v.observed p) slot true) }
 
 -- p is in this phase
-abbrev pub phased : StateValue → ℕ → machine.Phase → StateValue
-phased v p x = record v { phases = set v.phases p x }
+abbrev pub in_phase : StateValue → ℕ → machine.Phase → StateValue
+in_phase v p x = record v { phases = set v.phases p x }
 
 -- other copies
-abbrev pub recopied : StateValue → CopiesValue → StateValue
-recopied v copies = record v { copies = copies }
+abbrev pub with_copies : StateValue → CopiesValue → StateValue
+with_copies v copies = record v { copies = copies }
 
 -- what a fault of the copies is for a step
 abbrev pub fault_of : CopiesFault → StepFault
@@ -247,8 +247,8 @@ abbrev pub decremented : List ℕ → Option ℕ → List ℕ
 decremented signals None = signals
 decremented signals (Some s) = set signals s (slice_index signals s - 1)
 
-abbrev pub signalled : StateValue → Option ℕ → StateValue
-signalled v done = record v { signals = decremented v.signals done }
+abbrev pub with_decrement : StateValue → Option ℕ → StateValue
+with_decrement v done = record v { signals = decremented v.signals done }
 
 -- the copies after p's acquire fence: its queue's packets are those from start up to stop
 pub record Acquired (job : Job) (old : StateValue) (p : ℕ) (new : StateValue) : Type 0 where
@@ -257,7 +257,7 @@ pub record Acquired (job : Job) (old : StateValue) (p : ℕ) (new : StateValue) 
   pub are : AreOfQueue job (packet job p).queue start stop
   pub rising : start ≤ stop
   pub within : stop ≤ length old.copies.lanes
-  pub copies : new ≡ recopied old (fenced old.copies start stop (agent_of job p) (packet job p).acquire)
+  pub copies : new ≡ with_copies old (after_acquire old.copies start stop (agent_of job p) (packet job p).acquire)
 
 -- ---- the start
 

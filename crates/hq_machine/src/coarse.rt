@@ -4,7 +4,7 @@ ghost use Rattle.std.specs.Prelude.{◌≡◌, ◌≤◌, ◌↔◌, IsTrue, len
 ghost use Rattle.hq_job.specs.Plan.{plan};
 ghost use Rattle.hq_machine.specs.Pushes.{AreCopiesOf, Within, Swept, WrittenBack, WroteBack, IsWorked};
 ghost use Rattle.hq_machine.specs.Pushes.Holders.{Lanes, Agents};
-ghost use Rattle.hq_machine.specs.View.{IsStateOf, Applied, NotApplied, recopied, state_of};
+ghost use Rattle.hq_machine.specs.View.{IsStateOf, Applied, NotApplied, with_copies, state_of};
 ghost use Rattle.hq_model.specs.Job.{IsPacket};
 ghost use Rattle.hq_model.specs.Journal.Coarse.{Complete, Rest};
 
@@ -62,7 +62,7 @@ impl State {
 
     /// Takes these copies in place of its own.
     fn set_copies(&mut self, copies: Copies)
-        ensures { self.new ≡ recopied self.old copies }
+        ensures { self.new ≡ with_copies self.old copies }
     {
         self.copies = copies;
     }

@@ -9,7 +9,7 @@ ghost use Rattle.hq_model.specs.Machine as machine;
 ghost use Rattle.hq_model.specs.Machine.{first_phase, start, is_launched, lane_sees, listed};
 ghost use Rattle.hq_model.specs.View.{phases_of};
 ghost use Rattle.hq_machine.specs.State.{named, no_stores};
-ghost use Rattle.hq_machine.specs.View.{IsStateOf, AllAre, Opens, phased, state_of};
+ghost use Rattle.hq_machine.specs.View.{IsStateOf, AllAre, Opens, in_phase, state_of};
 
 use crate::fault::StepFault;
 use crate::phase::Phase;
@@ -262,7 +262,7 @@ impl State {
     #[tactic(auto, using(crate::proofs::Moves::map_named))]
     pub(crate) fn set_phase(&mut self, packet: usize, phase: Phase)
         requires { packet < length self.old.phases }
-        ensures { self.new ≡ phased self.old packet (named phase) }
+        ensures { self.new ≡ in_phase self.old packet (named phase) }
     {
         self.phases[packet] = phase;
     }

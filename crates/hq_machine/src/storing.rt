@@ -9,7 +9,7 @@ ghost use Rattle.hq_model.specs.Job.{Job as JobOfNumbers, IsPacket, packet as pa
 ghost use Rattle.hq_model.specs.Machine.{bytes_read, bytes_stored};
 ghost use Rattle.hq_model.specs.Machine.Event.{Store};
 ghost use Rattle.hq_machine.specs.View.{IsStateOf, MayStore, NextStores, Moved, Refused, row_of, stores_of, marked};
-ghost use Rattle.hq_machine.specs.View.{recopied, restored, state_of};
+ghost use Rattle.hq_machine.specs.View.{with_copies, restored, state_of};
 
 use crate::copying::step_fault;
 use crate::fault::StepFault;
@@ -125,7 +125,7 @@ impl State {
         requires packet { IsPacket (plan job.now) packet }
         requires entry { entry < length (packet_of (plan job.now) packet).writes }
         ensures ok { OnOk result
-            (self.new ≡ recopied self.old
+            (self.new ≡ with_copies self.old
             (stored self.old.copies packet (slice_index (packet_of (plan job.now) packet).writes entry) value)) }
         ensures err { OnErr result (self.new ≡ self.old) }
         ensures memory { IfErr result (λ e. e ≡ StepFault.Memory) }

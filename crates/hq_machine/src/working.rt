@@ -6,7 +6,7 @@ ghost use Rattle.hq_job.specs.Plan.{plan};
 ghost use Rattle.hq_model.specs.Job.{IsPacket, packet as packet_of};
 ghost use Rattle.hq_model.specs.Machine.{AllRead, AllStored, Released};
 ghost use Rattle.hq_model.specs.Machine.{Event};
-ghost use Rattle.hq_machine.specs.View.{IsStateOf, MayFinish, Moved, Refused, row_of, stores_of, signalled, state_of};
+ghost use Rattle.hq_machine.specs.View.{IsStateOf, MayFinish, Moved, Refused, row_of, stores_of, with_decrement, state_of};
 
 use crate::fault::StepFault;
 use crate::packets::{done_of, queue_of, read_at, read_count, write_count};
@@ -80,7 +80,7 @@ impl State {
     /// The signal, if there is one, goes down by 1.
     pub(crate) fn decrement(&mut self, done: Option<u16>)
         requires { IfSome done (λ s. s < length self.old.signals) }
-        ensures { self.new ≡ signalled self.old done }
+        ensures { self.new ≡ with_decrement self.old done }
     {
         if let Some(signal) = done {
             let value = self.signals[signal as usize];

@@ -19,7 +19,7 @@ use Rattle.hq_witness.specs.declared.trace.Trace.{Trace}
 use Rattle.hq_witness.specs.Differences.{Has, TellsAt}
 use Rattle.hq_witness.specs.Origins.{named, origin_at, IsPlace}
 use Rattle.hq_witness.specs.Traces.{Comes, IsRecording, IsSighting, Follows}
-use Rattle.hq_witness.specs.Witness.{IsOver, IsWholeRun}
+use Rattle.hq_witness.specs.Witness.{IsFinished, IsWholeRun}
 
 one_is : (c : Coarse) (e : Event) → one_of c ≡ Some e → c ≡ One e
 one_is (One x) e h = cc
@@ -68,7 +68,7 @@ pub told_place : (job : Job) (r : Recording) (at : Place) (x : Origin) → IsRec
 told_place job r (place.Read p i) x h has = let s = told_read job r p i x h has in (s.is_packet, s.few)
 told_place job r (place.Memory b) x h (is, same) = subst (λ n. n < length job.memory) (sym is) h.tells.fits.is_byte
 
-pub whole_run : (job : Job) (r : Recording) (at : Place) (x : Origin) (journal : List MachineEvent) → IsRecording job r → IsOver job (state_of job r.state) → TellsAt r.trace at x → journal ≡ r.journal → IsWholeRun job journal at x
+pub whole_run : (job : Job) (r : Recording) (at : Place) (x : Origin) (journal : List MachineEvent) → IsRecording job r → IsFinished job (state_of job r.state) → TellsAt r.trace at x → journal ≡ r.journal → IsWholeRun job journal at x
 whole_run job r at x journal h over told same = record {
   events = h.events;
   singles = ap (map coarse_of) same ∙ h.singles;

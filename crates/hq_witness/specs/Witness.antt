@@ -35,7 +35,7 @@ pub record WitnessValue : Type 0 where
   pub bad_origin : Origin
 
 -- every packet is complete, and no work is left
-pub record IsOver (job : Job) (state : State) : Type 0 where
+pub record IsFinished (job : Job) (state : State) : Type 0 where
   pub complete : (p : ℕ) → IsPacket job p → state.phase p ≡ Complete
   pub rest : NoWorkLeft job state
 
@@ -47,7 +47,7 @@ pub record IsWholeRun (job : Job) (journal : List Event) (place : Place) (origin
   pub state : State
   pub origins : Origins
   pub run : OriginsOf job events state origins
-  pub over : IsOver job state
+  pub over : IsFinished job state
   pub there : origin_at origins place ≡ named origin
 
 -- Both runs are such, the origins differ, and the conflict is the one that the audit refuses.

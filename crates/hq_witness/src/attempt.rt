@@ -6,7 +6,7 @@ ghost use Rattle.hq_model.specs.Machine.{IsByte};
 ghost use Rattle.hq_machine.specs.View.{state_of};
 ghost use Rattle.hq_witness.specs.Differences.{Agree, AreFound, TellApart};
 ghost use Rattle.hq_witness.specs.Traces.{IsRecording};
-ghost use Rattle.hq_witness.specs.Witness.{IsOver};
+ghost use Rattle.hq_witness.specs.Witness.{IsFinished};
 
 use crate::difference::{Difference, apart};
 use crate::eager::{in_order, with_first};
@@ -31,12 +31,12 @@ pub struct Found {
 fn difference_of(job: &Job, good: &Recording, bad: &Recording) -> Option<Difference>
     requires good { IsRecording (plan job.now) good.now }
     requires bad { IsRecording (plan job.now) bad.now }
-    ensures good { IfSome result (λ _. IsOver (plan job.now) (state_of (plan job.now) good.now.state)) }
-    ensures bad { IfSome result (λ _. IsOver (plan job.now) (state_of (plan job.now) bad.now.state)) }
+    ensures good { IfSome result (λ _. IsFinished (plan job.now) (state_of (plan job.now) good.now.state)) }
+    ensures bad { IfSome result (λ _. IsFinished (plan job.now) (state_of (plan job.now) bad.now.state)) }
     ensures apart { IfSome result (TellApart good.now.trace bad.now.trace) }
     ensures none { IfNone result
-        (IsOver (plan job.now) (state_of (plan job.now) good.now.state)
-        → IsOver (plan job.now) (state_of (plan job.now) bad.now.state) → Agree good.now.trace bad.now.trace) }
+        (IsFinished (plan job.now) (state_of (plan job.now) good.now.state)
+        → IsFinished (plan job.now) (state_of (plan job.now) bad.now.state) → Agree good.now.trace bad.now.trace) }
 {
     if !good.is_over(job) || !bad.is_over(job) {
         return None;
@@ -50,8 +50,8 @@ fn compare(job: &Job, good: Recording, bad: Recording) -> Option<Found>
     requires bad { IsRecording (plan job.now) bad }
     ensures found { IfSome result (AreFound (plan job.now)) }
     ensures none { IfNone result
-        (IsOver (plan job.now) (state_of (plan job.now) good.state)
-        → IsOver (plan job.now) (state_of (plan job.now) bad.state) → Agree good.trace bad.trace) }
+        (IsFinished (plan job.now) (state_of (plan job.now) good.state)
+        → IsFinished (plan job.now) (state_of (plan job.now) bad.state) → Agree good.trace bad.trace) }
 {
     match difference_of(job, &good, &bad) {
         Some(difference) => Some(Found {

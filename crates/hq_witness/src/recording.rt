@@ -9,7 +9,7 @@ ghost use Rattle.hq_model.specs.Origins.{Origins, agent_origin};
 ghost use Rattle.hq_witness.specs.declared.origin.Origin.TheVariants.{Start};
 ghost use Rattle.hq_witness.specs.Origins.{named};
 ghost use Rattle.hq_witness.specs.Traces.{IsRecording, TellsCopies};
-ghost use Rattle.hq_witness.specs.Witness.{IsOver};
+ghost use Rattle.hq_witness.specs.Witness.{IsFinished};
 
 use crate::origin::Origin;
 use crate::trace::Trace;
@@ -115,7 +115,7 @@ impl Recording {
     /// Whether every packet is complete and no work is left.
     pub fn is_over(&self, job: &Job) -> bool
         requires { IsRecording (plan job.now) self.now }
-        ensures { IsTrue result ↔ IsOver (plan job.now) (state_of (plan job.now) self.now.state) }
+        ensures { IsTrue result ↔ IsFinished (plan job.now) (state_of (plan job.now) self.now.state) }
     {
         let count = self.state.packets();
         if !self.state.all_complete(0..count) {

@@ -5,7 +5,7 @@ use Rattle.hq_model.specs.Job.{packet}
 use Rattle.hq_model.specs.Journal.{Coarse}
 use Rattle.hq_model.specs.Machine.Phase.{Complete}
 use Rattle.hq_machine.specs.State.{StateValue}
-use Rattle.hq_machine.specs.View.{Applied, phased, signalled, recopied}
+use Rattle.hq_machine.specs.View.{Applied, in_phase, with_decrement, with_copies}
 use Rattle.hq_machine.proofs.EachEntry.{no_memory_within}
 use Rattle.hq_machine.proofs.FenceBacks.{reached, written}
 use Rattle.hq_machine.proofs.Releases.{applied_complete, possible_complete, not_worked}
@@ -40,6 +40,6 @@ returns-clause-ok c =
     let back = c.in_ok-write_back.ensures.ok in
     let r = reached job p c.queue_of-numbers.result.start c.queue_of-numbers.result.end (packet job p).release c.valid.ensures.valid worked.is_packet of.are of.rising of.within refl in
     subst (Applied job v (Coarse.Complete p))
-    (sym (c.set_phase.ensures ∙ ap (λ (x : StateValue). phased x p Complete) (c.decrement.ensures ∙ ap (λ (x : StateValue). signalled x c.done_of-done.result) back.state ∙ ap (signalled (recopied v back.copies)) signal.is)))
+    (sym (c.set_phase.ensures ∙ ap (λ (x : StateValue). in_phase x p Complete) (c.decrement.ensures ∙ ap (λ (x : StateValue). with_decrement x c.done_of-done.result) back.state ∙ ap (with_decrement (with_copies v back.copies)) signal.is)))
     (applied_complete job v p r.lane r.lanes r.agent r.agents back.copies c.valid.ensures.valid c.requires worked there r.of r.on
     (written job v p c.queue_of-numbers.result.start c.queue_of-numbers.result.end back.copies (packet job p).release c.valid.ensures.valid c.requires worked.is_packet of.are of.rising of.within refl back.released))

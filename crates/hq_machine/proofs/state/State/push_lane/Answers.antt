@@ -1,7 +1,7 @@
 use Rattle.std.proofs.Common.{sym, subst}
 use Rattle.hq_job.specs.Plan.{plan}
 use Rattle.hq_model.specs.Machine.Event.{PushLane}
-use Rattle.hq_machine.specs.View.{IsStateOf, Moved, Refused, recopied}
+use Rattle.hq_machine.specs.View.{IsStateOf, Moved, Refused, with_copies}
 use Rattle.hq_machine.specs.contracts.state.State.{the_view}
 use Rattle.hq_machine.proofs.CopyMoves.{moved_push_lane, refused_push_lane}
 use Rattle.hq_machine.proofs.state.State.push_lane.Goals as goal
@@ -13,8 +13,8 @@ returns-clause-ok c = elim c.match-push_lane.branch [
       let job = plan c.args.job.now in
       let v = the_view c.self.inside in
       let there = c.has_lane_byte.ensures.0 c.if-not-has_lane_byte.false in
-      let moved : Moved job v (PushLane c.args.packet c.args.byte) (recopied v c.push_lane.new.self) = moved_push_lane job v c.args.packet c.args.byte c.push_lane.new.self c.valid.ensures.valid (subst (IsStateOf job) (sym c.self.view_is) c.requires) there.0 there.1 w.in-Ok.ensures.ok in
-      rw w.result-is (subst (λ x. Moved job x (PushLane c.args.packet c.args.byte) (recopied v c.push_lane.new.self)) c.self.view_is moved)
+      let moved : Moved job v (PushLane c.args.packet c.args.byte) (with_copies v c.push_lane.new.self) = moved_push_lane job v c.args.packet c.args.byte c.push_lane.new.self c.valid.ensures.valid (subst (IsStateOf job) (sym c.self.view_is) c.requires) there.0 there.1 w.in-Ok.ensures.ok in
+      rw w.result-is (subst (λ x. Moved job x (PushLane c.args.packet c.args.byte) (with_copies v c.push_lane.new.self)) c.self.view_is moved)
   | in-Err w ↦ rw w.result-is tt
 ]
 

@@ -7,7 +7,7 @@ use Rattle.hq_copies.specs.Leftovers.{left_of}
 use Rattle.hq_copies.specs.Overlays.{run_at, dirty_over}
 use Rattle.hq_copies.proofs.Overlays.{run_below}
 use Rattle.hq_copies.proofs.Levels.{got, feeds, feeds_none, run_feeds}
-use Rattle.hq_copies.proofs.level.Level.feed.Goals as goal
+use Rattle.hq_copies.proofs.level.Level.push_into.Goals as goal
 
 pub returns-then-not-self : goal.returns-then-not-self
 returns-then-not-self c n =

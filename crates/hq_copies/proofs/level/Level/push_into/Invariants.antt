@@ -2,7 +2,7 @@ use Rattle.std.proofs.Common.{◌≡◌, ℕ, length}
 use Rattle.std.specs.FinMap as finite
 use Rattle.hq_copies.specs.Leftovers.{AreLeft, left_of}
 use Rattle.hq_copies.specs.Overlays.{dirty_over}
-use Rattle.hq_copies.proofs.level.Level.feed.Given as goal
+use Rattle.hq_copies.proofs.level.Level.push_into.Given as goal
 
 abbrev pub invariant-runs : goal.invariant-runs
 invariant-runs l = record {
