@@ -1,76 +1,92 @@
 -- What one pass over a text finds, and that it is taken in.
-use Rattle.std.proofs.Common.{◌≡◌, ◌≢◌, ℕ, ◌+◌, ◌-◌, ◌*◌, ◌^◌, ◌<◌, ◌≤◌, ◌&&◌, Bool, true, false, cond, List, [], ◌∷◌, ◌++◌, length, get_or, take, Option, Some, None, refl, sym, ap, subst, ◌∙◌, arith, ltb, append_assoc, zero, suc, add-one}
+use Rattle.std.proofs.Common.{◌≡◌, ℕ, ◌+◌, ◌*◌, ◌/◌, ◌%◌, ◌^◌, ◌<◌, ◌≤◌, Bool, List, [], ◌∷◌, ◌++◌, length, get_or, take, drop, Option, Some, None, refl, sym, ap, subst, ◌∙◌, arith, append_assoc, take_all, take-add, add-one}
 use Rattle.std.proofs.Math.Nat.{pow-suc, pow-le-pow_right}
 use Rattle.std.specs.Prelude.{MatchOption, IfSome, codes, map}
 use Rattle.std.specs.Fmt.{decimal}
 use Rattle.std.specs.Bool.{Decides}
-use Rattle.std.proofs.lemmas.Bool.{lt-ltb, le-leb, eqb-true, ne_eqb, eq-eqb, cond-true, cond-false}
-use Rattle.std.proofs.lemmas.Fmt.{decimal_digit}
-use Rattle.std.proofs.lemmas.List.{take_more}
+use Rattle.std.proofs.lemmas.Bool.{eqb-true, eq-eqb}
+use Rattle.std.proofs.lemmas.Fmt.{decimal_digit, decimal_step}
+use Rattle.std.proofs.lemmas.List.{take_more, take-append-drop, drop_more, get_or-drop}
 use Rattle.std.proofs.Common.{eqb}
-use Rattle.hq_text.specs.Numbers.{is_digit, read_on, number_of, IsNumber}
-use Rattle.hq_text.proofs.NumberLaws.{number_tells}
 use Rattle.hq_model.specs.Certificate as model
 use Rattle.hq_model.specs.Certificate.Rule.{Bit, Queue, And, Or, Through}
 use Rattle.hq_model.specs.Certificate.Fences.{ForReadWrite, ForWriteWrite, ForWriteRead, ForWriteWriteChained, ForWriteReadChained}
 use Rattle.hq_cert.specs.Grammar.{IsSmall, citation_word, rule_words, fences_words}
 use Rattle.hq_text.specs.Printed.{spaced, line_text}
-use Rattle.hq_cert.specs.OnePass.{DigitsAhead, NumberAhead, BelowAhead, CitationAhead, RuleAhead, LineAhead, FencesAhead, PairAhead}
+use Rattle.hq_cert.specs.OnePass.{DigitsAhead, DigitsSoFar, ThreeAhead, NumberAhead, BelowAhead, CitationAhead, RuleAhead, LineAhead, PacketsAhead, FencesAhead, PairAhead}
+use Rattle.hq_cert.proofs.Placed.{three_are, thousands}
 
 -- ---- digits
-
--- one digit more
-read_more : (n m d : ℕ) (ds : List ℕ) → read_on n ds ≡ Some m → is_digit d ≡ true → m * 10 + (d - 48) < 18446744073709551616 → read_on n (ds ++ d ∷ []) ≡ Some (m * 10 + (d - 48))
-read_more n m d [] e digit l =
-    let same : n ≡ m = cc in
-    let test : (is_digit d && ltb (n * 10 + (d - 48)) 18446744073709551616) ≡ true = ap (λ b. b && ltb (n * 10 + (d - 48)) 18446744073709551616) digit ∙ lt-ltb (n * 10 + (d - 48)) 18446744073709551616 (subst (λ (k : ℕ). k * 10 + (d - 48) < 18446744073709551616) (sym same) l) in
-    cond-true _ (Some (n * 10 + (d - 48))) None test ∙ ap (λ k. Some (k * 10 + (d - 48))) same
-read_more n m d (x ∷ ds) e digit l = by (is_digit x && ltb (n * 10 + (x - 48)) 18446744073709551616) (λ h. read_more (n * 10 + (x - 48)) m d ds h digit l) e where
-  by : (b : Bool) → (read_on (n * 10 + (x - 48)) ds ≡ Some m → read_on (n * 10 + (x - 48)) (ds ++ d ∷ []) ≡ Some (m * 10 + (d - 48))) → cond b (read_on (n * 10 + (x - 48)) ds) None ≡ Some m
-      → cond b (read_on (n * 10 + (x - 48)) (ds ++ d ∷ [])) None ≡ Some (m * 10 + (d - 48))
-  by true more e = more e
-  by false more e = absurd cc
-
--- a digit, by its distance from `0`
-is_digit_at : (d : ℕ) → 48 ≤ d → d ≤ 57 → is_digit d ≡ true
-is_digit_at d lo hi = rw (le-leb 48 d lo, le-leb d 57 hi) refl
-
--- the digits up to i are the number so far
-pub record ReadSoFar (text : List ℕ) (i number : ℕ) : Type 0 where
-  pub reads : read_on 0 (take i text) ≡ Some number
-  pub bound : number < 10 ^ i
-
-pub one_read : (text : List ℕ) (i number digit b : ℕ) → ReadSoFar text i number → i < length text → b ≡ get_or text i 0 → 48 + digit ≡ b → digit ≤ 9 → number * 10 + digit < 4294967296 → ReadSoFar text (i + 1) (number * 10 + digit)
-one_read text i number digit b so lt is at le small =
-    let found : b - 48 ≡ digit = omega arith in
-    let more : read_on 0 (take i text ++ b ∷ []) ≡ Some (number * 10 + (b - 48)) = read_more 0 number b (take i text) so.reads (is_digit_at b (omega arith) (omega arith)) (omega arith) in
-    record {
-      reads = ap (read_on 0) (take_more text i 0 lt ∙ ap (λ c. take i text ++ c ∷ []) (sym is)) ∙ more ∙ ap (λ k. Some (number * 10 + k)) found;
-      bound = let p : 10 ^ (i + 1) ≡ 10 ^ i * 10 = rw add-one (pow-suc 10 i) in let low = so.bound in omega arith;
-    }
 
 -- eight digits have 32 bits
 eight : (i number : ℕ) → i ≤ 8 → number < 10 ^ i → number < 100000000
 eight i number le l = let p : 10 ^ i ≤ 100000000 = pow-le-pow_right {n = 10} (omega arith) le in omega arith
 
-pub room_left : (text : List ℕ) (i number digit : ℕ) → ReadSoFar text i number → i < 9 → digit ≤ 9 → number * 10 + digit < 4294967296
-room_left text i number digit so lt le = let low = eight i number (omega arith) so.bound in omega arith
+pub room_for_digit : (text : List ℕ) (n count digit : ℕ) → DigitsSoFar text n count → count ≤ 8 → digit ≤ 9 → n * 10 + digit < 4294967296
+room_for_digit text n count digit so le low = let top = eight count n le so.few in omega arith
 
--- digits of which the first isn't `0`
-word_reads : (d : ℕ) (ds : List ℕ) (n : ℕ) → d ≢ 48 → read_on 0 (d ∷ ds) ≡ Some n → d ∷ ds ≡ decimal n
-unfolding number_of
-word_reads d ds n other e =
-    let found : IsNumber (d ∷ ds) n = number_tells (d ∷ ds) (Some n) (sym (cond-false (eqb d 48) _ (read_on 0 (d ∷ ds)) (ne_eqb d 48 other) ∙ e)) in found.0
+-- one digit more
+pub one_more_digit : (text : List ℕ) (n count digit b : ℕ) → DigitsSoFar text n count → count < length text → count ≤ 8 → b ≡ get_or text count 0 → 48 + digit ≡ b → digit ≤ 9 → DigitsSoFar text (n * 10 + digit) (count + 1)
+one_more_digit text n count digit b so lt le is at low =
+    let bound = so.few in
+    let some = so.some in
+    let top = eight count n le bound in
+    let front : (n * 10 + digit) / 10 ≡ n = omega arith in
+    let last : 48 + (n * 10 + digit) % 10 ≡ b = omega arith in
+    record {
+      are = take_more text count 0 lt ∙ ap (λ c. take count text ++ c ∷ []) (sym is) ∙ ap (λ t. t ++ b ∷ []) so.are ∙ sym (rw (decimal_step (n * 10 + digit) (omega arith) (omega arith), front, last) refl);
+      some = omega arith;
+      few = let p : 10 ^ (count + 1) ≡ 10 ^ count * 10 = rw add-one (pow-suc 10 count) in omega arith;
+    }
 
-pub digits_end : (text : List ℕ) (i number : ℕ) → 10 ≤ length text → i < 9 → 0 < i → get_or text 0 0 ≢ 48 → ReadSoFar text i number → DigitsAhead text number i
-digits_end [] i number long lt some other so = absurd (omega arith)
-digits_end (d ∷ more) zero number long lt some other so = absurd (omega arith)
-digits_end (d ∷ more) (suc i) number long lt some other so =
-    let low = eight (suc i) number (omega arith) so.bound in record { goes_on = omega arith; are = word_reads d (take i more) number other so.reads; small = omega arith }
+pub so_far_ahead : (text : List ℕ) (n count : ℕ) → DigitsSoFar text n count → count < length text → count ≤ 8 → DigitsAhead text n count
+so_far_ahead text n count so lt le = let low = eight count n le so.few in record { goes_on = lt; are = so.are; small = omega arith }
 
 pub zero_digit : (text : List ℕ) → 10 ≤ length text → get_or text 0 0 ≡ 48 → DigitsAhead text 0 1
 zero_digit [] long e = absurd (omega arith)
 zero_digit (d ∷ more) long e = record { goes_on = omega arith; are = ap (λ c. c ∷ []) e ∙ sym (decimal_digit 0 (omega arith)); small = omega arith }
+
+-- the first digit, where it isn't `0`
+pub first_digit : (text : List ℕ) (digit b : ℕ) → 10 ≤ length text → b ≡ get_or text 0 0 → 48 + digit ≡ b → 0 < digit → digit ≤ 9 → DigitsSoFar text digit 1
+first_digit [] digit b long is at some low = absurd (omega arith)
+first_digit (d ∷ more) digit b long is at some low =
+    let e : d ≡ 48 + digit = omega arith in
+    record { are = ap (λ c. c ∷ []) e ∙ sym (decimal_digit digit (omega arith)); some = some; few = omega arith }
+
+-- three digits, of which the first isn't `0`
+pub three_digits_so_far : (text : List ℕ) (n : ℕ) → ThreeAhead text n → 100 ≤ n → DigitsSoFar text n 3
+three_digits_so_far text n three lo = record { are = three.are ∙ ap (drop 1) (three_are n lo three.small); some = omega arith; few = three.small }
+
+-- three digits more
+pub six_digits : (text : List ℕ) (first second : ℕ) → DigitsSoFar text first 3 → ThreeAhead (drop 3 text) second → DigitsSoFar text (first * 1000 + second) 6
+six_digits text first second so three =
+    let some = so.some in
+    let few = so.few in
+    let small = three.small in
+    let front : (first * 1000 + second) / 1000 ≡ first = omega arith in
+    let last : (first * 1000 + second) % 1000 ≡ second = omega arith in
+    record {
+      are = take-add 3 3 text ∙ ap (λ t. t ++ take 3 (drop 3 text)) so.are ∙ ap (λ t. decimal first ++ t) three.are ∙ sym (rw (thousands (first * 1000 + second) (omega arith) (omega arith), front, last) refl);
+      some = omega arith;
+      few = omega arith;
+    }
+
+-- the number of the digits so far, and the byte that ends it
+pub ended_at : (text rest : List ℕ) (n count stop : ℕ) → DigitsSoFar text n count → count < length text → count ≤ 8 → get_or text count 0 ≡ stop → rest ≡ drop (count + 1) text → NumberAhead text n stop rest
+ended_at text rest n count stop so lt le is behind =
+    let low = eight count n le so.few in
+    record {
+      is = sym (take-append-drop count text) ∙ ap (λ t. t ++ drop count text) so.are ∙ ap (λ r. decimal n ++ r) (drop_more text count 0 lt) ∙ ap (λ b. decimal n ++ b ∷ drop (count + 1) text) is
+          ∙ ap (λ r. decimal n ++ stop ∷ r) (sym behind);
+      small = omega arith;
+    }
+
+pub three_ended : (text rest : List ℕ) (n stop : ℕ) → ThreeAhead text n → 100 ≤ n → 10 ≤ length text → get_or text 3 0 ≡ stop → rest ≡ drop 4 text → NumberAhead text n stop rest
+three_ended text rest n stop three lo long is behind = ended_at text rest n 3 stop (three_digits_so_far text n three lo) (omega arith) (omega arith) is behind
+
+pub six_ended : (text rest : List ℕ) (first second stop : ℕ) → DigitsSoFar text first 3 → ThreeAhead (drop 3 text) second → 10 ≤ length text → get_or (drop 3 text) 3 0 ≡ stop → rest ≡ drop 7 text → NumberAhead text (first * 1000 + second) stop rest
+six_ended text rest first second stop so three long is behind =
+    ended_at text rest (first * 1000 + second) 6 stop (six_digits text first second so three) (omega arith) (omega arith) (sym (get_or-drop 3 text 3 0) ∙ is) behind
 
 -- ---- words of a line
 
@@ -106,7 +122,7 @@ rule_more text w t rest (And slot) e f = word_more text w t rest (codes "and") (
 rule_more text w t rest (Or branches) e f = word_more text w t rest (codes "or") (map citation_word branches) e f
 rule_more text w t rest (Through first second) e f = word_more text w t rest (codes "through") (decimal first ∷ decimal second ∷ []) e f
 
-pub line_ahead : (k : ℕ) (text t u v w rest : List ℕ) (own p r : ℕ) (rule : model.Rule) → text ≡ codes "line " ++ t → NumberAhead t own 32 u → own ≡ k → NumberAhead u p 32 v → NumberAhead v r 32 w → RuleAhead k w rule rest
+line_ahead : (k : ℕ) (text t u v w rest : List ℕ) (own p r : ℕ) (rule : model.Rule) → text ≡ codes "line " ++ t → NumberAhead t own 32 u → own ≡ k → NumberAhead u p 32 v → NumberAhead v r 32 w → RuleAhead k w rule rest
     → LineAhead k text (record { p = p; r = r; rule = rule }) rest
 line_ahead k text t u v w rest own p r rule e a same b c d =
     record {
@@ -115,6 +131,9 @@ line_ahead k text t u v w rest own p r rule e a same b c d =
           (word_more u (decimal p) v rest (decimal r) (rule_words rule) b.is (rule_more v (decimal r) w rest rule c.is d.is)));
       fits = record { number = subst (λ (n : ℕ). IsSmall n) same a.small; p = b.small; r = c.small; rule = d.fits };
     }
+
+pub packets_ahead : (k : ℕ) (text t u v w : List ℕ) (own p r : ℕ) → text ≡ codes "line " ++ t → NumberAhead t own 32 u → own ≡ k → NumberAhead u p 32 v → NumberAhead v r 32 w → PacketsAhead k text p r w
+packets_ahead k text t u v w own p r e a same b c = record { leads = λ rule rest d. line_ahead k text t u v w rest own p r rule e a same b c d }
 
 -- ---- pair lines
 
@@ -160,6 +179,20 @@ pair_ahead count text t u v rest p r fences e a b c =
     }
 
 -- ---- prefixes
+
+four_first : (text : List ℕ) → 4 ≤ length text → take 4 text ≡ get_or text 0 0 ∷ get_or text 1 0 ∷ get_or text 2 0 ∷ get_or text 3 0 ∷ []
+four_first [] long = absurd (omega arith)
+four_first (a ∷ []) long = absurd (omega arith)
+four_first (a ∷ b ∷ []) long = absurd (omega arith)
+four_first (a ∷ b ∷ c ∷ []) long = absurd (omega arith)
+four_first (a ∷ b ∷ c ∷ d ∷ more) long = refl
+
+-- four bytes that are the same number, and what stands behind them
+pub behind_both : (text behind four others rest : List ℕ) → 4 ≤ length text → length four ≡ 4
+    → get_or text 0 0 ∷ get_or text 1 0 ∷ get_or text 2 0 ∷ get_or text 3 0 ∷ [] ≡ get_or four 0 0 ∷ get_or four 1 0 ∷ get_or four 2 0 ∷ get_or four 3 0 ∷ []
+    → behind ≡ drop 4 text → behind ≡ others ++ rest → text ≡ four ++ (others ++ rest)
+behind_both text behind four others rest long size same is e =
+    sym (take-append-drop 4 text) ∙ ap (λ t. t ++ drop 4 text) (four_first text long ∙ same ∙ sym (four_first four (omega arith)) ∙ take_all 4 four (omega arith)) ∙ ap (λ t. four ++ t) (sym is ∙ e)
 
 pub from_match : {X : Type 0} (P : X → Type 0) (N : Type 0) (r : Option X) → MatchOption r N P → IfSome r P
 from_match P N None m = tt

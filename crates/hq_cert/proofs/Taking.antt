@@ -45,6 +45,10 @@ line_taken text rest behind count k old mid new l so at number ahead is =
     let a : LineAhead (length mid.lines) rest l behind = subst (λ (n : ℕ). LineAhead n rest l behind) (sym number) ahead in
     one_more text rest behind count old mid new (line_words (length mid.lines) l) so (plain_line_of (length mid.lines) l a.fits) a.is (line_added mid l at a.fits ∙ ap (λ s. Ok s) (sym is))
 
+-- one line more
+pub number_more : (n : ℕ) (before after : List model.Line) (l : model.Line) → n ≡ length before → after ≡ before ++ l ∷ [] → n + 1 ≡ length after
+number_more n before after l e is = ap (λ m. m + 1) e ∙ sym (length-append before (l ∷ [])) ∙ ap length (sym is)
+
 pub pair_taken : (text rest behind : List ℕ) (count k : ℕ) (old mid new : State) (p : model.Pair) → TakenFrom text rest count old mid → mid.stage ≡ stage.Pairs → length mid.lines ≡ k → PairAhead k rest p behind → new ≡ with_pair mid p → TakenFrom text behind (count + 1) old new
 pair_taken text rest behind count k old mid new p so at number ahead is =
     let a : PairAhead (length mid.lines) rest p behind = subst (λ (n : ℕ). PairAhead n rest p behind) (sym number) ahead in

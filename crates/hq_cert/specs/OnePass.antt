@@ -1,5 +1,5 @@
 -- What a text is found to begin with, in one pass over its bytes.
-use Rattle.std.specs.Prelude.{◌≡◌, ℕ, ◌+◌, ◌<◌, ◌≤◌, List, ◌∷◌, ◌++◌, length, take, Bool, Option}
+use Rattle.std.specs.Prelude.{◌≡◌, ℕ, ◌+◌, ◌^◌, ◌<◌, ◌≤◌, List, ◌∷◌, ◌++◌, length, take, Bool, Option}
 use Rattle.std.specs.Fmt.{decimal}
 use Rattle.hq_text.specs.LineByLine.{AdmitsAll}
 use Rattle.hq_text.specs.Lines.{lines_of}
@@ -7,6 +7,7 @@ use Rattle.hq_text.specs.Printed.{line_text}
 use Rattle.hq_model.specs.Certificate as model
 use Rattle.hq_cert.specs.Grammar.{IsSmall, IsBelow, IsCited, citation_word, rule_words, line_words, fences_words}
 use Rattle.hq_cert.specs.Grammar.{pair_words, RuleFits, LineFits, FencesFit, PairFits}
+use Rattle.hq_cert.specs.Rows.{three_digits}
 use Rattle.hq_cert.specs.TextFaults.{State, added}
 
 -- the text begins with so many digits, which are the number n, and goes on
@@ -14,6 +15,17 @@ pub record DigitsAhead (text : List ℕ) (n count : ℕ) : Type 0 where
   pub goes_on : count < length text
   pub are : take count text ≡ decimal n
   pub small : IsSmall n
+
+-- the text begins with so many digits, of which the first isn't 0, and which are the number n
+pub record DigitsSoFar (text : List ℕ) (n count : ℕ) : Type 0 where
+  pub are : take count text ≡ decimal n
+  pub some : 0 < n
+  pub few : n < 10 ^ count
+
+-- the text begins with the three digits of n
+pub record ThreeAhead (text : List ℕ) (n : ℕ) : Type 0 where
+  pub are : take 3 text ≡ three_digits n
+  pub small : n < 1000
 
 -- the text is the number n, a byte that ends it, and the rest
 pub record NumberAhead (text : List ℕ) (n stop : ℕ) (rest : List ℕ) : Type 0 where
@@ -39,6 +51,11 @@ pub record RuleAhead (k : ℕ) (text : List ℕ) (rule : model.Rule) (rest : Lis
 pub record LineAhead (k : ℕ) (text : List ℕ) (line : model.Line) (rest : List ℕ) : Type 0 where
   pub is : text ≡ line_text (line_words k line) ++ rest
   pub fits : LineFits k line
+
+-- the text is the number and the packets of line k, so that it is line k where a rule stands behind them
+pub record PacketsAhead (k : ℕ) (text : List ℕ) (p r : ℕ) (rest : List ℕ) : Type 0 where
+  pub leads : (rule : model.Rule) (end : List ℕ) → RuleAhead k rest rule end
+      → LineAhead k text (record { p = p; r = r; rule = rule }) end
 
 -- the text is the fences of a pair line behind so many lines, a line feed, and the rest
 pub record FencesAhead (count : ℕ) (text : List ℕ) (fences : model.Fences) (rest : List ℕ) : Type 0 where

@@ -13,3 +13,11 @@ pub record IsRow (n : ℕ) (row : Row) : Type 0 where
   pub short : row.length ≤ 4
   pub word : take row.length row.word ≡ 32 ∷ decimal n
   pub digits : take 3 row.digits ≡ three_digits n
+
+-- the three bytes that stand in a number
+abbrev pub three_bytes : ℕ → List ℕ
+three_bytes n = (n % 256) ∷ (n / 256 % 256) ∷ (n / 65536) ∷ []
+
+-- the four bytes that stand in a number
+abbrev pub four_bytes : ℕ → List ℕ
+four_bytes n = (n % 256) ∷ (n / 256 % 256) ∷ (n / 65536 % 256) ∷ (n / 16777216) ∷ []

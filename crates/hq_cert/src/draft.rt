@@ -6,8 +6,7 @@ ghost use Rattle.hq_cert.specs.TextFaults.{start, add_head, add_order, add_line,
 ghost use Rattle.hq_cert.specs.TextFaults.{add_content, added, is_ended, read_of};
 ghost use Rattle.hq_cert.specs.DraftView.{state_of};
 ghost use Rattle.hq_cert.specs.Gives.{Gives};
-ghost use Rattle.hq_cert.specs.OnePass.{LineAhead, PairAhead, TakenFrom};
-ghost use Rattle.hq_cert.specs.View.{line_of, pair_of};
+ghost use Rattle.hq_cert.specs.OnePass.{TakenFrom};
 ghost use Rattle.hq_cert.specs.declared.draft.Stage.{Stage};
 
 use crate::certificate::{Certificate, Line, Pair};
@@ -16,6 +15,7 @@ use crate::one_pass;
 use crate::operands::numbers_said;
 use crate::pairs::pair_said;
 use crate::rules::line_said;
+use crate::threes::Threes;
 use hq_model::PACKETS;
 use std::alloc::Global;
 
@@ -203,51 +203,56 @@ impl Draft {
         }
     }
 
-    /// The next line, where a text begins with one in a common form, and what stands behind it.
-    #[inline(always)]
-    fn line_ahead<'a>(&self, text: &'a [u8]) -> Option<(Line, &'a [u8])>
-        ensures { IfSome result (λ t. LineAhead (length (state_of self.now).lines) text.now (line_of t.0) t.1.now) }
-    {
-        one_pass::line(self.number()?, text)
-    }
-
-    /// The same of a pair line.
-    #[inline(always)]
-    fn pair_ahead<'a>(&self, text: &'a [u8]) -> Option<(Pair, &'a [u8])>
-        ensures { IfSome result (λ t. PairAhead (length (state_of self.now).lines) text.now (pair_of t.0) t.1.now) }
-    {
-        one_pass::pair(self.number()?, text)
-    }
-
     /// Takes in the lines that a text begins with, up to one that isn't in a common form. Answers how many they
     /// are, and what is left.
-    fn take_lines<'a>(&mut self, text: &'a [u8]) -> Result<(usize, &'a [u8]), CertReason>
+    fn take_lines<'a>(
+        &mut self,
+        threes: &Threes,
+        text: &'a [u8],
+    ) -> Result<(usize, &'a [u8]), CertReason>
         requires { self.old.stage ≡ Stage.Lines }
         ensures taken { IfOk result (λ t. TakenFrom text.now t.1.now t.0 (state_of self.old) (state_of self.new)) }
         ensures memory { IfErr result (λ e. e ≡ CertReason.Memory) }
     {
         let mut rest = text;
         let mut taken = 0;
+        let Some(mut number) = self.number() else {
+            return Ok((taken, rest));
+        };
         loop {
-            let Some((line, behind)) = self.line_ahead(rest) else {
+            let Some((p, r, ahead)) = one_pass::packets(threes, number, rest) else {
                 return Ok((taken, rest));
             };
-            self.lines.push(line)?;
+            let Some((rule, behind)) = one_pass::rule(threes, number, ahead) else {
+                return Ok((taken, rest));
+            };
+            self.lines.push(Line { p, r, rule })?;
             rest = behind;
             taken += 1;
+            if number == u32::MAX {
+                return Ok((taken, rest));
+            }
+            number += 1;
         }
     }
 
     /// The same of pair lines.
-    fn take_pairs<'a>(&mut self, text: &'a [u8]) -> Result<(usize, &'a [u8]), CertReason>
+    fn take_pairs<'a>(
+        &mut self,
+        threes: &Threes,
+        text: &'a [u8],
+    ) -> Result<(usize, &'a [u8]), CertReason>
         requires { self.old.stage ≡ Stage.Pairs }
         ensures taken { IfOk result (λ t. TakenFrom text.now t.1.now t.0 (state_of self.old) (state_of self.new)) }
         ensures memory { IfErr result (λ e. e ≡ CertReason.Memory) }
     {
         let mut rest = text;
         let mut taken = 0;
+        let Some(count) = self.number() else {
+            return Ok((taken, rest));
+        };
         loop {
-            let Some((pair, behind)) = self.pair_ahead(rest) else {
+            let Some((pair, behind)) = one_pass::pair(threes, count, rest) else {
                 return Ok((taken, rest));
             };
             self.pairs.push(pair)?;
@@ -259,13 +264,17 @@ impl Draft {
     /// Takes in the lines that a text begins with, as long as they are in a common form. Answers how many they are,
     /// and what is left.
     #[tactic(auto, using(crate::proofs::Taking::none_taken_from))]
-    pub fn take<'a>(&mut self, text: &'a [u8]) -> Result<(usize, &'a [u8]), CertReason>
+    pub fn take<'a>(
+        &mut self,
+        threes: &Threes,
+        text: &'a [u8],
+    ) -> Result<(usize, &'a [u8]), CertReason>
         ensures taken { IfOk result (λ t. TakenFrom text.now t.1.now t.0 (state_of self.old) (state_of self.new)) }
         ensures memory { IfErr result (λ e. e ≡ CertReason.Memory) }
     {
         match self.stage {
-            Stage::Lines => self.take_lines(text),
-            Stage::Pairs => self.take_pairs(text),
+            Stage::Lines => self.take_lines(threes, text),
+            Stage::Pairs => self.take_pairs(threes, text),
             _ => Ok((0, text)),
         }
     }

@@ -21,6 +21,7 @@ mod reader;
 mod reading;
 mod rows;
 mod rules;
+mod threes;
 mod wide;
 
 pub use certificate::{Branches, Certificate, Fences, Line, Pair, ReadChain, Rule, WriteChain};

@@ -8,13 +8,15 @@ use crate::certificate::Certificate;
 use crate::draft::Draft;
 use crate::fault::CertFault;
 use crate::reading::{NO_MEMORY, finished, take_lines};
+use crate::threes::Threes;
 use hq_text::TakesLines;
 use std::alloc::Global;
 
-/// What the lines of a certificate left so far, and how many they are.
+/// What the lines of a certificate left so far, how many they are, and what their numbers are read by.
 #[derive(Drop)]
 pub struct Progress {
     draft: Draft,
+    threes: Threes,
     count: usize,
 }
 
@@ -25,6 +27,7 @@ impl Progress {
     {
         Progress {
             draft: Draft::new(alloc),
+            threes: Threes::new(),
             count: 0,
         }
     }
@@ -45,7 +48,7 @@ impl TakesLines for Progress {
     ghost Refuses = { HasFault };
 
     fn take_lines(&mut self, alloc: Global, text: &[u8]) -> Result<(), CertFault> {
-        self.count = take_lines(&mut self.draft, alloc, self.count, text)?;
+        self.count = take_lines(&mut self.draft, alloc, &self.threes, self.count, text)?;
         Ok(())
     }
 

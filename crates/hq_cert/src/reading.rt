@@ -12,6 +12,7 @@ ghost use Rattle.hq_cert.specs.TextFaults.{FirstFault, added, at_line, start};
 use crate::certificate::Certificate;
 use crate::draft::Draft;
 use crate::fault::{CertFault, CertReason};
+use crate::threes::Threes;
 use hq_text::first_line;
 use std::alloc::{AllocError, Global};
 
@@ -69,6 +70,7 @@ fn counted(count: usize, more: usize) -> Result<usize, CertFault>
 fn take_split<'a>(
     draft: &mut Draft,
     alloc: Global,
+    threes: &Threes,
     words: &mut Vec<&'a [u8]>,
     before: usize,
     text: &'a [u8],
@@ -78,7 +80,7 @@ fn take_split<'a>(
     let mut rest = text;
     let mut count = before;
     while !rest.is_empty() {
-        let (taken, left) = match draft.take(rest) {
+        let (taken, left) = match draft.take(threes, rest) {
             Ok(found) => found,
             Err(reason) => return Err(fault_at(count, reason)),
         };
@@ -100,13 +102,14 @@ fn take_split<'a>(
 pub fn take_lines(
     draft: &mut Draft,
     alloc: Global,
+    threes: &Threes,
     before: usize,
     text: &[u8],
 ) -> Result<usize, CertFault>
     ensures { TakesAll result before (lines_of text.now) (state_of draft.old) (state_of draft.new) }
 {
     let mut words = Vec::new(alloc);
-    take_split(draft, alloc, &mut words, before, text)
+    take_split(draft, alloc, threes, &mut words, before, text)
 }
 
 /// The certificate of a text of so many lines, all of them taken in; or that it has no end.
@@ -128,7 +131,7 @@ fn read_all(alloc: Global, text: &[u8]) -> Result<Certificate, CertFault>
     ensures { ReadOf result (lines_of text.now) }
 {
     let mut draft = Draft::new(alloc);
-    let count = take_lines(&mut draft, alloc, 0, text)?;
+    let count = take_lines(&mut draft, alloc, &Threes::new(), 0, text)?;
     finished(draft, count)
 }
 

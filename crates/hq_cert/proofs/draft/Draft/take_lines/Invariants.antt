@@ -4,11 +4,12 @@ use Rattle.hq_cert.specs.DraftView.{state_of}
 use Rattle.hq_cert.specs.OnePass.{TakenFrom}
 use Rattle.hq_cert.proofs.draft.Draft.take_lines.Given as goal
 
-abbrev pub invariant-loop-line : goal.invariant-loop-line
-invariant-loop-line l = record {
+abbrev pub invariant-loop-p : goal.invariant-loop-p
+invariant-loop-p l = record {
   taken : TakenFrom l.text l.rest l.taken (state_of l.fn.self) (state_of l.self);
   at : l.self.stage ≡ stage.Lines;
+  number : l.number ≡ length (state_of l.self).lines;
 }
 
-abbrev pub decreases-loop-line : goal.decreases-loop-line
-decreases-loop-line l = length l.rest
+abbrev pub decreases-loop-p : goal.decreases-loop-p
+decreases-loop-p l = length l.rest

@@ -8,6 +8,7 @@ abbrev pub invariant-loop-pair : goal.invariant-loop-pair
 invariant-loop-pair l = record {
   taken : TakenFrom l.text l.rest l.taken (state_of l.fn.self) (state_of l.self);
   at : l.self.stage ≡ stage.Pairs;
+  number : l.count ≡ length (state_of l.self).lines;
 }
 
 abbrev pub decreases-loop-pair : goal.decreases-loop-pair

@@ -11,4 +11,4 @@ returns-in_err-self-clause-fault c =
 
 pub returns-clause-took : goal.returns-clause-took
 returns-clause-took c lines h =
-    lines_behind c.args.self.now (record { draft = c.take_lines.new.draft; count = c.in_ok-self.field-0 }) lines (lines_of c.args.text.now) c.in_ok-self.ensures.0 c.in_ok-self.ensures.1 h
+    lines_behind c.args.self.now (record { draft = c.take_lines.new.draft; threes = c.args.self.now.threes; count = c.in_ok-self.field-0 }) lines (lines_of c.args.text.now) c.in_ok-self.ensures.0 c.in_ok-self.ensures.1 h
