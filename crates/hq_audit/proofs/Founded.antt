@@ -1,5 +1,5 @@
 -- What comes before a packet in a round rests on what comes in lower rounds.
-use Rattle.std.proofs.Common.{ℕ, zero, suc, ◌<◌, inl, inr, length, refl, sym, subst, arith, Some, None, Option}
+use Rattle.std.proofs.Common.{ℕ, zero, suc, inl, inr, refl, sym, subst, arith, Some, None, Option}
 use Rattle.std.specs.Prelude.{MatchOption, IsSome}
 use Rattle.std.proofs.lemmas.Bool.{cases_lt}
 use Rattle.hq_model.specs.Job.{Job, IsPacket}
@@ -118,3 +118,7 @@ middle_between job round p r m b = elim (cases_lt b.first.k b.second.k) [
   | inl low ↦ record { k = b.second.k; lower = b.second.lower; first = within_le job b.second.k b.first.k p m (omega arith) b.first.within; second = b.second.within }
   | inr high ↦ record { k = b.first.k; lower = b.first.lower; first = b.first.within; second = within_le job b.first.k b.second.k m r (omega arith) b.second.within }
 ]
+
+-- what is between two packets is one
+pub middle_packet : (job : Job) (round p r m : ℕ) → ByMiddle job round p r m → IsPacket job m
+middle_packet job round p r m b = within_second job b.first.k p m b.first.within

@@ -1,5 +1,5 @@
 pub mod Rests
-pub mod Parts
+pub mod Derived
 pub mod Kept
 pub mod Paired
 pub mod Drafted

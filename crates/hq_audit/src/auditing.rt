@@ -7,7 +7,7 @@ ghost use Rattle.hq_model.specs.Fence.{Ordered};
 ghost use Rattle.hq_model.specs.Order.{OrderList};
 ghost use Rattle.hq_audit.specs.Drafted.{AllDrafted};
 ghost use Rattle.hq_audit.specs.Paired.{AllPaired, pairs_of};
-ghost use Rattle.hq_audit.specs.Parts.{AreParts};
+ghost use Rattle.hq_parts.specs.Parts.{AreParts};
 ghost use Rattle.hq_audit.specs.Refused.{IsRefused, AllRefused};
 ghost use Rattle.hq_audit.specs.declared.fault.AuditNo.TheVariants.{Memory};
 
@@ -15,10 +15,10 @@ use crate::drafting::{Drafts, draft_all};
 use crate::fault::AuditNo;
 use crate::gathering::lines_for;
 use crate::pairs::cite_all;
-use crate::parts::Parts;
 use hq_cert::Certificate;
 use hq_job::Job;
 use hq_order::{Before, schedule};
+use hq_parts::Parts;
 use std::alloc::{AllocError, Global};
 
 /// The numbers in 32 bits.

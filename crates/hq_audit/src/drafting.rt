@@ -11,18 +11,18 @@ ghost use Rattle.hq_fence.specs.Judgement.{ReleasesBefore, ReleasesToAcquire, Sh
 ghost use Rattle.hq_packet.specs.declared.packet.Scope.TheVariants as scope;
 ghost use Rattle.hq_audit.specs.Drafted.{acquire_by, release_by, Drafted, AllDrafted, DraftedAs, DraftsGo};
 ghost use Rattle.hq_audit.specs.Paired.{pairs_of, HasPairIn, HasAll, RowPaired, AllPaired};
-ghost use Rattle.hq_audit.specs.Parts.{AreParts};
+ghost use Rattle.hq_parts.specs.Parts.{AreParts};
 ghost use Rattle.hq_audit.specs.Refused.{ShownOneWay, RowShown, PairRefused, RowRefused, AllRefused};
 
 use crate::directed::{Directed, direct_at_once, direct_kinds};
 use crate::fault::AuditNo;
 use crate::marking::need_shown;
 use crate::needs::Needs;
-use crate::parts::Parts;
 use hq_cert::{Citation, Fences, Pair, ReadChain, WriteChain};
 use hq_fence::{Acquire, Release, Shown};
 use hq_footprint::Kinds;
 use hq_order::Before;
+use hq_parts::Parts;
 use std::alloc::{AllocError, Global};
 
 /// Stands where the number of a line is to come.
@@ -284,7 +284,7 @@ impl Drafts {
         ensures has { OnOk result (HasAll before.now (pairs_of self.new.pairs) direction.first direction.second) }
     {
         let (p, r) = (direction.first, direction.second);
-        need_shown(&mut self.needs, before, p, r, direction.shown);
+        need_shown(&mut self.needs, p, r, direction.shown);
         self.add_shown(before, p, r, direction.shown)?;
         Ok(())
     }
@@ -343,12 +343,13 @@ impl Drafts {
         ensures shown { OnOk result (RowShown before.now a (length before.now.packets)) }
         ensures refused { IfErr result (RowRefused before.now a) }
     {
-        before.job().valid();
-        let row = parts.others(before, a);
-        let mut b = row.next(before, a + 1);
+        let job = before.job();
+        job.valid();
+        let row = parts.others(job, a);
+        let mut b = row.next(job, a + 1);
         'others: while b < before.len() {
             self.add_pair(before, a, b)?;
-            b = row.next(before, b + 1);
+            b = row.next(job, b + 1);
         }
         Ok(())
     }

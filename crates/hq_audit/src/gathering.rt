@@ -1,12 +1,14 @@
 //! A line for each that is needed.
 
-ghost use Rattle.std.specs.Prelude.{IfOk, OnOk, ◌+◌, ◌<◌, ◌≤◌};
+ghost use Rattle.std.specs.Prelude.{All, IfOk, OnOk, ◌+◌, ◌<◌, ◌≤◌};
+ghost use Rattle.hq_audit.specs.Derived.{AllDerived, IsDerived};
 ghost use Rattle.hq_audit.specs.Kept.{Kept};
 
 use crate::lines::Lines;
 use crate::needs::Needs;
+use crate::resting::{Derivations, Derived, derive_all};
+use hq_bits::{WORDS, lowest, without};
 use hq_order::Before;
-use hq_order::bits::{WORDS, lowest, without};
 use std::alloc::{AllocError, Global};
 
 /// Adds the line that p is before r, if that is so; those that it cites are there.
@@ -62,8 +64,9 @@ fn add_row(
     ensures { OnOk result (Kept before.now lines.new) }
 {
     for place in 0..WORDS {
-        let word = lines.word(p * WORDS + place) & before.fresh(round, p, place);
-        if word != 0 {
+        let needed = lines.word(p * WORDS + place);
+        if needed != 0 {
+            let word = needed & before.fresh(round, p, place);
             add_word(lines, alloc, before, p, word, place * 64)?;
         }
     }
@@ -87,22 +90,70 @@ fn add_round(
     Ok(())
 }
 
-/// Adds each line that is needed, by round, then by the first packet, then by the second.
-fn add_all(lines: &mut Lines, alloc: Global, before: &Before) -> Result<(), AllocError>
-    requires { Kept before.now lines.old }
+/// Adds a line that is derived.
+fn add_line(
+    lines: &mut Lines,
+    alloc: Global,
+    before: &Before,
+    round: usize,
+    line: Derived,
+) -> Result<(), AllocError>
+    requires kept { Kept before.now lines.old }
+    requires derived { IsDerived before.now round line }
     ensures { OnOk result (Kept before.now lines.new) }
 {
-    for round in 0..before.rounds() {
-        add_round(lines, alloc, before, round)?;
+    let (p, r) = (line.p as usize, line.r as usize);
+    let Some(m) = line.middle else {
+        return add_one(lines, alloc, before, p, r);
+    };
+    lines.between(alloc, before, round, p, m as usize, r)?;
+    Ok(())
+}
+
+/// Adds the derived lines of a round.
+fn add_derived(
+    lines: &mut Lines,
+    alloc: Global,
+    before: &Before,
+    round: usize,
+    derived: &[Derived],
+) -> Result<(), AllocError>
+    requires kept { Kept before.now lines.old }
+    requires derived { All (IsDerived before.now round) derived.now }
+    ensures { OnOk result (Kept before.now lines.new) }
+{
+    for line in derived {
+        add_line(lines, alloc, before, round, *line)?;
     }
     Ok(())
 }
 
-/// The lines that are needed, and no others.
+/// Adds those of all rounds, of which the first one stands last.
+fn add_rounds(
+    lines: &mut Lines,
+    alloc: Global,
+    before: &Before,
+    rounds: &[Derivations],
+) -> Result<(), AllocError>
+    requires kept { Kept before.now lines.old }
+    requires derived { All (AllDerived before.now) rounds.now }
+    ensures { OnOk result (Kept before.now lines.new) }
+{
+    for behind in 0..rounds.len() {
+        let derived = &rounds[rounds.len() - 1 - behind];
+        add_derived(lines, alloc, before, derived.round, &derived.lines)?;
+    }
+    Ok(())
+}
+
+/// The lines that are needed, and no others: by round, then by the first packet, then by the second.
 pub fn lines_for(alloc: Global, before: &Before, needs: Needs) -> Result<Lines, AllocError>
     ensures { IfOk result (Kept before.now) }
 {
+    let mut needs = needs;
+    let rounds = derive_all(alloc, &mut needs, before)?;
     let mut lines = Lines::new(alloc, before, needs)?;
-    add_all(&mut lines, alloc, before)?;
+    add_round(&mut lines, alloc, before, 0)?;
+    add_rounds(&mut lines, alloc, before, &rounds)?;
     Ok(lines)
 }

@@ -1,6 +1,6 @@
 //! The lines of a certificate, gathered.
 
-ghost use Rattle.std.specs.Prelude.{◌≡◌, ℕ, ◌+◌, ◌*◌, ◌^◌, ◌<◌, ◌++◌, ◌∷◌, [], IfOk, MatchOption, Some, length};
+ghost use Rattle.std.specs.Prelude.{◌≡◌, ℕ, ◌+◌, ◌*◌, ◌^◌, ◌<◌, ◌++◌, ◌∷◌, [], IfOk, IfSome, MatchOption, Some, length};
 ghost use Rattle.std.specs.Prelude.{slice_get};
 ghost use Rattle.hq_cert.specs.View.{rule_of};
 ghost use Rattle.hq_model.specs.Job.{packet};
@@ -168,6 +168,58 @@ impl Lines {
         ensures { IfOk result (λ k. Numbered before.now self.old self.new p r k) }
     {
         let rule = self.rule(alloc, before, round, p, r)?;
+        self.add(p, r, rule)
+    }
+
+    /// The numbers of the lines that p is before m, and m before r, if both are there.
+    #[inline(always)]
+    fn both_known(&self, p: usize, m: usize, r: usize) -> Option<(u32, u32)>
+        ensures { IfSome result
+            (λ n. Says (lines_of self.now) (length (lines_of self.now)) n.0 p m
+            × Says (lines_of self.now) (length (lines_of self.now)) n.1 m r) }
+    {
+        let first = self.known(p, m)?;
+        let second = self.known(m, r)?;
+        Some((first, second))
+    }
+
+    /// The rule that p is before m, and m before r, mostly by lines that are there.
+    #[inline(always)]
+    fn joined(
+        &mut self,
+        alloc: Global,
+        before: &Before,
+        round: usize,
+        p: usize,
+        m: usize,
+        r: usize,
+    ) -> Result<Rule, AllocError>
+        requires kept { Kept before.now self.old }
+        requires middle { ByMiddle before.now round p r m }
+        ensures { IfOk result (λ rule. Ruled before.now self.old self.new p r rule) }
+    {
+        if let Some((first, second)) = self.both_known(p, m, r) {
+            return Ok(Rule::Through(first, second));
+        }
+        self.through(alloc, before, round, p, m, r)
+    }
+
+    /// Adds the line that p is before r through m, by lower rounds, behind those that it cites; answers its number.
+    #[inline(always)]
+    pub fn between(
+        &mut self,
+        alloc: Global,
+        before: &Before,
+        round: usize,
+        p: usize,
+        m: usize,
+        r: usize,
+    ) -> Result<u32, AllocError>
+        requires kept { Kept before.now self.old }
+        requires middle { ByMiddle before.now round p r m }
+        ensures { IfOk result (λ k. Numbered before.now self.old self.new p r k) }
+    {
+        let rule = self.joined(alloc, before, round, p, m, r)?;
         self.add(p, r, rule)
     }
 

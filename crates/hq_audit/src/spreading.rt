@@ -1,14 +1,14 @@
 //! Pair lines as pairs are judged in many threads.
 
 ghost use Rattle.std.specs.Prelude.{◌+◌, ◌*◌, ◌<◌, IfOk, IfSome, length};
-ghost use Rattle.hq_audit.specs.Parts.{AreParts};
+ghost use Rattle.hq_parts.specs.Parts.{AreParts};
 ghost use Rattle.hq_audit.specs.Rowed.{DraftsRows, MayDraft, AllMayDraft, IsWhole};
 
 use crate::drafting::Drafts;
 use crate::fault::AuditNo;
 use crate::needs::Needs;
-use crate::parts::Parts;
 use hq_order::Before;
+use hq_parts::Parts;
 use std::alloc::Global;
 use std::thread;
 use std::thread::Threads;

@@ -4,15 +4,15 @@ ghost use Rattle.std.specs.Prelude.{IfErr, OnOk, length};
 ghost use Rattle.hq_job.specs.Plan.{plan};
 ghost use Rattle.hq_model.specs.Fence.{Ordered};
 ghost use Rattle.hq_model.specs.Job.{IsPacket};
-ghost use Rattle.hq_audit.specs.Parts.{AreParts};
+ghost use Rattle.hq_parts.specs.Parts.{AreParts};
 ghost use Rattle.hq_audit.specs.Refused.{AllShown, IsFirstOfRow, IsFirstUnshown, IsRefused, IsUnshown, RowShown};
 ghost use Rattle.hq_audit.specs.Refused.{ShownOneWay};
 
 use crate::directed::{Unshown, direct};
 use crate::fault::AuditNo;
-use crate::parts::Parts;
 use hq_job::Job;
 use hq_order::{Before, schedule};
+use hq_parts::Parts;
 use std::alloc::Global;
 
 /// Whether a and b are ordered, in one direction.
@@ -33,12 +33,13 @@ fn row_shown(before: &Before, parts: &Parts, a: usize) -> Result<(), Unshown>
     ensures shown { OnOk result (RowShown before.now a (length before.now.packets)) }
     ensures unshown { IfErr result (λ u. IsFirstOfRow before.now a u) }
 {
-    before.job().valid();
-    let row = parts.others(before, a);
-    let mut b = row.next(before, a + 1);
+    let job = before.job();
+    job.valid();
+    let row = parts.others(job, a);
+    let mut b = row.next(job, a + 1);
     'others: while b < before.len() {
         pair_shown(before, a, b)?;
-        b = row.next(before, b + 1);
+        b = row.next(job, b + 1);
     }
     Ok(())
 }

@@ -14,6 +14,7 @@ use Rattle.hq_model.specs.Fence.Conflict.{WriteRead, WriteWrite, ReadWrite}
 use Rattle.hq_model.specs.Certificate.{Certificate, Pair, kind_of, HasPair, HasPairs}
 use Rattle.hq_certcheck.specs.Covering.{Covered, NoneMissing, FirstMissing, has_kind, flag_of, kinds_in, cell, IsFor, AreListed, IsMarked, AreFlagged, IsFlagged, AllFlagged, FirstUnflagged}
 use Rattle.std.proofs.lemmas.Option.{slice_get_within}
+use Rattle.hq_parts.specs.Parts.{NeverConflict}
 use Rattle.hq_certcheck.proofs.Saying.{some_same}
 
 pub by_kinds : (P : Conflict → Type 0) → P WriteRead → P WriteWrite → P ReadWrite → (kind : Conflict) → P kind
@@ -147,6 +148,19 @@ pub flagged_rows : (job : Job) (cells : List ℕ) (count p : ℕ) → ((q : ℕ)
 flagged_rows job cells count p h here q below = elim (cases_eq q p) [
   | inl same ↦ subst (λ k. AllFlagged job cells count k count) (sym same) here
   | inr apart ↦ h q (omega arith)
+]
+
+-- packets that are passed over, since they never conflict with p, lack no flag
+pub passed_over : (job : Job) (cells : List ℕ) (count p r next : ℕ) → AllFlagged job cells count p r → ((s : ℕ) → r ≤ s → s < next → NeverConflict job p s) → AllFlagged job cells count p next
+passed_over job cells count p r next h never s above below = elim (cases_lt s r) [
+  | inl ahead ↦ h s above ahead
+  | inr behind ↦ λ kind conflict. absurd (never s behind below kind conflict)
+]
+
+pub flagged_one_more : (job : Job) (cells : List ℕ) (count p r : ℕ) → AllFlagged job cells count p r → IsFlagged job cells count p r → AllFlagged job cells count p (r + 1)
+flagged_one_more job cells count p r h here s above below = elim (cases_eq s r) [
+  | inl same ↦ subst (IsFlagged job cells count p) (sym same) here
+  | inr apart ↦ h s above (omega arith)
 ]
 
 -- ---- flags as pair lines

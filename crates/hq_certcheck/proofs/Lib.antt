@@ -10,8 +10,6 @@ pub mod Counting
 pub mod Leasts
 pub mod Places
 pub mod Lasts
-pub mod Bounds
 pub mod Possible
 pub mod Counts
-pub mod Blocks
 pub mod Slots

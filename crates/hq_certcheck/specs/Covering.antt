@@ -1,5 +1,5 @@
 -- Which conflicts have pair lines.
-use Rattle.std.specs.Prelude.{◌≡◌, ℕ, ◌+◌, ◌*◌, ◌/◌, ◌<◌, ◌⊎◌, ◌↔◌, ◌==◌, IsTrue, Bool, List, length, Some}
+use Rattle.std.specs.Prelude.{◌≡◌, ℕ, ◌+◌, ◌*◌, ◌<◌, ◌⊎◌, ◌↔◌, ◌==◌, IsTrue, Bool, List, length, Some}
 use Rattle.std.specs.Prelude.{slice_get, slice_index_or}
 use Rattle.std.specs.Int.{bit_at}
 use Rattle.hq_footprint.specs.declared.conflicts.Kinds.{Kinds}
@@ -88,18 +88,6 @@ IsFlagged job cells count p r = (kind : Conflict) → Conflicts job kind p r
 -- Those of p with the packets after it, up to the end, are.
 abbrev pub AllFlagged : Job → List ℕ → ℕ → ℕ → ℕ → Type 0
 AllFlagged job cells count p end = (s : ℕ) → p < s → s < end → IsFlagged job cells count p s
-
--- So are those of p with the packets of a block after it.
-abbrev pub BlockFlagged : Job → List ℕ → ℕ → ℕ → ℕ → Type 0
-BlockFlagged job cells count p block = (s : ℕ) → p < s → s < count → s / 32 ≡ block → IsFlagged job cells count p s
-
--- r is the least packet of the block after p whose conflicts with p aren't.
-pub record FirstUnflaggedOf (job : Job) (cells : List ℕ) (count p block r : ℕ) : Type 0 where
-  pub ahead : p < r
-  pub below : r < count
-  pub of_block : r / 32 ≡ block
-  pub missing : ¬ IsFlagged job cells count p r
-  pub first : (s : ℕ) → p < s → s < r → s / 32 ≡ block → IsFlagged job cells count p s
 
 -- r is the least packet after p whose conflicts with p aren't.
 pub record FirstUnflaggedAfter (job : Job) (cells : List ℕ) (count p r : ℕ) : Type 0 where

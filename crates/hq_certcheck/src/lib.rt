@@ -7,7 +7,6 @@
 mod accepted;
 mod checking;
 mod citing;
-mod extents;
 mod fault;
 pub mod laws;
 mod lines;

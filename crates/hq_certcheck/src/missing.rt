@@ -7,14 +7,14 @@ ghost use Rattle.hq_job.specs.Plan.{plan};
 ghost use Rattle.hq_model.specs.Fence.{Conflict, Conflicts};
 ghost use Rattle.hq_model.specs.Certificate.{kind_of};
 ghost use Rattle.hq_certcheck.specs.Covering.{FirstMissing, has_kind, flag_of, kinds_in, AreListed, IsMarked};
-ghost use Rattle.hq_certcheck.specs.Covering.{AreFlagged, IsFlagged, AllFlagged, BlockFlagged, FirstUnflaggedOf};
+ghost use Rattle.hq_certcheck.specs.Covering.{AreFlagged, IsFlagged, AllFlagged};
 ghost use Rattle.hq_certcheck.specs.Covering.{FirstUnflaggedAfter, FirstUnflagged, NoneMissing};
-ghost use Rattle.hq_certcheck.specs.Extents.{AreExtents};
+ghost use Rattle.hq_parts.specs.Parts.{AreParts};
 
-use crate::extents::{BLOCK, Extents};
 use hq_cert::{Certificate, Fences, Pair};
 use hq_footprint::{Footprint, Kinds};
 use hq_job::Job;
+use hq_parts::Parts;
 use std::alloc::{AllocError, Global};
 
 /// The bit of the fences' kind of conflict in a byte of flags.
@@ -189,64 +189,30 @@ fn is_covered(job: &Job, cells: &[u8], p: usize, r: usize) -> bool
     all_possible_are_flagged(job, cells, p, r) || is_flagged(job, cells, p, r)
 }
 
-/// Whether each conflict of p with r has its flags, where the extents don't tell that there is none.
-fn lacks_none(job: &Job, extents: &Extents, cells: &[u8], p: usize, r: usize) -> bool
-    requires extents { AreExtents (plan job.now) extents.now }
-    requires len { length cells.now ≡ length job.now.packets * length job.now.packets }
-    requires p_is { p < length job.now.packets }
-    requires r_is { r < length job.now.packets }
-    ensures { IsTrue result ↔ IsFlagged (plan job.now) cells.now (length job.now.packets) p r }
-{
-    extents.are_apart(p, r) || is_covered(job, cells, p, r)
-}
-
-/// The least packet of a block after p whose conflicts with p lack flags.
-fn first_unflagged_of(
-    job: &Job,
-    extents: &Extents,
-    cells: &[u8],
-    p: usize,
-    block: usize,
-) -> Option<usize>
-    requires extents { AreExtents (plan job.now) extents.now }
-    requires len { length cells.now ≡ length job.now.packets * length job.now.packets }
-    requires p_is { p < length job.now.packets }
-    requires block { block < length extents.now.blocks.items }
-    ensures { MatchOption result (BlockFlagged (plan job.now) cells.now (length job.now.packets) p block)
-        (FirstUnflaggedOf (plan job.now) cells.now (length job.now.packets) p block) }
-{
-    if extents.is_apart_from_block(p, block) {
-        return None;
-    }
-    let start = block * BLOCK;
-    for r in start.max(p + 1)..job.packets().len().min(start + BLOCK) {
-        if !lacks_none(job, extents, cells, p, r) {
-            return Some(r);
-        }
-    }
-    None
-}
-
-/// The least packet after p whose conflicts with p lack flags.
-pub fn first_unflagged_after(job: &Job, extents: &Extents, cells: &[u8], p: usize) -> Option<usize>
-    requires extents { AreExtents (plan job.now) extents.now }
+/// The least packet after p whose conflicts with p lack flags. Those that never conflict with p are passed over.
+pub fn first_unflagged_after(job: &Job, parts: &Parts, cells: &[u8], p: usize) -> Option<usize>
+    requires parts { AreParts (plan job.now) parts.now }
     requires len { length cells.now ≡ length job.now.packets * length job.now.packets }
     requires p_is { p < length job.now.packets }
     ensures { MatchOption result
         (AllFlagged (plan job.now) cells.now (length job.now.packets) p (length job.now.packets))
         (λ r. FirstUnflaggedAfter (plan job.now) cells.now (length job.now.packets) p r) }
 {
-    for block in p / BLOCK..extents.blocks() {
-        if let Some(r) = first_unflagged_of(job, extents, cells, p, block) {
+    job.valid();
+    let row = parts.others(job, p);
+    let mut r = row.next(job, p + 1);
+    'others: while r < job.packets().len() {
+        if !is_covered(job, cells, p, r) {
             return Some(r);
         }
+        r = row.next(job, r + 1);
     }
     None
 }
 
 /// The first packets in number order whose conflicts lack flags.
-fn first_unflagged(job: &Job, extents: &Extents, cells: &[u8]) -> Option<(u16, u16)>
-    requires extents { AreExtents (plan job.now) extents.now }
+fn first_unflagged(job: &Job, parts: &Parts, cells: &[u8]) -> Option<(u16, u16)>
+    requires parts { AreParts (plan job.now) parts.now }
     requires len { length cells.now ≡ length job.now.packets * length job.now.packets }
     ensures { MatchOption result
         ((p : ℕ) → p < length job.now.packets
@@ -255,7 +221,7 @@ fn first_unflagged(job: &Job, extents: &Extents, cells: &[u8]) -> Option<(u16, u
 {
     job.valid();
     for p in 0..job.packets().len() {
-        if let Some(r) = first_unflagged_after(job, extents, cells, p) {
+        if let Some(r) = first_unflagged_after(job, parts, cells, p) {
             return Some((p as u16, r as u16));
         }
     }
@@ -266,16 +232,16 @@ fn first_unflagged(job: &Job, extents: &Extents, cells: &[u8]) -> Option<(u16, u
 fn missing_by(
     job: &Job,
     certificate: &Certificate,
-    extents: &Extents,
+    parts: &Parts,
     cells: &[u8],
 ) -> Option<(u16, u16)>
-    requires extents { AreExtents (plan job.now) extents.now }
+    requires parts { AreParts (plan job.now) parts.now }
     requires listed { AreListed certificate.now.pairs (length certificate.now.pairs)
         (length job.now.packets) cells.now }
     ensures { MatchOption result (NoneMissing (plan job.now) certificate.now)
         (λ pair. FirstMissing (plan job.now) certificate.now pair.0 pair.1) }
 {
-    first_unflagged(job, extents, cells)
+    first_unflagged(job, parts, cells)
 }
 
 /// The first packets in number order whose conflicts lack pair lines, in both directions.
@@ -289,7 +255,7 @@ pub fn first_missing(
         (λ pair. FirstMissing (plan job.now) certificate.now pair.0 pair.1)) }
 {
     job.valid();
-    let extents = Extents::build(alloc, job)?;
+    let parts = Parts::build(alloc, job)?;
     let cells = listed(alloc, job.packets().len(), certificate.pairs())?;
-    Ok(missing_by(job, certificate, &extents, &cells))
+    Ok(missing_by(job, certificate, &parts, &cells))
 }

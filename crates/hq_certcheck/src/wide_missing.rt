@@ -1,15 +1,15 @@
 //! Conflicts that have no pair lines, sought in many threads.
 
-ghost use Rattle.std.specs.Prelude.{◌≡◌, ℕ, ◌*◌, ◌<◌, ◌≤◌, IsTrue, IfOk, MatchOption, false, length};
+ghost use Rattle.std.specs.Prelude.{◌≡◌, ℕ, ◌*◌, ◌<◌, IsTrue, IfOk, MatchOption, false, length};
 ghost use Rattle.hq_job.specs.Plan.{plan};
 ghost use Rattle.hq_certcheck.specs.Covering.{FirstMissing, AreListed, AllFlagged, FirstUnflaggedRow};
 ghost use Rattle.hq_certcheck.specs.Covering.{FirstUnflagged, NoneMissing};
-ghost use Rattle.hq_certcheck.specs.Extents.{AreExtents};
+ghost use Rattle.hq_parts.specs.Parts.{AreParts};
 
-use crate::extents::Extents;
 use crate::missing::{first_unflagged_after, listed};
 use hq_cert::Certificate;
 use hq_job::Job;
+use hq_parts::Parts;
 use rayon::prelude::*;
 use std::alloc::{AllocError, Global};
 use std::thread::Threads;
@@ -18,24 +18,19 @@ use std::thread::Threads;
 const LEAST_ROWS: usize = 128;
 
 /// Whether a conflict of p with a packet after it lacks flags.
-fn lacks_some(job: &Job, extents: &Extents, cells: &[u8], p: usize) -> bool
-    requires extents { AreExtents (plan job.now) extents.now }
+fn lacks_some(job: &Job, parts: &Parts, cells: &[u8], p: usize) -> bool
+    requires parts { AreParts (plan job.now) parts.now }
     requires len { length cells.now ≡ length job.now.packets * length job.now.packets }
     requires p_is { p < length job.now.packets }
     ensures { (result ≡ false → AllFlagged (plan job.now) cells.now (length job.now.packets) p (length job.now.packets))
         × (IsTrue result → ¬ AllFlagged (plan job.now) cells.now (length job.now.packets) p (length job.now.packets)) }
 {
-    first_unflagged_after(job, extents, cells, p).is_some()
+    first_unflagged_after(job, parts, cells, p).is_some()
 }
 
 /// The least packet that has conflicts with packets after it that lack flags.
-fn first_row(
-    rt: &(impl Threads + Sync),
-    job: &Job,
-    extents: &Extents,
-    cells: &[u8],
-) -> Option<usize>
-    requires extents { AreExtents (plan job.now) extents.now }
+fn first_row(rt: &(impl Threads + Sync), job: &Job, parts: &Parts, cells: &[u8]) -> Option<usize>
+    requires parts { AreParts (plan job.now) parts.now }
     requires len { length cells.now ≡ length job.now.packets * length job.now.packets }
     ensures { MatchOption result
         ((p : ℕ) → p < length job.now.packets
@@ -48,7 +43,7 @@ fn first_row(
     rows.position_first(
         rt,
         |p: usize| -> bool
-            requires { AreExtents (plan job.now) extents.now
+            requires { AreParts (plan job.now) parts.now
                 × (length cells.now ≡ length job.now.packets * length job.now.packets) × (p < length job.now.packets) }
             ensures { (result ≡ false
                 → AllFlagged (plan job.entry.now) cells.entry.now (length job.entry.now.packets) p
@@ -56,7 +51,7 @@ fn first_row(
                 × (IsTrue result
                 → ¬ AllFlagged (plan job.entry.now) cells.entry.now (length job.entry.now.packets) p
                 (length job.entry.now.packets)) }
-        { lacks_some(job, extents, cells, p) },
+        { lacks_some(job, parts, cells, p) },
     )
 }
 
@@ -64,10 +59,10 @@ fn first_row(
 fn first_unflagged(
     rt: &(impl Threads + Sync),
     job: &Job,
-    extents: &Extents,
+    parts: &Parts,
     cells: &[u8],
 ) -> Option<(u16, u16)>
-    requires extents { AreExtents (plan job.now) extents.now }
+    requires parts { AreParts (plan job.now) parts.now }
     requires len { length cells.now ≡ length job.now.packets * length job.now.packets }
     ensures { MatchOption result
         ((p : ℕ) → p < length job.now.packets
@@ -75,8 +70,8 @@ fn first_unflagged(
         (λ found. FirstUnflagged (plan job.now) cells.now (length job.now.packets) found.0 found.1) }
 {
     job.valid();
-    match first_row(rt, job, extents, cells) {
-        Some(p) => match first_unflagged_after(job, extents, cells, p) {
+    match first_row(rt, job, parts, cells) {
+        Some(p) => match first_unflagged_after(job, parts, cells, p) {
             Some(r) => Some((p as u16, r as u16)),
             None => None,
         },
@@ -89,16 +84,16 @@ fn missing_by(
     rt: &(impl Threads + Sync),
     job: &Job,
     certificate: &Certificate,
-    extents: &Extents,
+    parts: &Parts,
     cells: &[u8],
 ) -> Option<(u16, u16)>
-    requires extents { AreExtents (plan job.now) extents.now }
+    requires parts { AreParts (plan job.now) parts.now }
     requires listed { AreListed certificate.now.pairs (length certificate.now.pairs)
         (length job.now.packets) cells.now }
     ensures { MatchOption result (NoneMissing (plan job.now) certificate.now)
         (λ pair. FirstMissing (plan job.now) certificate.now pair.0 pair.1) }
 {
-    first_unflagged(rt, job, extents, cells)
+    first_unflagged(rt, job, parts, cells)
 }
 
 /// The first packets in number order whose conflicts lack pair lines, in both directions.
@@ -113,7 +108,7 @@ pub fn first_missing(
         (λ pair. FirstMissing (plan job.now) certificate.now pair.0 pair.1)) }
 {
     job.valid();
-    let extents = Extents::build(alloc, job)?;
+    let parts = Parts::build(alloc, job)?;
     let cells = listed(alloc, job.packets().len(), certificate.pairs())?;
-    Ok(missing_by(rt, job, certificate, &extents, &cells))
+    Ok(missing_by(rt, job, certificate, &parts, &cells))
 }

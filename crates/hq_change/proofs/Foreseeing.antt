@@ -11,10 +11,10 @@ use Rattle.hq_model.specs.Settings.Part.{Bit}
 use Rattle.hq_model.proofs.Fences.{shown_is_before}
 use Rattle.hq_model.proofs.SettingsKept.{heads_leave_conflicts, heads_leave_lists, same_length, packets_same}
 use Rattle.hq_model.proofs.SettingsSteps.{heads_are_set, raises_on, same_by_heads}
-use Rattle.hq_order.specs.Bits.{has}
+use Rattle.hq_bits.specs.Bits.{has}
 use Rattle.hq_order.specs.Matrix.{Marks, IsSquare, row, words_for}
-use Rattle.hq_order.proofs.Crossing.{mark_bit}
-use Rattle.hq_audit.specs.Parts.{NeverConflict}
+use Rattle.hq_bits.proofs.Walked.{mark_bit}
+use Rattle.hq_parts.specs.Parts.{NeverConflict}
 use Rattle.hq_audit.specs.Refused.{AllShown}
 use Rattle.hq_order.specs.Sweeping.{HaveOrder}
 use Rattle.hq_audit.proofs.Certifying.{shown_is_ordered, turned}

@@ -15,8 +15,8 @@ use Rattle.hq_model.specs.Fence.{Ordered}
 use Rattle.hq_model.specs.Settings.{SameButHeads, head_of, head_at, highest, no_head, HeadRaises, Raises}
 use Rattle.hq_model.proofs.SettingsKept.{same_length, packets_same, heads_leave_conflicts}
 use Rattle.hq_model.proofs.SettingsSteps.{raises_on, highest_is_highest}
-use Rattle.hq_audit.specs.Parts.{AreParts, NeverConflict}
-use Rattle.hq_audit.specs.declared.parts.Parts.{Parts}
+use Rattle.hq_parts.specs.Parts.{AreParts, NeverConflict}
+use Rattle.hq_parts.specs.declared.parts.Parts.{Parts}
 use Rattle.hq_change.specs.declared.level.Level.{Level}
 use Rattle.hq_change.specs.declared.level.Level.TheVariants as level
 use Rattle.hq_change.specs.Levels.{IsAt, part_of, AreLowered}

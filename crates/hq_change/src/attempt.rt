@@ -4,17 +4,17 @@ ghost use Rattle.std.specs.Prelude.{◌≡◌, ◌<◌, ◌≤◌, IfOk, IsTrue,
 ghost use Rattle.hq_job.specs.Heads.{SameButHeads};
 ghost use Rattle.hq_job.specs.Plan.{plan};
 ghost use Rattle.hq_order.specs.View.{AreOf};
-ghost use Rattle.hq_audit.specs.Parts.{AreParts};
+ghost use Rattle.hq_parts.specs.Parts.{AreParts};
 ghost use Rattle.hq_change.specs.Levels.{AreLowered};
 ghost use Rattle.hq_change.specs.Minimal.{Attempted, Fit, IsOn, TooLow};
 
 use crate::heads::{copied, lower_between, set_between};
 use crate::level::Level;
 use crate::trial::judged;
-use hq_audit::Parts;
 use hq_job::Job;
 use hq_order::{Before, Rounds};
 use hq_packet::Head;
+use hq_parts::Parts;
 use std::alloc::{AllocError, Global};
 
 /// What stays as it is while heads are lowered at one level: which packets may conflict, and the heads below which

@@ -4,7 +4,7 @@ ghost use Rattle.std.specs.Prelude.{◌≡◌, ◌<◌, IfOk, IfSome, IsTrue, On
 ghost use Rattle.hq_job.specs.Heads.{SameButHeads};
 ghost use Rattle.hq_job.specs.Plan.{plan};
 ghost use Rattle.hq_model.specs.Fence.{Ordered};
-ghost use Rattle.hq_audit.specs.Parts.{AreParts};
+ghost use Rattle.hq_parts.specs.Parts.{AreParts};
 ghost use Rattle.hq_audit.specs.Refused.{AllShown};
 ghost use Rattle.hq_change.specs.Foresight.{AllForeseen, AreConflicts, BitsSettled, Foreseen};
 ghost use Rattle.hq_change.specs.Minimal.{AtOrAbove, IsOn};
@@ -16,10 +16,10 @@ use crate::level::Level;
 use crate::settling::{settle, tell};
 use crate::trial::judged;
 use crate::watch::Watch;
-use hq_audit::Parts;
 use hq_job::Job;
 use hq_order::{Before, Rounds};
 use hq_packet::Head;
+use hq_parts::Parts;
 use std::alloc::{AllocError, Global};
 
 /// Lowers a packet's bit, unless that is foreseen to leave two packets apart.

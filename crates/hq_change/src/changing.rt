@@ -7,7 +7,7 @@ ghost use Rattle.hq_job.specs.Rewritten.{heads_of, job_with_heads};
 ghost use Rattle.hq_model.specs.Fence.{Ordered};
 ghost use Rattle.hq_model.specs.Settings.{highest, Raises};
 ghost use Rattle.hq_order.specs.View.{AreOf};
-ghost use Rattle.hq_audit.specs.Parts.{AreParts};
+ghost use Rattle.hq_parts.specs.Parts.{AreParts};
 ghost use Rattle.hq_audit.specs.Refused.{IsRefused};
 ghost use Rattle.hq_audit.specs.declared.fault.AuditNo.TheVariants.{Memory};
 ghost use Rattle.hq_change.specs.Minimal.{AtOrAbove, IsFixed, IsMinimal, IsOn, IsTrimmed};
@@ -18,10 +18,11 @@ use crate::foresight::{Foresight, conflicts_of};
 use crate::level::Level;
 use crate::settling::settle;
 use crate::watch::Watch;
-use hq_audit::{AuditNo, Parts, all_shown};
+use hq_audit::{AuditNo, all_shown};
 use hq_job::Job;
 use hq_order::{Before, Rounds, schedule};
 use hq_packet::{Head, Scope};
+use hq_parts::Parts;
 use std::alloc::{AllocError, Global};
 
 /// No bit and no fence.

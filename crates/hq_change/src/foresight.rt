@@ -4,18 +4,18 @@ ghost use Rattle.std.specs.Prelude.{◌≡◌, ◌≤◌, ◌<◌, ℕ, IfOk, Is
 ghost use Rattle.hq_job.specs.Plan.{plan};
 ghost use Rattle.hq_model.specs.Fence.{Ordered};
 ghost use Rattle.hq_model.specs.Job.{IsPacket};
-ghost use Rattle.hq_order.specs.Bits.{has};
+ghost use Rattle.hq_bits.specs.Bits.{has};
 ghost use Rattle.hq_order.specs.Matrix.{IsSquare, Marks, row, words_for};
 ghost use Rattle.hq_order.specs.View.{AreOf};
-ghost use Rattle.hq_audit.specs.Parts.{AreParts};
+ghost use Rattle.hq_parts.specs.Parts.{AreParts};
 ghost use Rattle.hq_fence.specs.Judgement.{HaveConflict};
 ghost use Rattle.hq_change.specs.Foresight.{AreConflicts, HaveConflicts};
 
-use hq_audit::Parts;
+use hq_bits::{covers, empty, first_from, insert, take_out};
 use hq_fence::have_conflict;
 use hq_job::Job;
-use hq_order::bits::{covers, empty, first_from, insert, take_out};
 use hq_order::{Before, Rounds, marks, sweep};
+use hq_parts::Parts;
 use std::alloc::{AllocError, Global};
 
 /// What foresight rests on, whatever heads the packets have.
@@ -40,15 +40,16 @@ fn conflict_row(
     ensures conflict { IfOk result (λ row. (b : ℕ) → IsTrue (has row.items b) → (b < a) × HaveConflict before.now b a) }
     ensures all { IfOk result (λ row. (b : ℕ) → b < a → HaveConflict before.now b a → IsTrue (has row.items b)) }
 {
-    before.job().valid();
-    let others = parts.others(before, a);
+    let job = before.job();
+    job.valid();
+    let others = parts.others(job, a);
     let mut row = empty(alloc, before.ahead(a).len())?;
-    let mut b = others.next(before, 0);
+    let mut b = others.next(job, 0);
     'others: while b < a {
         if have_conflict(before, b, a) {
             insert(&mut row, b);
         }
-        b = others.next(before, b + 1);
+        b = others.next(job, b + 1);
     }
     Ok(row)
 }

@@ -3,7 +3,7 @@
 ghost use Rattle.std.specs.Prelude.{◌≡◌, IfOk, OnOk};
 ghost use Rattle.hq_job.specs.Heads.{SameButHeads};
 ghost use Rattle.hq_job.specs.Plan.{plan};
-ghost use Rattle.hq_audit.specs.Parts.{AreParts};
+ghost use Rattle.hq_parts.specs.Parts.{AreParts};
 ghost use Rattle.hq_change.specs.Minimal.{Fit, IsOn, Settles};
 
 use crate::attempt::{Search, attempt};

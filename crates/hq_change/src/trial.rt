@@ -5,12 +5,13 @@ ghost use Rattle.hq_job.specs.Plan.{plan};
 ghost use Rattle.hq_model.specs.Fence.{Ordered};
 ghost use Rattle.hq_model.specs.Job.{IsPacket};
 ghost use Rattle.hq_order.specs.View.{AreOf};
-ghost use Rattle.hq_audit.specs.Parts.{AreParts};
+ghost use Rattle.hq_parts.specs.Parts.{AreParts};
 ghost use Rattle.hq_audit.specs.Refused.{AllShown};
 
-use hq_audit::{Parts, all_shown, direct};
+use hq_audit::{all_shown, direct};
 use hq_job::Job;
 use hq_order::{Before, Rounds};
+use hq_parts::Parts;
 
 /// Of how few packets the conflicts are looked at first.
 const FEW: usize = 8;
@@ -34,13 +35,14 @@ fn is_shown_around(before: &Before, parts: &Parts, a: usize) -> bool
     requires a_is { IsPacket before.now a }
     ensures { result ≡ false → ¬ Ordered before.now }
 {
-    let row = parts.others(before, a);
-    let mut b = row.next(before, 0);
+    let job = before.job();
+    let row = parts.others(job, a);
+    let mut b = row.next(job, 0);
     'others: while b < before.len() {
         if !is_shown(before, a, b) {
             return false;
         }
-        b = row.next(before, b + 1);
+        b = row.next(job, b + 1);
     }
     true
 }

@@ -11,9 +11,9 @@ use Rattle.hq_model.proofs.SettingsKept.{packets_same, same_length}
 use Rattle.hq_model.proofs.SettingsSteps.{heads_are_set, same_by_heads}
 use Rattle.hq_job.specs.Plan.{plan}
 use Rattle.hq_job.specs.Value.{JobValue}
-use Rattle.hq_order.specs.Bits.{has}
+use Rattle.hq_bits.specs.Bits.{has}
 use Rattle.hq_order.proofs.Filling.{packets_count}
-use Rattle.hq_order.proofs.Rows.{or_cases, and_both, eq_test}
+use Rattle.hq_bits.proofs.Words.{or_cases, and_both, eq_test}
 use Rattle.hq_audit.specs.Refused.{ShownOneWay}
 use Rattle.hq_explain.specs.declared.change.Change.TheVariants as change
 use Rattle.hq_explain.specs.Changes.{Orders, changed, job_changed}

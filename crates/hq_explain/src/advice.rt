@@ -4,7 +4,7 @@ ghost use Rattle.std.specs.Prelude.{◌≡◌, ◌↔◌, ◌<◌, ℕ, ◌++◌
 ghost use Rattle.hq_job.specs.Plan.{plan};
 ghost use Rattle.hq_model.specs.Job.{IsPacket};
 ghost use Rattle.hq_explain.specs.Advised.{AreAdvice, IsAdvice};
-ghost use Rattle.hq_order.specs.Bits.{has};
+ghost use Rattle.hq_bits.specs.Bits.{has};
 ghost use Rattle.hq_explain.specs.Changes.{Orders};
 ghost use Rattle.hq_explain.specs.Trials.{IsTrial};
 ghost use Rattle.hq_explain.specs.declared.change.Change.TheVariants as change;
@@ -14,8 +14,8 @@ use crate::bits::note_bits;
 use crate::change::Fence;
 use crate::fault::ExplainFault;
 use crate::scopes::{Trial, let_trial_go};
+use hq_bits::{WORDS, empty, has};
 use hq_job::Job;
-use hq_order::bits::{WORDS, empty, has};
 use hq_packet::Scope;
 use std::alloc::Global;
 

@@ -5,7 +5,7 @@ ghost use Rattle.std.specs.Prelude.{IfErr, OnOk, length};
 ghost use Rattle.hq_job.specs.Plan.{plan};
 ghost use Rattle.hq_model.specs.Job.{Job as Plan, IsPacket};
 ghost use Rattle.hq_model.specs.Settings.{head_at};
-ghost use Rattle.hq_order.specs.Bits.{has};
+ghost use Rattle.hq_bits.specs.Bits.{has};
 ghost use Rattle.hq_audit.specs.Refused.{ShownOneWay};
 ghost use Rattle.hq_explain.specs.Trials.{HasBits, Noted};
 ghost use Rattle.hq_explain.specs.declared.fault.ExplainFault.TheVariants.{Memory};
@@ -13,9 +13,9 @@ ghost use Rattle.hq_explain.specs.declared.fault.ExplainFault.TheVariants.{Memor
 use crate::change::{Change, changed};
 use crate::fault::ExplainFault;
 use crate::scopes::{is_ordered, let_go};
+use hq_bits::insert;
 use hq_job::Job;
 use hq_order::Before;
-use hq_order::bits::insert;
 use std::alloc::Global;
 
 /// Sets the barrier bits of the packets from `lo` up to `hi`.

@@ -14,9 +14,9 @@ ghost use Rattle.hq_explain.specs.Texts.{stuck_line, wait_text, waiting_text, wa
 ghost use Rattle.hq_explain.specs.declared.fault.ExplainFault.TheVariants.{Memory};
 
 use crate::fault::ExplainFault;
+use hq_bits::has;
 use hq_graph::{GraphFault, NameWord, Stuck, Wait, signal_name, stuck_of, way_of};
 use hq_job::Job;
-use hq_order::bits::has;
 use hq_text::Name;
 use std::alloc::Global;
 use std::io::Write;

@@ -4,7 +4,7 @@ use Rattle.std.proofs.lemmas.Bool.{cases_lt}
 use Rattle.hq_model.specs.Job.{Job}
 use Rattle.hq_model.specs.Order.{Before}
 use Rattle.hq_model.specs.Order.Before.{through}
-use Rattle.hq_order.specs.Bits.{has}
+use Rattle.hq_bits.specs.Bits.{has}
 use Rattle.hq_audit.proofs.Founded.{before_second}
 use Rattle.hq_graph.specs.Order.{IsStep}
 

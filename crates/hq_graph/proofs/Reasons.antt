@@ -9,7 +9,7 @@ use Rattle.hq_model.specs.Order.Before.{by_bit, by_queue, by_and, by_or, through
 use Rattle.hq_model.specs.Fence.{Ordered}
 use Rattle.hq_model.specs.Theorems.{Valid}
 use Rattle.hq_model.proofs.Places.{at_place, place_at, in_more, in_pushed}
-use Rattle.hq_order.specs.Bits.{has}
+use Rattle.hq_bits.specs.Bits.{has}
 use Rattle.hq_job.specs.Access.{AreOfQueue}
 use Rattle.hq_audit.specs.declared.directed.Unshown.{Unshown}
 use Rattle.hq_audit.specs.declared.fault.AuditNo.TheVariants as audit

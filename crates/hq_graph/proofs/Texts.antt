@@ -6,7 +6,7 @@ use Rattle.hq_model.specs.Job.{Job}
 use Rattle.hq_model.specs.Order.{Stuck}
 use Rattle.hq_audit.specs.declared.directed.Directed.{Directed}
 use Rattle.hq_audit.specs.declared.directed.Unshown.{Unshown}
-use Rattle.hq_audit.specs.Parts.{NeverConflict}
+use Rattle.hq_parts.specs.Parts.{NeverConflict}
 use Rattle.hq_audit.specs.Refused.{IsDirected, IsUnshown}
 use Rattle.hq_graph.specs.declared.nodes.Node.{Node}
 use Rattle.hq_graph.specs.declared.rule.Rule.{Rule}

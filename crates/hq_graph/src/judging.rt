@@ -1,13 +1,14 @@
 //! What an audit finds.
 
-ghost use Rattle.hq_audit.specs.Parts.{AreParts};
+ghost use Rattle.hq_parts.specs.Parts.{AreParts};
 ghost use Rattle.hq_graph.specs.Known.{TellsStuck};
 ghost use Rattle.hq_graph.specs.Order.{IsFound};
 
 use crate::found::Found;
 use crate::stuck::Stuck;
-use hq_audit::{Parts, all_shown};
+use hq_audit::all_shown;
 use hq_order::Before;
+use hq_parts::Parts;
 
 /// What an audit of the job would find.
 pub fn found_of(before: &Before, parts: &Parts, stuck: &Stuck) -> Found

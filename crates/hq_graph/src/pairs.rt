@@ -39,11 +39,12 @@ fn write_conflicts<W: Write>(writer: &mut W, job: &Job, sight: &Sight, a: usize)
         (Wrote (W.contents writer.old) (W.contents writer.new)
         (RowText job.now sight.now.before.now part.Conflicts a)) }
 {
-    let others = sight.parts.others(sight.before, a);
-    let mut b = others.next(sight.before, a + 1);
+    let planned = sight.before.job();
+    let others = sight.parts.others(planned, a);
+    let mut b = others.next(planned, a + 1);
     'others: while b < sight.before.len() {
         write_conflict(writer, job, sight.before, a, b)?;
-        b = others.next(sight.before, b + 1);
+        b = others.next(planned, b + 1);
     }
     Ok(())
 }

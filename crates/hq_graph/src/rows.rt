@@ -3,14 +3,14 @@
 ghost use Rattle.std.specs.Prelude.{◌≡◌, ◌↔◌, ℕ, ◌<◌, ◌≤◌, IsTrue, IfOk, false, length};
 ghost use Rattle.hq_model.specs.Job.{IsPacket};
 ghost use Rattle.hq_model.specs.Order as order;
-ghost use Rattle.hq_order.specs.Bits.{has};
+ghost use Rattle.hq_bits.specs.Bits.{has};
 ghost use Rattle.hq_order.specs.Matrix.{words_for};
 ghost use Rattle.hq_graph.specs.Known.{AreSteps, Sees};
 ghost use Rattle.hq_graph.specs.Order.{IsStep};
 
 use crate::sight::Sight;
+use hq_bits::{first_from, take_out};
 use hq_order::Before;
-use hq_order::bits::{first_from, take_out};
 use std::alloc::{AllocError, Global};
 
 /// The least number of a set from one on, or the end where there is none below it.

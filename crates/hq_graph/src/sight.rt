@@ -1,8 +1,8 @@
 //! What a graph is drawn from.
 
 use crate::stuck::Stuck;
-use hq_audit::Parts;
 use hq_order::Before;
+use hq_parts::Parts;
 
 /// The order of a job's packets; its steps, where the row of a packet has those from which a step leads to it; the
 /// parts of memory that packets touch; and what is known of packets that can never complete.

@@ -9,8 +9,8 @@ ghost use Rattle.hq_graph.specs.declared.fault.GraphFault.TheVariants.{Memory};
 
 use crate::fault::GraphFault;
 use crate::turns::{first_barred, turns_of};
+use hq_bits::{empty, insert};
 use hq_job::Job;
-use hq_order::bits::{empty, insert};
 use hq_order::laws::none_where_stuck;
 use hq_order::{OrderFault, schedule};
 use std::alloc::{AllocError, Global};

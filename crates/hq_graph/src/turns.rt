@@ -8,8 +8,8 @@ ghost use Rattle.hq_model.specs.Order.{place};
 ghost use Rattle.hq_order.specs.Placing.{AllAre};
 ghost use Rattle.hq_graph.specs.Known.{HasNoSlot};
 
+use hq_bits::has;
 use hq_job::Job;
-use hq_order::bits::has;
 use hq_order::turn;
 use std::alloc::{AllocError, Global};
 

@@ -14,8 +14,8 @@ use crate::sight::Sight;
 use crate::stuck::Stuck;
 use crate::turns::has_slot;
 use crate::wait::Wait;
+use hq_bits::has;
 use hq_job::Job;
-use hq_order::bits::has;
 use hq_packet::Packet;
 
 /// Whether p stands right ahead of r in its queue.

@@ -7,7 +7,7 @@ use Rattle.hq_job.specs.Plan.{kind_of}
 use Rattle.hq_model.specs.Job.{Job, packet, Earlier}
 use Rattle.hq_model.specs.Job.Kind.{BarrierAnd, BarrierOr}
 use Rattle.hq_model.specs.Order.{FreesFor}
-use Rattle.hq_order.specs.Bits.{has}
+use Rattle.hq_bits.specs.Bits.{has}
 use Rattle.hq_order.specs.Placing.{OfDependencies, Needs}
 use Rattle.hq_order.specs.Placing.Needs.{by_queue, by_slot, by_and}
 

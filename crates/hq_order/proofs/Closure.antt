@@ -6,7 +6,8 @@ use Rattle.hq_model.specs.Job.{Job, Decrements}
 use Rattle.hq_model.specs.Order.{Before, Branch}
 use Rattle.hq_model.specs.Order.Before.{by_bit, by_queue, by_and, by_or, through}
 use Rattle.hq_model.specs.Order.Branch.{itself, after}
-use Rattle.hq_order.specs.Matrix.{row, Marks, Grown, IsSquare, AreRounds, IsClosed, matrix, last, IsMarkedNowhere, IsMarkedFirst}
+use Rattle.hq_order.specs.Matrix.{row, Marks, IsSquare, AreRounds, IsClosed, matrix, last, IsMarkedNowhere, IsMarkedFirst}
+use Rattle.hq_bits.specs.Bits.{Grown}
 use Rattle.std.specs.Prelude.{Option, Some, None, MatchOption}
 use Rattle.hq_order.specs.Rounds.{Direct, Reaches, Next, Within, IsFirstWithin}
 use Rattle.hq_order.specs.Rounds.Precedes.{by_bit as bit_behind, by_queue as queued}

@@ -6,7 +6,7 @@ use Rattle.std.proofs.lemmas.Nat.{div-mul-add}
 use Rattle.std.proofs.lemmas.List.{get_or-take, get_or-drop, get_or_past, length-take}
 use Rattle.std.proofs.Math.Nat.{mul_assoc}
 use Rattle.hq_model.specs.Job.{Job, Decrements}
-use Rattle.hq_order.specs.Bits.{has}
+use Rattle.hq_bits.specs.Bits.{has}
 use Rattle.hq_order.specs.Placing.{Completing, MarksCompletion}
 use Rattle.hq_order.proofs.Filling.{has_no_bit, or_either, or_left, or_right}
 

@@ -1,131 +1,17 @@
--- Rows of bits turned round, and the least number that two rows have.
+-- Rows of bits turned round.
 use Rattle.std.specs.Prelude.{MatchOption}
-use Rattle.std.proofs.Common.{Option, Some, None, ◌≡◌, ◌≢◌, ◌↔◌, ℕ, ◌+◌, ◌*◌, ◌/◌, ◌%◌, ◌<◌, ◌≤◌, ◌⊎◌, inl, inr, List, [], ◌∷◌, ◌++◌, length, refl, sym, ◌∙◌, ap, subst, arith, IsTrue, Bool, true, false, ◌||◌, ◌&&◌, ◌==◌, not, slice_index, bit_and, min, take, drop}
+use Rattle.std.proofs.Common.{Option, Some, None, ◌≡◌, ◌↔◌, ℕ, ◌+◌, ◌*◌, ◌/◌, ◌%◌, ◌<◌, ◌≤◌, ◌⊎◌, inl, inr, List, [], ◌∷◌, ◌++◌, length, refl, sym, ◌∙◌, ap, subst, arith, IsTrue, Bool, true, false, ◌&&◌, ◌==◌, not, slice_index, take, drop}
 use Rattle.std.specs.Int.{bit_at}
 use Rattle.std.specs.Global.{Vec}
-use Rattle.std.proofs.lemmas.Bool.{cases_lt, cases_eq, eq-eqb, eqb-true}
-use Rattle.std.proofs.lemmas.List.{get_or-take, get_or-drop}
-use Rattle.std.proofs.lemmas.Nat.Bits.{bit_at_and, bit_at-lt, bit_at-zero}
-use Rattle.hq_order.specs.Bits.{has, IsFirstCommon}
+use Rattle.std.proofs.lemmas.Bool.{eqb-true}
+use Rattle.std.proofs.lemmas.Nat.Bits.{bit_at-zero}
+use Rattle.hq_bits.specs.Bits.{has, IsFirstCommon}
 use Rattle.hq_order.specs.Matrix.{row, matrix, Marks, Turned, IsMarkedBetween}
 use Rattle.hq_order.proofs.Closure.{pushed}
-use Rattle.hq_order.proofs.Rows.{joined, eq_test, marked_below, within}
-
--- ---- the least number that two rows have
-
-both_bits : (a b i : ℕ) → bit_at (bit_and a b) i ≡ 1 → (bit_at a i ≡ 1) × (bit_at b i ≡ 1)
-both_bits a b i h =
-    let m : min (bit_at a i) (bit_at b i) ≡ 1 = sym (bit_at_and a b i) ∙ h in
-    let la : bit_at a i < 2 = bit_at-lt a i in
-    let lb : bit_at b i < 2 = bit_at-lt b i in
-    (omega arith, omega arith)
-
-no_bit : (a b i : ℕ) → bit_at (bit_and a b) i ≡ 0 → bit_at a i ≡ 1 → bit_at b i ≡ 1 → ⊥
-no_bit a b i h x y =
-    let m : min (bit_at a i) (bit_at b i) ≡ 0 = sym (bit_at_and a b i) ∙ h in
-    omega arith
-
--- no number of the first words is in both
-abbrev pub Apart : List ℕ → List ℕ → ℕ → Type 0
-Apart left right i = (n : ℕ) → n / 64 < i → IsTrue (has left n) → IsTrue (has right n) → ⊥
-
-has_at : (row : List ℕ) (n i : ℕ) → n / 64 ≡ i → IsTrue (has row n) → bit_at (slice_index row i) (n % 64) ≡ 1
-has_at row n i e h = subst (λ k. bit_at (slice_index row k) (n % 64) ≡ 1) e (eqb-true (bit_at (slice_index row (n / 64)) (n % 64)) 1 h)
-
-pub apart_next : (left right : List ℕ) (i : ℕ) → Apart left right i → ((bit : ℕ) → bit_at (bit_and (slice_index left i) (slice_index right i)) bit ≡ 0) → Apart left right (i + 1)
-apart_next left right i h none n l a b = elim (cases_lt (n / 64) i) [
-  | inl low ↦ h n low a b
-  | inr high ↦
-      let here : n / 64 ≡ i = omega arith in
-      no_bit (slice_index left i) (slice_index right i) (n % 64) (none (n % 64)) (has_at left n i here a) (has_at right n i here b)
-]
-
-place_of : (i bit : ℕ) → bit < 64 → (i * 64 + bit) / 64 ≡ i
-place_of i bit l = omega arith
-
-bit_of : (i bit : ℕ) → bit < 64 → (i * 64 + bit) % 64 ≡ bit
-bit_of i bit l = omega arith
-
--- the number at a word's bit
-pub has_there : (row : List ℕ) (i bit : ℕ) → bit < 64 → bit_at (slice_index row i) bit ≡ 1 → IsTrue (has row (i * 64 + bit))
-has_there row i bit l e =
-    ap (λ k. bit_at (slice_index row k) ((i * 64 + bit) % 64) == 1) (place_of i bit l)
-    ∙ ap (λ k. bit_at (slice_index row i) k == 1) (bit_of i bit l)
-    ∙ eq-eqb (bit_at (slice_index row i) bit) 1 e
-
-pub first_there : (left right : List ℕ) (i bit : ℕ) → Apart left right i → bit < 64
-    → bit_at (bit_and (slice_index left i) (slice_index right i)) bit ≡ 1
-    → ((k : ℕ) → k < bit → bit_at (bit_and (slice_index left i) (slice_index right i)) k ≡ 0)
-    → IsFirstCommon left right (i * 64 + bit)
-first_there left right i bit h l this lower =
-    let b = both_bits (slice_index left i) (slice_index right i) bit this in
-    record {
-      in_left = has_there left i bit l b.0;
-      in_right = has_there right i bit l b.1;
-      first = λ n below x y. elim (cases_lt (n / 64) i) [
-        | inl low ↦ h n low x y
-        | inr high ↦
-            let here : n / 64 ≡ i = omega arith in
-            no_bit (slice_index left i) (slice_index right i) (n % 64) (lower (n % 64) (omega arith)) (has_at left n i here x) (has_at right n i here y)
-      ];
-    }
-
--- ---- rows turned round
-
-pub mark_bit : (old new : Bool) (x n : ℕ) → new ≡ (old || x == n) → IsTrue new ↔ (IsTrue old ⊎ (x ≡ n))
-mark_bit old new x n e = joined old (x == n) new (x ≡ n) e (eq_test x n)
-
--- a bit of the word that the rest hasn't any more, for which the statement holds
-abbrev pub Gone : ℕ → ℕ → (ℕ → Type 0) → Type 0
-Gone word rest Q = (bit : ℕ) × (bit < 64) × (IsTrue (bit_at word bit == 1) × (bit_at rest bit ≡ 0) × Q bit)
-
-pub gone_none : (Old : Type 0) (word : ℕ) (Q : ℕ → Type 0) → Old ↔ (Old ⊎ Gone word word Q)
-gone_none Old word Q = (
-  λ o. inl o,
-  λ t. elim t [
-    | inl o ↦ o
-    | inr g ↦
-        let one : bit_at word g.0 ≡ 1 = eqb-true (bit_at word g.0) 1 g.2.0 in
-        let none : bit_at word g.0 ≡ 0 = g.2.1 in
-        absurd (omega arith)
-  ],
-)
-
--- one more is gone
-pub gone_more : (Old A B : Type 0) (word rest less k : ℕ) (Q : ℕ → Type 0) → k < 64 → bit_at word k ≡ 1 → bit_at less k ≡ 0 → ((i : ℕ) → i < 64 → i ≢ k → bit_at less i ≡ bit_at rest i)
-    → A ↔ (Old ⊎ Gone word rest Q) → B ↔ (A ⊎ Q k) → B ↔ (Old ⊎ Gone word less Q)
-gone_more Old A B word rest less k Q low one clear same h g = (
-  λ b. elim (g.0 b) [
-    | inl a ↦ elim (h.0 a) [
-      | inl o ↦ inl o
-      | inr x ↦ inr (x.0, x.1, (x.2.0, elim (cases_eq x.0 k) [ inl e ↦ subst (λ i. bit_at less i ≡ 0) (sym e) clear | inr d ↦ same x.0 x.1 d ∙ x.2.1 ], x.2.2))
-    ]
-    | inr q ↦ inr (k, low, (eq-eqb (bit_at word k) 1 one, clear, q))
-  ],
-  λ t. elim t [
-    | inl o ↦ g.1 (inl (h.1 (inl o)))
-    | inr x ↦ elim (cases_eq x.0 k) [
-      | inl e ↦ g.1 (inr (subst Q e x.2.2))
-      | inr d ↦ g.1 (inl (h.1 (inr (x.0, x.1, (x.2.0, sym (same x.0 x.1 d) ∙ x.2.1, x.2.2)))))
-    ]
-  ],
-)
-
-pub gone_all : (Old A : Type 0) (word rest : ℕ) (Q : ℕ → Type 0) → rest ≡ 0 → A ↔ (Old ⊎ Gone word rest Q) → A ↔ (Old ⊎ ((bit : ℕ) × (bit < 64) × (IsTrue (bit_at word bit == 1) × Q bit)))
-gone_all Old A word rest Q z h = (
-  λ a. elim (h.0 a) [ inl o ↦ inl o | inr x ↦ inr (x.0, x.1, (x.2.0, x.2.2)) ],
-  λ t. elim t [ inl o ↦ h.1 (inl o) | inr x ↦ h.1 (inr (x.0, x.1, (x.2.0, ap (λ w. bit_at w x.0) z ∙ bit_at-zero x.0, x.2.1))) ],
-)
-
--- what the rest has the word has
-abbrev pub Under : ℕ → ℕ → Type 0
-Under word rest = (i : ℕ) → i < 64 → bit_at rest i ≡ 1 → bit_at word i ≡ 1
-
-pub under_less : (word rest less k : ℕ) → bit_at less k ≡ 0 → ((i : ℕ) → i < 64 → i ≢ k → bit_at less i ≡ bit_at rest i) → Under word rest → Under word less
-under_less word rest less k clear same u i low one = elim (cases_eq i k) [
-  | inl e ↦ let none : bit_at less i ≡ 0 = subst (λ j. bit_at less j ≡ 0) (sym e) clear in absurd (omega arith)
-  | inr d ↦ u i low (sym (same i low d) ∙ one)
-]
+use Rattle.hq_bits.proofs.Shared.{has_there}
+use Rattle.hq_bits.proofs.Walked.{column_has}
+use Rattle.hq_bits.proofs.Words.{within}
+use Rattle.hq_order.proofs.Rows.{marked_below}
 
 -- r is to stand at x for a packet of this word
 abbrev pub OfWord : ℕ → ℕ → ℕ → ℕ → Type 0
@@ -225,13 +111,6 @@ turned_more known rows old new t len few grown h = turned_done rows new len few 
 ))
 
 -- ---- a packet's part of the table
-
-pub column_has : (table : List ℕ) (p m : ℕ) → m / 64 < 16 → has (take 16 (drop (p * 16) table)) m ≡ has table (p * 1024 + m)
-column_has table p m l =
-    let word : slice_index (take 16 (drop (p * 16) table)) (m / 64) ≡ slice_index table (p * 16 + m / 64) = get_or-take 16 (drop (p * 16) table) (m / 64) 0 l ∙ get_or-drop (p * 16) table (m / 64) 0 in
-    let place : p * 16 + m / 64 ≡ (p * 1024 + m) / 64 = omega arith in
-    let bit : m % 64 ≡ (p * 1024 + m) % 64 = omega arith in
-    ap (λ w. bit_at w (m % 64) == 1) (word ∙ ap (slice_index table) place) ∙ ap (λ k. bit_at (slice_index table ((p * 1024 + m) / 64)) k == 1) bit
 
 -- the part of p has what p is before
 pub column_marks : (rows : List (Vec ℕ)) (table column : List ℕ) (p m : ℕ) → Turned rows table → column ≡ take 16 (drop (p * 16) table) → p < 1024 → m < 1024 → IsTrue (has column m) ↔ Marks rows p m

@@ -8,7 +8,7 @@ use Rattle.hq_job.specs.declared.rows.Placed.{Placed}
 use Rattle.hq_job.specs.Value.{JobValue}
 use Rattle.hq_job.specs.Plan.{plan, planned}
 use Rattle.hq_model.specs.Job.{packet, no_packet}
-use Rattle.hq_order.specs.Bits.{has}
+use Rattle.hq_bits.specs.Bits.{has}
 
 -- a packet of the plan is that of the job's list
 pub packet_at : (v : JobValue) (p : ℕ) (x : Placed) → p < length v.packets → x ≡ slice_index_or v.packets p x → packet (plan v) p ≡ planned x

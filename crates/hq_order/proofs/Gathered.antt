@@ -6,14 +6,15 @@ use Rattle.std.proofs.lemmas.Bool.{cases_eq, cases_lt, eq-eqb, eqb-true}
 use Rattle.std.proofs.lemmas.Nat.{div-add-mod', pow_pos}
 use Rattle.std.proofs.Math.Nat.{mod-lt}
 use Rattle.std.proofs.lemmas.Nat.Bits.{bit_at-zero, bit_at_above, bit_at_cat_low, bit_at_cat_high}
-use Rattle.hq_order.specs.Bits.{has}
+use Rattle.hq_bits.specs.Bits.{has}
 use Rattle.hq_model.specs.Job.{Job}
 use Rattle.hq_order.specs.Matrix.{row, Marks, matrix, last, earlier}
 use Rattle.hq_order.specs.Rounds.{Next}
 use Rattle.hq_order.specs.Rounds.Next.{by_known, through as joining}
 use Rattle.hq_order.specs.Uniting.{OfChoice, AreUnions, Through, Stepped, is_fresh}
 use Rattle.hq_order.proofs.Closure.{below_pushed}
-use Rattle.hq_order.proofs.Rows.{and_both, past, within, marked_below}
+use Rattle.hq_bits.proofs.Words.{and_both, past, within}
+use Rattle.hq_order.proofs.Rows.{marked_below}
 
 -- ---- choices
 

@@ -2,7 +2,8 @@
 use Rattle.std.proofs.Common.{◌≡◌, ◌≢◌, ℕ, zero, suc, ◌^◌, ◌<◌, ◌≤◌, inl, inr, List, [], ◌∷◌, length, refl, ◌∙◌, ap, arith, slice_index}
 use Rattle.std.specs.Global.{Vec}
 use Rattle.std.proofs.lemmas.Bool.{cases_lt}
-use Rattle.hq_order.specs.Matrix.{row, Grown, Differ, lag_of_words, lag_of_rows}
+use Rattle.hq_order.specs.Matrix.{row, Differ, lag_of_words, lag_of_rows}
+use Rattle.hq_bits.specs.Bits.{Grown}
 
 lag_words_le : (old new : List ℕ) → length new ≡ length old → ((i : ℕ) → slice_index old i ≤ slice_index new i) → lag_of_words new ≤ lag_of_words old
 lag_words_le [] [] e h = omega arith

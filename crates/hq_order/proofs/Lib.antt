@@ -1,4 +1,3 @@
-pub mod Sets
 pub mod Single
 pub mod Rows
 pub mod Crossing
@@ -6,7 +5,6 @@ pub mod Turns
 pub mod Growth
 pub mod Closure
 pub mod Middles
-pub mod Cover
 pub mod Gathered
 pub mod Filling
 pub mod Lists
@@ -15,6 +13,7 @@ pub mod Slots
 pub mod Behind
 pub mod Settling
 pub mod Completions
-pub mod First
+pub mod Present
+pub mod Quartets
 pub mod Scopes
 pub mod Swept

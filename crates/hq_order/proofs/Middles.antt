@@ -1,6 +1,6 @@
 -- The packets between two by lower rounds.
 use Rattle.std.proofs.Common.{◌≡◌, ℕ, zero, suc, ◌+◌, ◌-◌, ◌/◌, ◌<◌, ◌≤◌, ◌⊎◌, inl, inr, List, length, subst, arith, Option, Some, None}
-use Rattle.std.specs.Prelude.{MatchOption}
+use Rattle.std.specs.Prelude.{MatchOption, IfSome}
 use Rattle.std.specs.Global.{Vec}
 use Rattle.std.proofs.lemmas.Bool.{cases_lt}
 use Rattle.hq_model.specs.Job.{Job}
@@ -8,7 +8,8 @@ use Rattle.hq_order.specs.Matrix.{row, Marks, AreRounds, IsClosed, matrix, IsMar
 use Rattle.hq_order.specs.Rounds.{Within, IsFirstWithin, Between, IsMiddle}
 use Rattle.hq_order.specs.Rounds.Next.{by_known}
 use Rattle.hq_order.proofs.Closure.{within_before, last_exact}
-use Rattle.hq_order.proofs.Rows.{marked_below, within}
+use Rattle.hq_order.proofs.Rows.{marked_below}
+use Rattle.hq_bits.proofs.Words.{within}
 
 -- what is within a round is within those above it
 pub within_le : (job : Job) (j k p r : ℕ) → k ≤ j → Within job k p r → Within job j p r
@@ -53,6 +54,20 @@ middle_found job rounds round p r (Some m) a some l h =
       between = record { k = k; lower = below; first = (a.exact k p m low).0 h.first; second = (a.exact k m r low).0 h.second };
       least = λ i lower b. let x = between_marks job rounds round p r i a l b in h.least i lower x.0 x.1;
     }
+
+-- the same where only what is found counts
+pub found_between : (job : Job) (rounds : List (Vec (Vec ℕ))) (round p r : ℕ) (o : Option ℕ) → AreRounds job rounds → 0 < round → round < length rounds
+    → MatchOption o ((m : ℕ) → Marks (matrix rounds (round - 1)) p m → Marks (matrix rounds (round - 1)) m r → ⊥) (IsMarkedBetween (matrix rounds (round - 1)) p r)
+    → IfSome o (Between job round p r)
+found_between job rounds round p r None a some l h = tt
+found_between job rounds round p r (Some m) a some l h = (middle_found job rounds round p r (Some m) a some l h).between
+
+-- what is found is a packet
+pub found_low : (job : Job) (rounds : List (Vec (Vec ℕ))) (k p r : ℕ) (o : Option ℕ) → AreRounds job rounds → k < length rounds
+    → MatchOption o ((m : ℕ) → Marks (matrix rounds k) p m → Marks (matrix rounds k) m r → ⊥) (IsMarkedBetween (matrix rounds k) p r)
+    → IfSome o (λ m. m < length job.packets)
+found_low job rounds k p r None a l h = tt
+found_low job rounds k p r (Some m) a l h = subst (λ n. m < n) (a.square k l).height (marked_below (matrix rounds k) p m h.first)
 
 -- what is there in a round is there in the next
 pub rounds_grow : (job : Job) (rounds : List (Vec (Vec ℕ))) (k p r : ℕ) → AreRounds job rounds → k + 1 < length rounds → Marks (matrix rounds k) p r → Marks (matrix rounds (k + 1)) p r

@@ -1,5 +1,5 @@
 -- What the scopes of fences leave.
-use Rattle.std.proofs.Common.{◌≡◌, ℕ, zero, suc, ◌⊎◌, inl, inr, IsTrue, List, sym, ◌∙◌, subst}
+use Rattle.std.proofs.Common.{◌≡◌, ℕ, zero, suc, ◌⊎◌, inl, inr, IsTrue, List, sym, subst}
 use Rattle.hq_model.specs.Job.{Job, Packet, packet, Dependency}
 use Rattle.hq_model.proofs.SettingsKept.{SamePackets, with_packets, packets_same, other_is, same_length, dependency_kept, decrements_kept, bit_kept, queue_rule_kept, and_kept, any_kept}
 use Rattle.hq_order.specs.declared.before.Rounds.{Rounds}

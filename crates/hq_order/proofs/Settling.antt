@@ -12,7 +12,7 @@ use Rattle.hq_model.specs.Schedule.Scheduled.{nothing, and_then}
 use Rattle.hq_model.proofs.Places.{in_pushed, in_more, in_before_push, numbers_below}
 use Rattle.hq_model.proofs.Schedule.{schedules_settle}
 use Rattle.hq_model.proofs.Orders.{none_where_stuck}
-use Rattle.hq_order.specs.Bits.{has}
+use Rattle.hq_bits.specs.Bits.{has}
 use Rattle.hq_order.specs.Placing.{HasCome, MayFollow, AreStuck}
 use Rattle.hq_order.specs.Placing.Needs.{by_queue, by_slot, by_and}
 use Rattle.hq_order.specs.Least.{LeastFirst}

@@ -9,7 +9,7 @@ use Rattle.hq_job.specs.Plan.{plan, planned}
 use Rattle.hq_model.specs.Job.{Job, IsPacket, place_in_queue, Frees}
 use Rattle.hq_model.specs.Order.{place, In, FreesFor}
 use Rattle.hq_model.proofs.Places.{at_place, place_at, in_of}
-use Rattle.hq_order.specs.Bits.{has}
+use Rattle.hq_bits.specs.Bits.{has}
 use Rattle.hq_order.specs.Placing.{Freeing}
 use Rattle.hq_order.proofs.Filling.{packet_at, Gathered}
 

@@ -11,7 +11,7 @@ use Rattle.hq_model.specs.Job.Kind.{BarrierAnd}
 use Rattle.hq_model.specs.Order.{ByBit, ByQueue, Before, Branch}
 use Rattle.hq_model.specs.Order.Before.{by_bit, by_queue, by_and, by_or, through}
 use Rattle.hq_model.specs.Order.Branch.{itself, after}
-use Rattle.hq_order.specs.Bits.{has, Covers}
+use Rattle.hq_bits.specs.Bits.{has, Covers}
 use Rattle.hq_order.specs.Matrix.{Marks, IsSquare, row, words_for}
 use Rattle.hq_order.specs.Uniting.{CanUnite}
 use Rattle.hq_order.specs.Rounds.{Reaches, ByOr}

@@ -6,14 +6,14 @@ use Rattle.hq_job.specs.Plan.{kind_of}
 use Rattle.hq_model.specs.Job.{Job, Decrements}
 use Rattle.hq_model.specs.Job.Kind.{BarrierOr}
 use Rattle.hq_model.specs.Theorems.{Valid}
-use Rattle.hq_order.specs.Bits.{has}
+use Rattle.hq_bits.specs.Bits.{has}
 use Rattle.hq_order.specs.Matrix.{row, Marks, Square}
 use Rattle.hq_order.specs.Placing.{AllAre, Completing}
 use Rattle.hq_order.specs.Rounds.{Reaches, ByOr, Next, Awaits}
 use Rattle.hq_order.specs.Rounds.Next.{by_known, by_either, through}
 use Rattle.hq_order.proofs.Single.{Shows, slot_of, dependency, kind_is, awaits_or}
 use Rattle.hq_order.proofs.Lists.{all_rows}
-use Rattle.hq_order.proofs.Rows.{within}
+use Rattle.hq_bits.proofs.Words.{within}
 
 pub reach_within : (job : Job) (rows : List (Vec ℕ)) (words p s : ℕ) → Square (length job.packets) words rows → Reaches job (Marks rows) p s → p / 64 < words
 reach_within job rows words p s sq x = elim x.upto [

@@ -1,4 +1,3 @@
-pub mod Bits
 pub mod Rounds
 pub mod Matrix
 pub mod Sweeping

@@ -3,7 +3,7 @@ use Rattle.std.specs.Prelude.{◌≡◌, ◌≢◌, ℕ, ◌+◌, ◌-◌, ◌/�
 use Rattle.std.specs.Prelude.{length, slice_index, slice_index_or}
 use Rattle.std.specs.Global.{Vec}
 use Rattle.hq_model.specs.Job.{Job}
-use Rattle.hq_order.specs.Bits.{has}
+use Rattle.hq_bits.specs.Bits.{has}
 use Rattle.hq_order.specs.Rounds.{Next, Within}
 
 -- the row of r, and none where there is no such packet
@@ -20,11 +20,6 @@ pub record Square (n words : ℕ) (rows : List (Vec ℕ)) : Type 0 where
   pub width : (r : ℕ) → r < n → length (row rows r) ≡ words
   pub room : n ≤ words * 64
   pub few : words ≤ 16
-
--- no word lost a bit
-pub record Grown (old new : List ℕ) : Type 0 where
-  pub len : length new ≡ length old
-  pub words : (i : ℕ) → slice_index old i ≤ slice_index new i
 
 -- how many words a row has
 abbrev pub words_for : ℕ → ℕ

@@ -1,9 +1,10 @@
 -- What the search for an order list keeps.
 use Rattle.std.specs.Prelude.{◌≡◌, ℕ, ◌+◌, ◌*◌, ◌<◌, ◌≤◌, ◌↔◌, IsTrue, List, length, slice_index, slice_index_or}
+use Rattle.std.specs.Global.{Vec}
 use Rattle.hq_model.specs.Job.{Job, packet, IsPacket, Dependency, Earlier, Decrements, Frees}
 use Rattle.hq_model.specs.Job.Kind.{BarrierAnd, BarrierOr}
 use Rattle.hq_model.specs.Order.{In, FreesFor, OrderList, Stuck}
-use Rattle.hq_order.specs.Bits.{has}
+use Rattle.hq_bits.specs.Bits.{has}
 
 -- the statement holds of each of the list, by its place there
 pub record AllAre {X : Type 0} (P : ℕ → X → Type 0) (xs : List X) : Type 0 where
@@ -21,6 +22,12 @@ MarksCompletion job words e = (p : ℕ) × (s : ℕ) × (e ≡ s * (words * 64) 
 -- the row is the set of the packets that free a slot of one of the first submissions, up to the k-th
 pub record Freeing (job : Job) (k : ℕ) (row : List ℕ) : Type 0 where
   pub are : (e : ℕ) → IsTrue (has row e) ↔ ((i : ℕ) × (i ≤ k) × Frees job e (slice_index job.submissions i))
+
+-- Where queues are rings, each submission has the set of the packets that free its slot or that of one before it, in so
+-- many words.
+pub record CanFree (job : Job) (words : ℕ) (sets : List (Vec ℕ)) : Type 0 where
+  pub rows : IsTrue job.rings → AllAre (λ k set. Freeing job k set.items × (length set.items ≡ words)) sets
+  pub count : IsTrue job.rings → length sets ≡ length job.submissions
 
 -- e completes on a dependency of p
 abbrev pub OfDependencies : Job → ℕ → ℕ → Type 0

@@ -2,12 +2,18 @@
 use Rattle.std.specs.Prelude.{◌≡◌, ℕ, ◌+◌, ◌*◌, ◌<◌, ◌⊎◌, ◌&&◌, not, Bool, IsTrue, List, length}
 use Rattle.std.specs.Global.{Vec}
 use Rattle.std.specs.Int.{bit_at}
-use Rattle.hq_order.specs.Bits.{has}
+use Rattle.hq_bits.specs.Bits.{has}
 use Rattle.hq_order.specs.Matrix.{row, Marks}
 
 -- p is before one of those that the choice takes from a group of four packets, each by its bit
 abbrev pub OfChoice : List (Vec ℕ) → ℕ → ℕ → ℕ → Type 0
 OfChoice rows group choice p = (bit : ℕ) × (bit < 4) × (bit_at choice bit ≡ 1) × Marks rows p (group * 4 + bit)
+
+-- p is before one of those that four choices take, each from the group behind that of the one before it
+abbrev pub OfFour : List (Vec ℕ) → ℕ → ℕ → ℕ → ℕ → ℕ → ℕ → Type 0
+OfFour rows group first second third fourth p =
+    OfChoice rows group first p
+    ⊎ (OfChoice rows (group + 1) second p ⊎ (OfChoice rows (group + 2) third p ⊎ OfChoice rows (group + 3) fourth p))
 
 -- for each choice from each group the row of all that is before one of its packets
 pub record AreUnions (rows : List (Vec ℕ)) (words : ℕ) (unions : List (Vec ℕ)) : Type 0 where

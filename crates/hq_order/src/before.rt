@@ -1,18 +1,17 @@
 //! The order of a job's packets, worked out.
 
 ghost use Rattle.std.specs.Prelude.{◌≡◌, ℕ, ◌+◌, ◌-◌, ◌<◌, ◌≤◌, ◌↔◌, [], true, false, IsTrue, IfOk, IfErr};
-ghost use Rattle.std.specs.Prelude.{MatchOption, length, ◌*◌};
+ghost use Rattle.std.specs.Prelude.{MatchOption, IfSome, length, ◌*◌};
 ghost use Rattle.hq_job.specs.Plan.{plan};
 ghost use Rattle.hq_model.specs.Order as order;
 ghost use Rattle.hq_order.specs.Rounds.{Direct, Next, IsFirstWithin, Between, IsMiddle};
 ghost use Rattle.hq_order.specs.Placing.{AllAre, Completing};
-ghost use Rattle.hq_order.specs.Matrix.{row, words_for, Marks, IsSquare, Grown, AreRounds, IsClosed, matrix, last};
+ghost use Rattle.hq_order.specs.Matrix.{row, words_for, Marks, IsSquare, AreRounds, IsClosed, matrix, last};
+ghost use Rattle.hq_bits.specs.Bits.{Grown, has};
 ghost use Rattle.hq_order.specs.Matrix.{earlier, lag, AreTurned, Differ, IsMarkedNowhere, IsMarkedFirst};
 ghost use Rattle.hq_order.specs.Uniting.{CanUnite, Stepped};
-ghost use Rattle.hq_order.specs.Bits.{has};
 ghost use Rattle.hq_order.specs.View.{AreOf};
 
-use crate::bits;
 use crate::columns::{all_turned, between, row_of};
 use crate::completing::completing;
 use crate::direct::{direct_row, go_on};
@@ -48,7 +47,7 @@ fn first_rows(
 {
     let count = job.packets().len();
     let mut rows = Vec::with_capacity(alloc, count)?;
-    let mut ahead = bits::empty(alloc, words_of(job))?;
+    let mut ahead = hq_bits::empty(alloc, words_of(job))?;
     for r in 0..count {
         go_on(&mut ahead, job, r);
         rows.push(direct_row(alloc, job, completing, &ahead, r)?)?;
@@ -93,7 +92,7 @@ fn are_same(left: &[Vec<u64>], right: &[Vec<u64>]) -> bool
     ensures other { result ≡ false → Differ left.now right.now }
 {
     for (r, row) in left.iter().enumerate() {
-        if !bits::is_same(row, &right[r]) {
+        if !hq_bits::is_same(row, &right[r]) {
             return false;
         }
     }
@@ -185,7 +184,7 @@ fn add_round(
     ensures closed { IfOk result (λ more. more ≡ false → IsClosed (plan job.now) rounds.new.items) }
 {
     job.valid();
-    let mut new = bits::empty(alloc, bits::WORDS)?;
+    let mut new = hq_bits::empty(alloc, hq_bits::WORDS)?;
     let next = following(alloc, job, completing, rounds, renewed, &mut new)?;
     if are_same(&next, last_rows(rounds)) {
         return Ok(false);
@@ -211,7 +210,7 @@ fn all_rounds(
     job.valid();
     let mut rounds = Vec::new(alloc);
     rounds.push(first_rows(alloc, job, completing)?)?;
-    let mut renewed = bits::full(alloc, bits::WORDS)?;
+    let mut renewed = hq_bits::full(alloc, hq_bits::WORDS)?;
     'rounds: while add_round(alloc, job, completing, &mut rounds, &mut renewed)? {}
     Ok(rounds)
 }
@@ -221,7 +220,7 @@ pub fn marks(rows: &[Vec<u64>], p: usize, r: usize) -> bool
     ensures { IsTrue result ↔ Marks rows.now p r }
 {
     match rows.get(r) {
-        Some(row) => bits::has(row, p),
+        Some(row) => hq_bits::has(row, p),
         None => false,
     }
 }
@@ -235,7 +234,7 @@ fn first_turned(rounds: &[Vec<Vec<u64>>], tables: &[Vec<u64>], p: usize, r: usiz
     ensures { MatchOption result (IsMarkedNowhere rounds.now p r) (λ k. IsMarkedFirst rounds.now p r k) }
 {
     for (k, table) in tables.iter().enumerate() {
-        if bits::has(table, p * bits::WIDTH + r) {
+        if hq_bits::has(table, p * hq_bits::WIDTH + r) {
             return Some(k);
         }
     }
@@ -333,10 +332,10 @@ impl<'a> Before<'a> {
         ensures { MatchOption result (order.Before self.now p r → ⊥) (λ k. IsFirstWithin self.now k p r) }
     {
         let rounds = &self.rounds;
-        if p >= bits::WIDTH {
+        if p >= hq_bits::WIDTH {
             return None;
         }
-        if r >= bits::WIDTH {
+        if r >= hq_bits::WIDTH {
             return None;
         }
         first_turned(rounds, &self.columns, p, r)
@@ -355,6 +354,20 @@ impl<'a> Before<'a> {
         between(&self.rounds[round - 1], &self.columns[round - 1], p, r)
     }
 
+    /// The least packet that p is before, and that is before r, both by rounds below this one.
+    pub fn between(&self, round: usize, p: usize, r: usize) -> Option<usize>
+        requires { p < length self.now.packets }
+        ensures few { IfSome result (λ m. m < length self.now.packets) }
+        ensures between { IfSome result (Between self.now round p r) }
+    {
+        self.job.valid();
+        if round == 0 || round >= self.rounds.len() {
+            return None;
+        }
+        let below = round - 1;
+        between(&self.rounds[below], &self.columns[below], p, r)
+    }
+
     /// How many rounds there are.
     pub fn rounds(&self) -> usize {
         self.rounds.len()
@@ -364,13 +377,13 @@ impl<'a> Before<'a> {
     /// among them too that p doesn't come before.
     #[inline(always)]
     pub fn fresh(&self, round: usize, p: usize, place: usize) -> u64 {
-        let at = p.wrapping_mul(bits::WORDS).wrapping_add(place);
+        let at = p.wrapping_mul(hq_bits::WORDS).wrapping_add(place);
         let earlier = match round.checked_sub(1) {
-            Some(earlier) => bits::word_at(row_of(&self.columns, earlier), at),
+            Some(earlier) => hq_bits::word_at(row_of(&self.columns, earlier), at),
             None => 0,
         };
         match self.columns.get(round) {
-            Some(table) => bits::less(bits::word_at(table, at), earlier),
+            Some(table) => hq_bits::less(hq_bits::word_at(table, at), earlier),
             None => !earlier,
         }
     }
@@ -381,10 +394,10 @@ impl<'a> Before<'a> {
         let table = self.columns.get(round.checked_sub(1)?)?;
         let completing = self.completing.get(signal as usize)?;
         for (place, word) in completing.iter().enumerate() {
-            let at = p.wrapping_mul(bits::WORDS).wrapping_add(place);
-            let both = *word & bits::word_at(table, at);
+            let at = p.wrapping_mul(hq_bits::WORDS).wrapping_add(place);
+            let both = *word & hq_bits::word_at(table, at);
             if both != 0 {
-                return Some(place.wrapping_mul(64).wrapping_add(bits::lowest(both)));
+                return Some(place.wrapping_mul(64).wrapping_add(hq_bits::lowest(both)));
             }
         }
         None

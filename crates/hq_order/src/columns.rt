@@ -3,10 +3,10 @@
 ghost use Rattle.std.specs.Prelude.{◌≡◌, ℕ, ◌+◌, ◌*◌, ◌<◌, ◌≤◌, ◌↔◌, ◌⊎◌, IsTrue, IfOk, MatchOption, length};
 ghost use Rattle.std.specs.Prelude.{◌==◌, slice_index};
 ghost use Rattle.std.specs.Int.{bit_at};
-ghost use Rattle.hq_order.specs.Bits.{has};
+ghost use Rattle.hq_bits.specs.Bits.{has};
 ghost use Rattle.hq_order.specs.Matrix.{row, Marks, matrix, Turned, AreTurned, IsMarkedBetween};
 
-use crate::bits::{WIDTH, WORDS, column_of, first_common, less, turn_word, word_at};
+use hq_bits::{WIDTH, WORDS, column_of, first_common, less, turn_word, word_at};
 use std::alloc::{AllocError, Global};
 
 /// Takes in r for each packet of a word of the row, that at this place. Those that are known are there.

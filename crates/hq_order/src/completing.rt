@@ -2,10 +2,10 @@
 
 ghost use Rattle.std.specs.Prelude.{◌≡◌, ◌↔◌, IsTrue, false, ◌+◌, ◌*◌, ◌<◌, ◌≤◌, ℕ, length, IfOk};
 ghost use Rattle.hq_job.specs.Plan.{plan};
-ghost use Rattle.hq_order.specs.Bits.{has};
+ghost use Rattle.hq_bits.specs.Bits.{has};
 ghost use Rattle.hq_order.specs.Placing.{AllAre, Completing, MarksCompletion};
 
-use crate::bits::{empty, insert};
+use hq_bits::{empty, insert};
 use hq_job::Job;
 use std::alloc::{AllocError, Global};
 

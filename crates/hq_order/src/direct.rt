@@ -3,13 +3,13 @@
 ghost use Rattle.std.specs.Prelude.{◌≡◌, ℕ, ◌-◌, ◌<◌, ◌↔◌, ◌⊎◌, ◌*◌, ◌≤◌, IsTrue, IfOk, OnOk, Some, length, slice_get};
 ghost use Rattle.hq_job.specs.Plan.{plan};
 ghost use Rattle.hq_model.specs.Job.{IsPacket};
-ghost use Rattle.hq_order.specs.Bits.{has};
+ghost use Rattle.hq_bits.specs.Bits.{has};
 ghost use Rattle.hq_order.specs.Matrix.{row, Marks};
 ghost use Rattle.hq_order.specs.Placing.{AllAre, Completing};
 ghost use Rattle.hq_order.specs.Rounds.{Precedes, Awaits, Direct};
 
-use crate::bits::{clear, full, insert, insert_all, meet, unite};
 use crate::needs::unite_dependencies;
+use hq_bits::{clear, full, insert, insert_all, meet, unite};
 use hq_job::Job;
 use hq_packet::Packet;
 use std::alloc::{AllocError, Global};

@@ -3,10 +3,10 @@
 ghost use Rattle.std.specs.Prelude.{◌≡◌, ◌↔◌, ◌⊎◌, IsTrue, ◌+◌, ◌*◌, ◌<◌, ◌≤◌, ℕ, length, IfOk, OnOk};
 ghost use Rattle.hq_job.specs.Plan.{plan};
 ghost use Rattle.hq_model.specs.Job.{place_in_queue, Frees};
-ghost use Rattle.hq_order.specs.Bits.{has};
-ghost use Rattle.hq_order.specs.Placing.{AllAre, Freeing};
+ghost use Rattle.hq_bits.specs.Bits.{has};
+ghost use Rattle.hq_order.specs.Placing.{AllAre, CanFree, Freeing};
 
-use crate::bits::insert;
+use hq_bits::insert;
 use hq_job::Job;
 use std::alloc::{AllocError, Global};
 
@@ -38,7 +38,7 @@ fn next_place(job: &Job, places: &[usize], number: usize) -> usize
 }
 
 /// The place of each packet in its queue.
-pub fn places(alloc: Global, job: &Job) -> Result<Vec<usize>, AllocError>
+fn places(alloc: Global, job: &Job) -> Result<Vec<usize>, AllocError>
     ensures are { IfOk result (λ places. AllAre (λ p place. place ≡ place_in_queue (plan job.now) p) places.items) }
     ensures count { IfOk result (λ places. length places.items ≡ length job.now.packets) }
 {
@@ -108,7 +108,7 @@ fn push_freeing(
 }
 
 /// For each submission, in order, the set of the packets that free its slot or that of one before it.
-pub fn freeing(
+fn all_freeing(
     alloc: Global,
     job: &Job,
     places: &[usize],
@@ -125,4 +125,16 @@ pub fn freeing(
     let mut row = vec![in alloc; 0; words]?;
     push_freeing(alloc, job, places, &mut row, &mut rows)?;
     Ok(rows)
+}
+
+/// The same where queues are rings, and nothing where they aren't.
+pub fn freeing(alloc: Global, job: &Job, words: usize) -> Result<Vec<Vec<u64>>, AllocError>
+    requires { length job.now.packets ≤ words * 64 }
+    ensures { IfOk result (λ rows. CanFree (plan job.now) words rows.items) }
+{
+    if !job.rings() {
+        return Ok(Vec::new(alloc));
+    }
+    let places = places(alloc, job)?;
+    all_freeing(alloc, job, &places, words)
 }

@@ -1,20 +1,22 @@
 //! What stands before some packets, taken in together: four packets at a time where there are many, else one by one.
 
-ghost use Rattle.std.specs.Prelude.{◌≡◌, ◌≢◌, ◌+◌, ◌*◌, ◌/◌, ◌%◌, ◌<◌, ◌≤◌, ◌↔◌, ◌⊎◌, ◌==◌, ℕ, IsTrue, IfOk, length};
+ghost use Rattle.std.specs.Prelude.{◌≡◌, ◌≢◌, ◌+◌, ◌*◌, ◌/◌, ◌%◌, ◌^◌, ◌<◌};
+ghost use Rattle.std.specs.Prelude.{◌≤◌, ◌↔◌, ◌⊎◌, ◌==◌, ℕ, IsTrue, IfOk, length};
 ghost use Rattle.std.specs.Int.{bit_at};
-ghost use Rattle.hq_order.specs.Bits.{has};
-ghost use Rattle.hq_order.specs.Matrix.{row, Marks, Grown};
-ghost use Rattle.hq_order.specs.Uniting.{OfChoice, AreUnions, CanUnite, is_fresh};
+ghost use Rattle.hq_bits.specs.Bits.{has, Grown};
+ghost use Rattle.hq_order.specs.Matrix.{row, Marks};
+ghost use Rattle.hq_order.specs.Uniting.{OfChoice, OfFour, AreUnions, CanUnite, is_fresh};
 
-use crate::bits::{empty, less, lowest, unite, without, word_at};
 use crate::columns::row_of;
+use crate::fours::unite_four;
+use hq_bits::{empty, less, lowest, unite, without, word_at};
 use std::alloc::{AllocError, Global};
 
 /// How many choices there are from a group of four packets.
 const CHOICES: usize = 16;
 
 /// From so many packets on the unions of all choices cost less than to go through the packets one by one.
-const MANY: u32 = 65_536;
+const MANY: u32 = 32_768;
 
 /// What the next round is worked out from.
 #[derive(Clone, Copy)]
@@ -106,13 +108,15 @@ fn count_fresh(row: &[u64], earlier: &[u64], renewed: &[u64]) -> u32 {
     count
 }
 
-/// Whether many packets are fresh, in all rows together.
+/// Whether many packets are fresh, in all rows together, by what every fourth row has.
 fn are_many(rows: &[Vec<u64>], earlier: &[Vec<u64>], renewed: &[u64]) -> bool {
     let mut count = 0u32;
     for (r, row) in rows.iter().enumerate() {
-        count = count.saturating_add(count_fresh(row, row_of(earlier, r), renewed));
+        if r % 4 == 0 {
+            count = count.saturating_add(count_fresh(row, row_of(earlier, r), renewed));
+        }
     }
-    count > MANY
+    count > MANY / 4
 }
 
 /// What is before the packets of each choice, where many packets are to be gone through; else none.
@@ -134,18 +138,46 @@ pub fn unions_if_many(
     }
 }
 
-/// Takes in what is before the packets of a choice.
-fn unite_choice(new: &mut [u64], known: &Known, group: usize, choice: usize)
+/// The choice that a word takes from one of its groups.
+#[inline(always)]
+fn choice_of(word: u64, group: usize) -> usize
+    requires { group < 16 }
+    ensures choice { result ≡ word / 2 ^ (4 * group) % 16 }
+    ensures low { result < 16 }
+{
+    (word >> (4 * group)) as usize % CHOICES
+}
+
+/// Takes in what is before the packets of four choices, each from the group behind that of the one before it.
+fn unite_choices(
+    new: &mut [u64],
+    known: &Known,
+    group: usize,
+    first: usize,
+    second: usize,
+    third: usize,
+    fourth: usize,
+)
     requires unions { AreUnions known.now.rows.now (length new.old) known.now.unions.now }
-    requires group { group < length new.old * 16 }
+    requires group { group + 3 < length new.old * 16 }
     requires few { length new.old ≤ 16 }
-    requires choice { choice < 16 }
+    requires first { first < 16 }
+    requires second { second < 16 }
+    requires third { third < 16 }
+    requires fourth { fourth < 16 }
     ensures grown { Grown new.old new.new }
     ensures exact { (p : ℕ) → IsTrue (has new.new p)
-        ↔ (IsTrue (has new.old p) ⊎ OfChoice known.now.rows.now group choice p) }
+        ↔ (IsTrue (has new.old p) ⊎ OfFour known.now.rows.now group first second third fourth p) }
 {
-    if choice != 0 {
-        unite(new, row_of(known.unions, group * CHOICES + choice));
+    if first + second + third + fourth != 0 {
+        let unions = known.unions;
+        unite_four(
+            new,
+            row_of(unions, group * CHOICES + first),
+            row_of(unions, (group + 1) * CHOICES + second),
+            row_of(unions, (group + 2) * CHOICES + third),
+            row_of(unions, (group + 3) * CHOICES + fourth),
+        );
     }
 }
 
@@ -176,12 +208,16 @@ fn unite_groups(new: &mut [u64], known: &Known, place: usize, word: u64)
         ↔ (IsTrue (has new.old p)
         ⊎ ((bit : ℕ) × (bit < 64) × (bit_at word bit ≡ 1) × Marks known.now.rows.now p (place * 64 + bit))) }
 {
-    for group in 0..16 {
-        unite_choice(
+    for quarter in 0..4 {
+        let group = 4 * quarter;
+        unite_choices(
             new,
             known,
             place * 16 + group,
-            (word >> (4 * group)) as usize % CHOICES,
+            choice_of(word, group),
+            choice_of(word, group + 1),
+            choice_of(word, group + 2),
+            choice_of(word, group + 3),
         );
     }
 }

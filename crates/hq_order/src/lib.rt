@@ -5,11 +5,11 @@
 #![tactic(auto)]
 
 mod before;
-pub mod bits;
 mod columns;
 mod completing;
 mod direct;
 mod fault;
+mod fours;
 mod freeing;
 mod gathering;
 pub mod laws;
@@ -17,6 +17,7 @@ mod needs;
 mod rounds;
 pub mod rules;
 mod scheduling;
+mod skipping;
 mod sweeping;
 
 pub use before::{Before, Rounds, marks};

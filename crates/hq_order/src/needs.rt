@@ -4,10 +4,10 @@ ghost use Rattle.std.specs.Prelude.{◌≡◌, ◌↔◌, ◌⊎◌, IsTrue, ◌
 ghost use Rattle.hq_job.specs.Plan.{plan};
 ghost use Rattle.hq_model.specs.Job.{packet, Earlier};
 ghost use Rattle.hq_model.specs.Order.{FreesFor, place};
-ghost use Rattle.hq_order.specs.Bits.{has};
-ghost use Rattle.hq_order.specs.Placing.{AllAre, Completing, Freeing, OfDependencies, Needs, Needed};
+ghost use Rattle.hq_bits.specs.Bits.{has};
+ghost use Rattle.hq_order.specs.Placing.{AllAre, CanFree, Completing, OfDependencies, Needs, Needed};
 
-use crate::bits::{insert_all, unite};
+use hq_bits::{insert_all, unite};
 use hq_job::Job;
 use hq_packet::Packet;
 use std::alloc::{AllocError, Global};
@@ -60,9 +60,7 @@ pub fn unite_dependencies(job: &Job, completing: &[Vec<u64>], number: usize, row
 /// Takes in the packets that free the slot of a packet, or that of one submitted before it. Only rings have such.
 fn unite_freeing(job: &Job, freeing: &[Vec<u64>], number: usize, row: &mut [u64])
     requires number { number < length job.now.packets }
-    requires freeing { AllAre
-        (λ k set. Freeing (plan job.now) k set.items × (length set.items ≡ length row.old)) freeing.now }
-    requires turns { length freeing.now ≡ length job.now.submissions }
+    requires freeing { CanFree (plan job.now) (length row.old) freeing.now }
     ensures taken { (e : ℕ) → IsTrue (has row.new e) ↔ (IsTrue (has row.old e) ⊎ FreesFor (plan job.now) e number) }
     ensures len { length row.new ≡ length row.old }
 {
@@ -85,9 +83,7 @@ fn insert_needs(
     requires completing { AllAre
         (λ s set. Completing (plan job.now) s set.items × (length set.items ≡ length row.old)) completing.now }
     requires signals { length completing.now ≡ length job.now.signals }
-    requires freeing { AllAre
-        (λ k set. Freeing (plan job.now) k set.items × (length set.items ≡ length row.old)) freeing.now }
-    requires turns { length freeing.now ≡ length job.now.submissions }
+    requires freeing { CanFree (plan job.now) (length row.old) freeing.now }
     ensures taken { (e : ℕ) → IsTrue (has row.new e) ↔ (IsTrue (has row.old e) ⊎ Needs (plan job.now) number e) }
     ensures len { length row.new ≡ length row.old }
 {
@@ -112,8 +108,7 @@ fn needs_row(
     requires completing { AllAre
         (λ s set. Completing (plan job.now) s set.items × (length set.items ≡ words)) completing.now }
     requires signals { length completing.now ≡ length job.now.signals }
-    requires freeing { AllAre (λ k set. Freeing (plan job.now) k set.items × (length set.items ≡ words)) freeing.now }
-    requires turns { length freeing.now ≡ length job.now.submissions }
+    requires freeing { CanFree (plan job.now) words freeing.now }
     ensures row { IfOk result (λ row. Needed (plan job.now) number row.items) }
     ensures len { IfOk result (λ row. length row.items ≡ words) }
 {
@@ -134,8 +129,7 @@ pub fn needs(
     requires completing { AllAre
         (λ s set. Completing (plan job.now) s set.items × (length set.items ≡ words)) completing.now }
     requires signals { length completing.now ≡ length job.now.signals }
-    requires freeing { AllAre (λ k set. Freeing (plan job.now) k set.items × (length set.items ≡ words)) freeing.now }
-    requires turns { length freeing.now ≡ length job.now.submissions }
+    requires freeing { CanFree (plan job.now) words freeing.now }
     ensures rows { IfOk result
         (λ rows. AllAre (λ p row. Needed (plan job.now) p row.items × (length row.items ≡ words)) rows.items) }
     ensures count { IfOk result (λ rows. length rows.items ≡ length job.now.packets) }

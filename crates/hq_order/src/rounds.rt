@@ -4,13 +4,12 @@ ghost use Rattle.std.specs.Prelude.{OnOk, Some, slice_get, ◌≡◌, ℕ, ◌/�
 ghost use Rattle.std.specs.Prelude.{IfOk, false, length};
 ghost use Rattle.hq_job.specs.Plan.{plan};
 ghost use Rattle.hq_model.specs.Job.{IsPacket};
-ghost use Rattle.hq_order.specs.Bits.{has};
+ghost use Rattle.hq_bits.specs.Bits.{has, Grown};
 ghost use Rattle.hq_order.specs.Rounds.{Next, Reaches, ByOr};
-ghost use Rattle.hq_order.specs.Matrix.{row, Marks, Square, Grown};
+ghost use Rattle.hq_order.specs.Matrix.{row, Marks, Square};
 ghost use Rattle.hq_order.specs.Placing.{AllAre, Completing};
 ghost use Rattle.hq_order.specs.Uniting.{CanUnite, Stepped, Through};
 
-use crate::bits;
 use crate::columns::row_of;
 use crate::gathering::{Known, unite_fresh};
 use hq_job::Job;
@@ -73,7 +72,7 @@ fn meet_branch(
         ↔ (IsTrue (has shared.old p) × Reaches (plan job.now) (Marks known.now.rows.now) p signal)) }
 {
     let branch = reached(alloc, &completing[signal as usize], known)?;
-    bits::meet(shared, &branch);
+    hq_bits::meet(shared, &branch);
     Ok(())
 }
 
@@ -132,7 +131,7 @@ pub fn unite_shared(
     job.valid();
     let placed = job.packet(r);
     if let Packet::Or(_) = placed.packet {
-        let mut shared = bits::full(alloc, new.len())?;
+        let mut shared = hq_bits::full(alloc, new.len())?;
         meet_branches(alloc, &mut shared, job, completing, known, &placed.slots)?;
         return Ok(unite_more(new, &shared));
     }
@@ -146,8 +145,8 @@ fn unite_more(row: &mut [u64], other: &[u64]) -> bool
     ensures exact { (p : ℕ) → has row.new p ≡ (has row.old p || has other.now p) }
     ensures more { result ≡ false → (p : ℕ) → IsTrue (has row.new p) → IsTrue (has row.old p) }
 {
-    let more = !bits::covers(row, other);
-    bits::unite(row, other);
+    let more = !hq_bits::covers(row, other);
+    hq_bits::unite(row, other);
     more
 }
 
@@ -158,7 +157,7 @@ fn note(renewed: &mut [u64], r: usize, more: bool)
     ensures noted { IsTrue more → IsTrue (has renewed.new r) }
 {
     if more {
-        bits::insert(renewed, r);
+        hq_bits::insert(renewed, r);
     }
 }
 

@@ -6,16 +6,17 @@ ghost use Rattle.hq_job.specs.Plan.{plan};
 ghost use Rattle.hq_model.specs.Job.{Earlier};
 ghost use Rattle.hq_model.specs.Machine.{listed};
 ghost use Rattle.hq_model.specs.Order.{OrderList};
-ghost use Rattle.hq_order.specs.Bits.{has};
+ghost use Rattle.hq_bits.specs.Bits.{has};
 ghost use Rattle.hq_order.specs.Placing.{AllAre, Completing, Needed, OneIsOver, MayFollow};
 ghost use Rattle.hq_order.specs.Least.{LeastFirst};
 ghost use Rattle.hq_order.specs.Faults.{StuckWhereSo};
 
-use crate::bits::{covers, has, insert};
 use crate::completing::completing;
 use crate::fault::OrderFault;
-use crate::freeing::{freeing, places};
+use crate::freeing::freeing;
 use crate::needs::needs;
+use crate::skipping::beyond;
+use hq_bits::{covers, has, insert};
 use hq_job::Job;
 use hq_packet::Packet;
 use std::alloc::{AllocError, Global};
@@ -83,7 +84,7 @@ fn following(job: &Job, come: &[u64], number: usize) -> usize
 {
     job.valid();
     if has(come, number) {
-        number + 1
+        beyond(come, number)
     } else {
         end_of_queue(job, number)
     }
@@ -157,7 +158,7 @@ pub fn schedule(alloc: Global, job: &Job) -> Result<Vec<u16>, OrderFault>
     let count = job.packets().len();
     let words = count / 64 + 1;
     let completing = completing(alloc, job, words)?;
-    let freeing = freeing(alloc, job, &places(alloc, job)?, words)?;
+    let freeing = freeing(alloc, job, words)?;
     let needs = needs(alloc, job, &completing, &freeing, words)?;
     let mut come = vec![in alloc; 0; words]?;
     let mut list = Vec::with_capacity(alloc, count)?;

@@ -1,5 +1,6 @@
 use Rattle.std.proofs.Common.{◌+◌, arith}
 use Rattle.hq_audit.specs.Refused.{IsFirstOfRow}
+use Rattle.hq_job.specs.Plan.{plan}
 use Rattle.hq_audit.proofs.Parting.{row_skipped}
 use Rattle.hq_audit.proofs.Turning.{row_next, handed_on}
 use Rattle.hq_audit.proofs.verdicts.row_shown.Goals as goal
@@ -9,7 +10,7 @@ others-init c =
     let next = c.next-b.ensures in
     record {
       above = omega (arith, next.above);
-      shown = row_skipped c.args.before.now c.args.a (c.args.a + 1) c.next-b.result (λ s above low is. absurd (omega arith)) (λ s. next.apart c.args.a s c.others-row.ensures);
+      shown = row_skipped c.args.before.now (plan c.job-job.result.now) c.args.a (c.args.a + 1) c.next-b.result c.job-job.ensures (λ s above low is. absurd (omega arith)) (λ s. next.apart c.args.a s c.others-row.ensures);
     }
 
 pub others-preserved : goal.others-preserved
@@ -18,7 +19,7 @@ others-preserved c =
     let next = c.next-b-in-others.ensures in
     record {
       above = omega (arith, next.above, c.others.invariant.above);
-      shown = row_skipped job c.args.a (c.others.b + 1) c.next-b-in-others.result (row_next job c.args.a c.others.b c.others.invariant.shown c.in_ok-pair_shown.ensures.shown) (λ s. next.apart c.args.a s c.others-row.ensures);
+      shown = row_skipped job (plan c.job-job.result.now) c.args.a (c.others.b + 1) c.next-b-in-others.result c.job-job.ensures (row_next job c.args.a c.others.b c.others.invariant.shown c.in_ok-pair_shown.ensures.shown) (λ s. next.apart c.args.a s c.others-row.ensures);
     }
 
 pub returns-clause-shown : goal.returns-clause-shown

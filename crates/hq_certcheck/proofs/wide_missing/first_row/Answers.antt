@@ -5,7 +5,7 @@ use Rattle.rayon.specs.Numbers.{nat_range}
 use Rattle.rayon.proofs.ToStd.{nat_range-All}
 use Rattle.hq_job.specs.Plan.{plan}
 use Rattle.hq_certcheck.specs.Covering.{AllFlagged, FirstUnflaggedRow}
-use Rattle.hq_certcheck.specs.Extents.{AreExtents}
+use Rattle.hq_parts.specs.Parts.{AreParts}
 use Rattle.hq_certcheck.proofs.Flags.{match_change}
 use Rattle.hq_certcheck.proofs.Leasts.{Tells, IsLeastOf, least_told}
 use Rattle.hq_certcheck.proofs.wide_missing.first_row.Goals as goal
@@ -15,8 +15,8 @@ position_first-requires-clause-items g c κs lives =
     let ends = c.into_par_iter.ensures in
     let n = length c.args.job.now.packets in
     rw (c.with_min_len-rows.ensures.base, ends.0, ends.1)
-    (nat_range-All (λ p. AreExtents (plan c.args.job.now) c.args.extents.now × (length c.args.cells.now ≡ n * n) × (p < n)) 0 (length c.packets.result.now)
-    (λ i low high. (c.requires.extents, c.requires.len, subst (λ xs. i < length xs) c.packets.ensures high)))
+    (nat_range-All (λ p. AreParts (plan c.args.job.now) c.args.parts.now × (length c.args.cells.now ≡ n * n) × (p < n)) 0 (length c.packets.result.now)
+    (λ i low high. (c.requires.parts, c.requires.len, subst (λ xs. i < length xs) c.packets.ensures high)))
 
 pub returns : goal.returns
 returns g c =

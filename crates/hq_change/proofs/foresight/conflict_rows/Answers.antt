@@ -1,5 +1,5 @@
 use Rattle.std.proofs.Common.{ℕ, ◌≡◌, ◌+◌, ◌<◌, ◌∷◌, [], length, length-append, ◌∙◌, ap, arith, IsTrue}
-use Rattle.hq_order.specs.Bits.{has}
+use Rattle.hq_bits.specs.Bits.{has}
 use Rattle.hq_order.specs.Matrix.{words_for}
 use Rattle.hq_order.proofs.Closure.{pushed}
 use Rattle.hq_order.proofs.Rows.{marked_below}

@@ -2,7 +2,7 @@ use Rattle.std.proofs.Common.{◌+◌, ◌*◌, ◌<◌, ◌≤◌, length}
 use Rattle.hq_job.specs.Heads.{SameButHeads}
 use Rattle.hq_job.specs.Plan.{plan}
 use Rattle.hq_model.specs.Settings.{Raises}
-use Rattle.hq_audit.specs.Parts.{AreParts}
+use Rattle.hq_parts.specs.Parts.{AreParts}
 use Rattle.hq_change.specs.Minimal.{Fit, IsOn, SettledFrom}
 use Rattle.hq_change.proofs.settling.settle.Given as goal
 

@@ -1,6 +1,6 @@
 use Rattle.std.proofs.Common.{◌≡◌, ◌↔◌, ◌∙◌, ℕ, IsTrue, length, ap, sym, subst}
 use Rattle.hq_job.specs.Plan.{plan}
-use Rattle.hq_order.specs.Bits.{has}
+use Rattle.hq_bits.specs.Bits.{has}
 use Rattle.hq_order.proofs.Filling.{packets_count}
 use Rattle.hq_order.proofs.Lists.{lent}
 use Rattle.hq_explain.specs.Changes.{Orders}

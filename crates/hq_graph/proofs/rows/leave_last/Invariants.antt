@@ -1,5 +1,5 @@
 use Rattle.std.proofs.Common.{◌-◌, ◌<◌, ◌≤◌, IsTrue, length}
-use Rattle.hq_order.specs.Bits.{has}
+use Rattle.hq_bits.specs.Bits.{has}
 use Rattle.hq_graph.proofs.Betweens.{Left}
 use Rattle.hq_graph.proofs.rows.leave_last.Given as goal
 

@@ -1,5 +1,5 @@
 use Rattle.std.proofs.Common.{◌≡◌, ◌∙◌, ◌↔◌, IsTrue, ap, sym, subst, length}
-use Rattle.hq_order.specs.Bits.{has}
+use Rattle.hq_bits.specs.Bits.{has}
 use Rattle.hq_order.proofs.Lists.{lent}
 use Rattle.hq_graph.specs.Order.{IsStep}
 use Rattle.hq_graph.proofs.Betweens.{steps_are}

@@ -1,7 +1,7 @@
 use Rattle.std.proofs.Common.{ℕ, ◌<◌, IsTrue}
 use Rattle.hq_job.specs.Plan.{plan}
 use Rattle.hq_model.specs.Job.{Frees}
-use Rattle.hq_order.specs.Bits.{has}
+use Rattle.hq_bits.specs.Bits.{has}
 use Rattle.hq_graph.proofs.turns.has_no_slot.Given as goal
 
 abbrev pub invariant-loop-q : goal.invariant-loop-q

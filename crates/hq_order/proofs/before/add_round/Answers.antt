@@ -1,6 +1,7 @@
 use Rattle.std.proofs.Common.{ℕ, ◌-◌, ◌<◌, ◌↔◌, ◌++◌, ◌∷◌, [], sym, ◌∙◌, arith, length, ap, subst}
 use Rattle.hq_job.specs.Plan.{plan}
-use Rattle.hq_order.specs.Matrix.{row, Marks, Grown, AreRounds, last, earlier, lag, lag_of_rows, IsSquare, Differ}
+use Rattle.hq_order.specs.Matrix.{row, Marks, AreRounds, last, earlier, lag, lag_of_rows, IsSquare, Differ}
+use Rattle.hq_bits.specs.Bits.{Grown}
 use Rattle.hq_order.specs.Rounds.{Next}
 use Rattle.hq_order.specs.Uniting.{Stepped}
 use Rattle.hq_order.proofs.Single.{count}

@@ -1,6 +1,6 @@
 use Rattle.std.proofs.Common.{◌≡◌, ◌+◌, ◌-◌, ◌<◌, ◌↔◌, ◌∷◌, [], sym, ◌∙◌, arith, length, ap, subst, IsTrue, length-append}
 use Rattle.hq_job.specs.Plan.{plan}
-use Rattle.hq_order.specs.Bits.{has}
+use Rattle.hq_bits.specs.Bits.{has}
 use Rattle.hq_order.specs.Matrix.{words_for}
 use Rattle.hq_order.specs.Rounds.{Direct, Precedes}
 use Rattle.hq_order.proofs.Single.{direct_packet_r, few}

@@ -1,6 +1,6 @@
-use Rattle.std.proofs.Common.{◌≡◌, ◌↔◌, ◌+◌, ◌*◌, sym, ◌∙◌, ap, arith, inl, inr, subst, IsTrue, true, false}
+use Rattle.std.proofs.Common.{◌≡◌, ◌+◌, ◌*◌, sym, ◌∙◌, ap, arith, inl, inr, subst, IsTrue, true, false}
 use Rattle.std.proofs.lemmas.Bool.{cases_lt}
-use Rattle.hq_order.specs.Bits.{has}
+use Rattle.hq_bits.specs.Bits.{has}
 use Rattle.hq_order.specs.Matrix.{row, Marks, matrix}
 use Rattle.hq_order.proofs.Rows.{row_is}
 use Rattle.hq_order.proofs.before.first_turned.Goals as goal

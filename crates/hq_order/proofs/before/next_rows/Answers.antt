@@ -1,8 +1,8 @@
 use Rattle.std.proofs.Common.{◌+◌, ◌↔◌, ◌⊎◌, ◌∷◌, [], sym, ◌∙◌, arith, length, inl, inr, ap, subst, IsTrue, length-append}
 use Rattle.std.proofs.lemmas.Bool.{cases_lt}
 use Rattle.hq_job.specs.Plan.{plan}
-use Rattle.hq_order.specs.Bits.{has}
-use Rattle.hq_order.specs.Matrix.{row, Marks, Grown}
+use Rattle.hq_bits.specs.Bits.{has, Grown}
+use Rattle.hq_order.specs.Matrix.{row, Marks}
 use Rattle.hq_order.specs.Uniting.{CanUnite, Through}
 use Rattle.hq_order.specs.Rounds.{Next}
 use Rattle.hq_order.proofs.Single.{count}

@@ -1,7 +1,7 @@
 use Rattle.std.proofs.Common.{◌≡◌, ◌↔◌, ◌⊎◌, ℕ, ◌<◌, IsTrue, length}
 use Rattle.hq_job.specs.Plan.{plan}
-use Rattle.hq_order.specs.Bits.{has}
-use Rattle.hq_order.specs.Matrix.{row, Marks, Grown}
+use Rattle.hq_bits.specs.Bits.{has, Grown}
+use Rattle.hq_order.specs.Matrix.{row, Marks}
 use Rattle.hq_order.specs.Uniting.{Through}
 use Rattle.hq_order.specs.Rounds.{Next}
 use Rattle.hq_order.proofs.before.next_rows.Given as goal

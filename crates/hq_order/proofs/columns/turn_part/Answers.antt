@@ -1,8 +1,9 @@
 use Rattle.std.proofs.Common.{◌≡◌, ◌+◌, ◌*◌, ◌<◌, ◌==◌, inl, inr, ℕ, IsTrue, sym, subst, arith, slice_index}
 use Rattle.std.specs.Int.{bit_at}
 use Rattle.std.proofs.lemmas.Bool.{eqb-true}
-use Rattle.hq_order.specs.Bits.{has}
-use Rattle.hq_order.proofs.Crossing.{OfWord, of_zero, has_there, word_fresh}
+use Rattle.hq_bits.specs.Bits.{has}
+use Rattle.hq_order.proofs.Crossing.{OfWord, of_zero, word_fresh}
+use Rattle.hq_bits.proofs.Shared.{has_there}
 use Rattle.hq_order.proofs.columns.turn_part.Goals as goal
 
 pub returns-then-word-ne0 : goal.returns-then-word-ne0

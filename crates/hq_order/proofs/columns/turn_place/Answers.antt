@@ -1,5 +1,5 @@
 use Rattle.std.proofs.Common.{◌*◌, ◌↔◌, ◌⊎◌, IsTrue, sym, ◌∙◌, subst, slice_index}
-use Rattle.hq_order.specs.Bits.{has}
+use Rattle.hq_bits.specs.Bits.{has}
 use Rattle.hq_order.specs.Matrix.{row}
 use Rattle.hq_order.proofs.Rows.{gather_more, row_is}
 use Rattle.hq_order.proofs.Crossing.{OfWord}

@@ -1,5 +1,5 @@
 use Rattle.std.proofs.Common.{ℕ, ◌*◌, ◌<◌, ◌↔◌, ◌⊎◌, IsTrue, slice_index}
-use Rattle.hq_order.specs.Bits.{has}
+use Rattle.hq_bits.specs.Bits.{has}
 use Rattle.hq_order.specs.Matrix.{row}
 use Rattle.hq_order.proofs.Crossing.{OfWord}
 use Rattle.hq_order.proofs.columns.turn_place.Given as goal

@@ -1,5 +1,5 @@
 use Rattle.std.proofs.Common.{IsTrue, arith}
-use Rattle.hq_order.specs.Bits.{has}
+use Rattle.hq_bits.specs.Bits.{has}
 use Rattle.hq_order.proofs.Rows.{gather_more}
 use Rattle.hq_order.proofs.Crossing.{OfPlace, rows_done}
 use Rattle.hq_order.proofs.columns.turn_rows.Goals as goal

@@ -1,5 +1,5 @@
-use Rattle.std.proofs.Common.{ℕ, ◌*◌, ◌<◌, ◌↔◌, ◌⊎◌, IsTrue, length, slice_index}
-use Rattle.hq_order.specs.Bits.{has}
+use Rattle.std.proofs.Common.{ℕ, ◌<◌, ◌↔◌, ◌⊎◌, IsTrue}
+use Rattle.hq_bits.specs.Bits.{has}
 use Rattle.hq_order.proofs.Crossing.{OfPlace}
 use Rattle.hq_order.proofs.columns.turn_rows.Given as goal
 

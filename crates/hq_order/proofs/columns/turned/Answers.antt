@@ -1,6 +1,6 @@
 use Rattle.std.proofs.Common.{◌≡◌, ◌∙◌, ℕ, ◌<◌, ap, sym, subst, length, replicate}
 use Rattle.std.proofs.lemmas.List.{length-replicate}
-use Rattle.hq_order.specs.Bits.{has}
+use Rattle.hq_bits.specs.Bits.{has}
 use Rattle.hq_order.specs.Matrix.{row, Turned}
 use Rattle.hq_order.proofs.Lists.{lent}
 use Rattle.hq_order.proofs.Rows.{from_none}

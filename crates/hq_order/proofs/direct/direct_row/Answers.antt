@@ -1,6 +1,6 @@
 use Rattle.std.proofs.Common.{◌≡◌, ◌↔◌, inl, inr, length, sym, ◌∙◌, ap, subst, IsTrue}
 use Rattle.hq_job.specs.Plan.{plan}
-use Rattle.hq_order.specs.Bits.{has}
+use Rattle.hq_bits.specs.Bits.{has}
 use Rattle.hq_order.specs.Rounds.{Direct}
 use Rattle.hq_order.proofs.Rows.{given_back}
 use Rattle.hq_order.proofs.direct.direct_row.Goals as goal

@@ -1,8 +1,8 @@
 use Rattle.std.proofs.Common.{◌≡◌, ◌-◌, ◌<◌, inl, inr, true, false, refl, sym, ◌∙◌, ap, arith}
 use Rattle.hq_job.specs.Plan.{plan}
 use Rattle.hq_model.specs.Job.{IsBarrier}
-use Rattle.hq_order.specs.Bits.{has}
-use Rattle.hq_order.proofs.Crossing.{mark_bit}
+use Rattle.hq_bits.specs.Bits.{has}
+use Rattle.hq_bits.proofs.Walked.{mark_bit}
 use Rattle.hq_order.specs.Rounds.Precedes.{by_bit}
 use Rattle.hq_order.proofs.Single.{earlier_range, next_of_queue, none_precedes, precedes_earlier, precedes_further, precedes_next}
 use Rattle.hq_order.proofs.direct.go_on.Goals as goal

@@ -1,7 +1,8 @@
 use Rattle.std.proofs.Common.{length, sym, ◌∙◌, ap, subst, IsTrue}
-use Rattle.hq_order.specs.Bits.{has}
+use Rattle.hq_bits.specs.Bits.{has}
 use Rattle.hq_order.specs.Matrix.{Marks}
-use Rattle.hq_order.proofs.Rows.{row_is, width_is, met}
+use Rattle.hq_order.proofs.Rows.{row_is, width_is}
+use Rattle.hq_bits.proofs.Words.{met}
 use Rattle.hq_order.proofs.direct.meet_one.Goals as goal
 
 pub meet-requires : goal.meet-requires

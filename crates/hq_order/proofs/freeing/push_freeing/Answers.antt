@@ -1,7 +1,7 @@
 use Rattle.std.proofs.Common.{◌≡◌, ◌+◌, ◌↔◌, ◌⊎◌, ◌∷◌, [], ℕ, IsTrue, sym, subst, length, ◌∙◌, ap, slice_index, length-append}
 use Rattle.hq_job.specs.Plan.{plan}
 use Rattle.hq_model.specs.Job.{Frees}
-use Rattle.hq_order.specs.Bits.{has}
+use Rattle.hq_bits.specs.Bits.{has}
 use Rattle.hq_order.specs.Placing.{AllAre, Freeing}
 use Rattle.hq_order.proofs.Lists.{all_push}
 use Rattle.hq_order.proofs.Filling.{Gathered, gathered_in}

@@ -1,5 +1,5 @@
 use Rattle.std.proofs.Common.{◌≡◌, ◌↔◌, ◌+◌, ◌/◌, ◌%◌, ◌∷◌, [], ◌∙◌, ap, length, length-append, IsTrue, arith}
-use Rattle.hq_order.specs.Bits.{has}
+use Rattle.hq_bits.specs.Bits.{has}
 use Rattle.hq_order.specs.Uniting.{OfChoice}
 use Rattle.hq_order.proofs.Closure.{pushed}
 use Rattle.hq_order.proofs.Gathered.{unions_done}

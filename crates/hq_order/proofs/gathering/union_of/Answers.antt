@@ -1,5 +1,5 @@
 use Rattle.std.proofs.Common.{◌≡◌, ◌↔◌, ◌+◌, ◌-◌, ◌/◌, ◌%◌, ◌<◌, ℕ, IsTrue, length, sym, ◌∙◌, ap, subst, arith}
-use Rattle.hq_order.specs.Bits.{has}
+use Rattle.hq_bits.specs.Bits.{has}
 use Rattle.hq_order.specs.Matrix.{row, Marks}
 use Rattle.hq_order.specs.Uniting.{OfChoice}
 use Rattle.hq_order.proofs.Rows.{given_back}

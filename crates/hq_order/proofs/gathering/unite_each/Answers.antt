@@ -1,9 +1,9 @@
 use Rattle.std.proofs.Common.{◌+◌, ◌*◌, IsTrue, sym, ◌∙◌}
-use Rattle.hq_order.specs.Bits.{has}
+use Rattle.hq_bits.specs.Bits.{has}
 use Rattle.hq_order.specs.Matrix.{Marks}
-use Rattle.hq_order.proofs.Crossing.{gone_none, gone_more, gone_all, under_less}
+use Rattle.hq_bits.proofs.Walked.{gone_none, gone_more, gone_all, under_less}
 use Rattle.hq_order.proofs.Gathered.{bits_of_all}
-use Rattle.hq_order.proofs.Rows.{grown_more, grown_same}
+use Rattle.hq_bits.proofs.Words.{grown_more, grown_same}
 use Rattle.hq_order.proofs.gathering.unite_each.Goals as goal
 
 pub each-init : goal.each-init

@@ -1,7 +1,7 @@
 use Rattle.std.proofs.Common.{ℕ, ◌+◌, ◌*◌, ◌↔◌, ◌⊎◌, IsTrue}
-use Rattle.hq_order.specs.Bits.{has}
-use Rattle.hq_order.specs.Matrix.{Marks, Grown}
-use Rattle.hq_order.proofs.Crossing.{Gone, Under}
+use Rattle.hq_bits.specs.Bits.{has, Grown}
+use Rattle.hq_order.specs.Matrix.{Marks}
+use Rattle.hq_bits.proofs.Walked.{Gone, Under}
 use Rattle.hq_order.proofs.gathering.unite_each.Given as goal
 
 abbrev pub invariant-each : goal.invariant-each

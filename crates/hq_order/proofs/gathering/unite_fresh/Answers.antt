@@ -1,7 +1,8 @@
 use Rattle.std.proofs.Common.{IsTrue, arith}
-use Rattle.hq_order.specs.Bits.{has}
+use Rattle.hq_bits.specs.Bits.{has}
 use Rattle.hq_order.specs.Uniting.{is_fresh}
-use Rattle.hq_order.proofs.Rows.{grown_more, gather_more, gather_skip}
+use Rattle.hq_bits.proofs.Words.{grown_more}
+use Rattle.hq_order.proofs.Rows.{gather_more, gather_skip}
 use Rattle.hq_order.proofs.Gathered.{OfFresh, fresh_bits, fresh_none, fresh_done}
 use Rattle.hq_order.proofs.gathering.unite_fresh.Goals as goal
 use Rattle.hq_order.proofs.gathering.unite_fresh.Goals.{then-word-ne0, else-word-ne0}

@@ -1,6 +1,5 @@
 use Rattle.std.proofs.Common.{◌↔◌, ◌⊎◌, ℕ, ◌<◌, IsTrue}
-use Rattle.hq_order.specs.Bits.{has}
-use Rattle.hq_order.specs.Matrix.{Grown}
+use Rattle.hq_bits.specs.Bits.{has, Grown}
 use Rattle.hq_order.specs.Uniting.{is_fresh}
 use Rattle.hq_order.proofs.Gathered.{OfFresh}
 use Rattle.hq_order.proofs.gathering.unite_fresh.Given as goal

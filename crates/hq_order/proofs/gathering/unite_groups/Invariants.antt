@@ -1,11 +1,10 @@
-use Rattle.std.proofs.Common.{◌↔◌, ◌⊎◌, ◌/◌, ◌%◌, ◌*◌, ◌+◌, ◌^◌, ℕ, ◌<◌, IsTrue}
-use Rattle.hq_order.specs.Bits.{has}
-use Rattle.hq_order.specs.Matrix.{Grown}
-use Rattle.hq_order.specs.Uniting.{OfChoice}
+use Rattle.std.proofs.Common.{◌↔◌, ◌⊎◌, ◌*◌, ℕ, ◌<◌, IsTrue}
+use Rattle.hq_bits.specs.Bits.{has, Grown}
+use Rattle.hq_order.proofs.Quartets.{OfGroup}
 use Rattle.hq_order.proofs.gathering.unite_groups.Given as goal
 
-abbrev pub invariant-loop-group : goal.invariant-loop-group
-invariant-loop-group l = record {
+abbrev pub invariant-loop-quarter : goal.invariant-loop-quarter
+invariant-loop-quarter l = record {
   grown : Grown l.fn.new l.new;
-  exact : (p : ℕ) → IsTrue (has l.new p) ↔ (IsTrue (has l.fn.new p) ⊎ ((group : ℕ) × (group < l.group) × OfChoice l.known.rows.now (l.place * 16 + group) (l.word / 2 ^ (4 * group) % 16) p));
+  exact : (p : ℕ) → IsTrue (has l.new p) ↔ (IsTrue (has l.fn.new p) ⊎ ((group : ℕ) × (group < 4 * l.quarter) × OfGroup l.known.rows.now l.place l.word p group));
 }

@@ -1,7 +1,7 @@
 use Rattle.std.proofs.Common.{◌≡◌, ◌<◌, inl, inr, ℕ, ap, subst, length, arith, slice_index_or, sym, ◌∙◌, IsTrue, None, Some}
 use Rattle.hq_job.specs.Plan.{plan}
 use Rattle.hq_model.specs.Job.{Dependency, Decrements}
-use Rattle.hq_order.specs.Bits.{has}
+use Rattle.hq_bits.specs.Bits.{has}
 use Rattle.hq_order.specs.Placing.{Completing}
 use Rattle.hq_order.proofs.Lists.{one_is}
 use Rattle.hq_order.proofs.Filling.{gathered_in, gathered_out, united}

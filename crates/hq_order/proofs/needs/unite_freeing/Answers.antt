@@ -1,7 +1,7 @@
-use Rattle.std.proofs.Common.{◌≡◌, ◌↔◌, ℕ, IsTrue, arith, length, subst}
+use Rattle.std.proofs.Common.{◌≡◌, ◌↔◌, ℕ, IsTrue, arith, length, subst, sym, ◌∙◌}
 use Rattle.hq_job.specs.Plan.{plan}
 use Rattle.hq_model.specs.Order.{FreesFor}
-use Rattle.hq_order.specs.Bits.{has}
+use Rattle.hq_bits.specs.Bits.{has}
 use Rattle.hq_order.specs.Placing.{Freeing}
 use Rattle.hq_order.proofs.Filling.{packets_count, united}
 use Rattle.hq_order.proofs.Lists.{one_is}
@@ -10,7 +10,8 @@ use Rattle.hq_order.proofs.needs.unite_freeing.Goals as goal
 
 pub returns-clause-taken : goal.returns-clause-taken
 returns-clause-taken c =
-    let set = one_is (λ k set. Freeing (plan c.args.job.now) k set.items × (length set.items ≡ length c.args.row.now)) c.args.freeing.now c.turn.result c.index-freeing-turn.result c.requires.freeing (omega (arith, c.turn.ensures.below, c.requires.turns)) c.index-freeing-turn.is in
+    let rings : IsTrue (plan c.args.job.now).rings = sym c.rings.ensures ∙ c.if-not-rings.false in
+    let set = one_is (λ k set. Freeing (plan c.args.job.now) k set.items × (length set.items ≡ length c.args.row.now)) c.args.freeing.now c.turn.result c.index-freeing-turn.result (c.requires.freeing.rows rings) (omega (arith, c.turn.ensures.below, c.requires.freeing.count rings)) c.index-freeing-turn.is in
     let free : (e : ℕ) → IsTrue (has c.deref.result.now e) ↔ FreesFor (plan c.args.job.now) e c.args.number =
     rw c.deref.ensures.value (frees_for_row (plan c.args.job.now) c.args.number c.index-freeing-turn.result.items (omega (arith, c.requires.number, packets_count c.args.job.now)) (omega (arith, c.turn.ensures.turn, c.turn.ensures.below)) (subst (λ k. Freeing (plan c.args.job.now) k c.index-freeing-turn.result.items) c.turn.ensures.turn set.0)) in
     united (λ e. FreesFor (plan c.args.job.now) e c.args.number) c.args.row.now c.deref.result.now c.unite.new.row c.unite.ensures.exact free

@@ -1,6 +1,6 @@
 use Rattle.std.proofs.Common.{◌≡◌, ℕ, ◌<◌, ◌↔◌, IsTrue, slice_get, Some}
 use Rattle.hq_job.specs.Plan.{plan}
-use Rattle.hq_order.specs.Bits.{has}
+use Rattle.hq_bits.specs.Bits.{has}
 use Rattle.hq_order.specs.Rounds.{Reaches}
 use Rattle.hq_order.specs.Matrix.{Marks}
 use Rattle.hq_order.proofs.rounds.meet_branches.Given as goal

@@ -1,6 +1,6 @@
 use Rattle.std.proofs.Common.{◌↔◌, ◌⊎◌, length, refl, sym, ◌∙◌, ap, subst, IsTrue}
 use Rattle.hq_job.specs.Plan.{plan}
-use Rattle.hq_order.specs.Bits.{has}
+use Rattle.hq_bits.specs.Bits.{has}
 use Rattle.hq_order.specs.Matrix.{row, Marks}
 use Rattle.hq_order.specs.Rounds.{Next, ByOr}
 use Rattle.hq_order.specs.Uniting.{Through}

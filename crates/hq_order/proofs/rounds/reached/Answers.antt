@@ -1,5 +1,5 @@
 use Rattle.std.proofs.Common.{◌≡◌, ◌↔◌, ◌⊎◌, ℕ, length, sym, ◌∙◌, ap, subst, IsTrue}
-use Rattle.hq_order.specs.Bits.{has}
+use Rattle.hq_bits.specs.Bits.{has}
 use Rattle.hq_order.specs.Matrix.{Marks}
 use Rattle.hq_order.proofs.Rows.{given_back}
 use Rattle.hq_order.proofs.Gathered.{reached_exact}

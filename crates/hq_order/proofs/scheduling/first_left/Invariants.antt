@@ -1,5 +1,5 @@
 use Rattle.std.proofs.Common.{ℕ, ◌<◌, ◌-◌, IsTrue}
-use Rattle.hq_order.specs.Bits.{has}
+use Rattle.hq_bits.specs.Bits.{has}
 use Rattle.hq_order.proofs.scheduling.first_left.Given as goal
 
 abbrev pub invariant-loop-first : goal.invariant-loop-first

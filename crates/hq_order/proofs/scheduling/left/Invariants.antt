@@ -1,6 +1,6 @@
 use Rattle.std.proofs.Common.{◌≡◌, filter, not}
 use Rattle.hq_model.specs.Machine.{listed}
-use Rattle.hq_order.specs.Bits.{has}
+use Rattle.hq_bits.specs.Bits.{has}
 use Rattle.hq_order.proofs.scheduling.left.Given as goal
 
 abbrev pub invariant-loop-number : goal.invariant-loop-number

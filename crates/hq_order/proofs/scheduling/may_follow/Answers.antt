@@ -1,6 +1,6 @@
 use Rattle.std.proofs.Common.{◌≡◌, ap, subst, length, arith, sym, ◌∙◌, IsTrue, true, false, refl}
 use Rattle.hq_job.specs.Plan.{plan}
-use Rattle.hq_order.specs.Bits.{has}
+use Rattle.hq_bits.specs.Bits.{has}
 use Rattle.hq_order.specs.Placing.{Needed}
 use Rattle.hq_order.proofs.Lists.{one_is}
 use Rattle.hq_order.proofs.Filling.{packets_count}

@@ -2,7 +2,7 @@ use Rattle.std.proofs.Common.{◌≡◌, ◌<◌, inl, inr, ap, subst, length, a
 use Rattle.std.proofs.lemmas.Bool.{cases_eq}
 use Rattle.hq_job.specs.Plan.{plan}
 use Rattle.hq_model.specs.Job.{Decrements}
-use Rattle.hq_order.specs.Bits.{has}
+use Rattle.hq_bits.specs.Bits.{has}
 use Rattle.hq_order.specs.Placing.{Completing}
 use Rattle.hq_order.proofs.Lists.{one_is}
 use Rattle.hq_order.proofs.Slots.{slot_is, slot_of, slot_low, signal_there}

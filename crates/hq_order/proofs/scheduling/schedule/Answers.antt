@@ -6,7 +6,7 @@ use Rattle.hq_model.specs.Schedule.{MayCome, left_of}
 use Rattle.hq_order.specs.Least.{LeastFirst}
 use Rattle.hq_order.specs.Least.LeastFirst.{begins, goes_on}
 use Rattle.hq_model.proofs.Schedule.{one_less, to_place}
-use Rattle.hq_order.specs.Bits.{has}
+use Rattle.hq_bits.specs.Bits.{has}
 use Rattle.hq_order.specs.Placing.{HasCome, MayFollow}
 use Rattle.hq_order.proofs.Lists.{lent, empty_length, some_length}
 use Rattle.hq_order.proofs.Filling.{packets_count}
@@ -56,7 +56,7 @@ returns-then-is_empty-clause-ok c =
     c.in_default.ensures p (subst (λ r. MayFollow (plan c.args.job.now) r p) (sym c.deref-in-loop-number-3.ensures.value) (may_follow (plan c.args.job.now) c.loop-number.come.items c.loop-number.list.items p c.loop-number.invariant.come may)) in
     let count : length c.packets-count.result.now ≡ length (plan c.args.job.now).packets = omega (arith, ap length c.packets-count.ensures, packets_count c.args.job.now) in
     let is : c.in_ok-left.left.items ≡ left_of (plan c.args.job.now) c.loop-number.list.items =
-    subst (λ r. c.in_ok-left.left.items ≡ filter (λ p. not (has r p)) (listed (length (plan c.args.job.now).packets) (λ p. p))) c.deref-4.ensures.value (subst (λ n. c.in_ok-left.left.items ≡ filter (λ p. not (has c.deref-4.result.now p)) (listed n (λ p. p))) count c.in_ok-left.ensures)
+    subst (λ r. c.in_ok-left.left.items ≡ filter (λ p. not (has r p)) (listed (length (plan c.args.job.now).packets) (λ p. p))) c.deref-3.ensures.value (subst (λ n. c.in_ok-left.left.items ≡ filter (λ p. not (has c.deref-3.result.now p)) (listed n (λ p. p))) count c.in_ok-left.ensures)
     ∙ left_same (plan c.args.job.now) c.loop-number.come.items c.loop-number.list.items c.loop-number.invariant.come in
     ordered (plan c.args.job.now) c.loop-number.list.items c.in_ok-left.left.items (scheduled (plan c.args.job.now) c.loop-number.list.items c.loop-number.invariant.least) none is (empty_length c.in_ok-left.left.len (length c.in_ok-left.left.items) c.in_ok-left.left.ok.0 c.if-is_empty.ensures)
 
@@ -66,6 +66,6 @@ returns-clause-stuck c =
     c.in_default.ensures p (subst (λ r. MayFollow (plan c.args.job.now) r p) (sym c.deref-in-loop-number-3.ensures.value) (may_follow (plan c.args.job.now) c.loop-number.come.items c.loop-number.list.items p c.loop-number.invariant.come may)) in
     let count : length c.packets-count.result.now ≡ length (plan c.args.job.now).packets = omega (arith, ap length c.packets-count.ensures, packets_count c.args.job.now) in
     let is : c.in_ok-left.left.items ≡ left_of (plan c.args.job.now) c.loop-number.list.items =
-    subst (λ r. c.in_ok-left.left.items ≡ filter (λ p. not (has r p)) (listed (length (plan c.args.job.now).packets) (λ p. p))) c.deref-4.ensures.value (subst (λ n. c.in_ok-left.left.items ≡ filter (λ p. not (has c.deref-4.result.now p)) (listed n (λ p. p))) count c.in_ok-left.ensures)
+    subst (λ r. c.in_ok-left.left.items ≡ filter (λ p. not (has r p)) (listed (length (plan c.args.job.now).packets) (λ p. p))) c.deref-3.ensures.value (subst (λ n. c.in_ok-left.left.items ≡ filter (λ p. not (has c.deref-3.result.now p)) (listed n (λ p. p))) count c.in_ok-left.ensures)
     ∙ left_same (plan c.args.job.now) c.loop-number.come.items c.loop-number.list.items c.loop-number.invariant.come in
     stuck_left (plan c.args.job.now) c.loop-number.list.items c.in_ok-left.left.items (scheduled (plan c.args.job.now) c.loop-number.list.items c.loop-number.invariant.least) none is (some_length c.in_ok-left.left.len (length c.in_ok-left.left.items) c.in_ok-left.left.ok.0 c.if-is_empty.ensures)

@@ -2,7 +2,7 @@ use Rattle.std.proofs.Common.{◌≡◌, ◌<◌, ℕ, IsTrue, length}
 use Rattle.hq_job.specs.Plan.{plan}
 use Rattle.hq_order.specs.Least.{LeastFirst}
 use Rattle.hq_model.proofs.Schedule.{to_place}
-use Rattle.hq_order.specs.Bits.{has}
+use Rattle.hq_bits.specs.Bits.{has}
 use Rattle.hq_order.specs.Placing.{HasCome}
 use Rattle.hq_order.proofs.scheduling.schedule.Given as goal
 

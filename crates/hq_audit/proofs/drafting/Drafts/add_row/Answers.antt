@@ -2,6 +2,7 @@ use Rattle.std.proofs.Common.{◌+◌, arith}
 use Rattle.hq_audit.specs.Paired.{pairs_of}
 use Rattle.hq_audit.specs.Refused.{IsUnshown, IsFirstOfRow}
 use Rattle.hq_audit.proofs.Pairing.{drafts_same, drafts_more, row_paired_next}
+use Rattle.hq_job.specs.Plan.{plan}
 use Rattle.hq_audit.proofs.Parting.{row_skipped, row_paired_skipped}
 use Rattle.hq_audit.proofs.Turning.{row_next, whole_refused}
 use Rattle.hq_audit.proofs.drafting.Drafts.add_row.Goals as goal
@@ -14,8 +15,8 @@ others-init c =
     record {
       above = omega (arith, next.above);
       goes = drafts_same job pairs c.requires.drafted;
-      paired = row_paired_skipped job pairs c.args.a (c.args.a + 1) c.next-b.result (λ s above low is. absurd (omega arith)) (λ s. next.apart c.args.a s c.others-row.ensures);
-      shown = row_skipped job c.args.a (c.args.a + 1) c.next-b.result (λ s above low is. absurd (omega arith)) (λ s. next.apart c.args.a s c.others-row.ensures);
+      paired = row_paired_skipped job (plan c.job-job.result.now) pairs c.args.a (c.args.a + 1) c.next-b.result c.job-job.ensures (λ s above low is. absurd (omega arith)) (λ s. next.apart c.args.a s c.others-row.ensures);
+      shown = row_skipped job (plan c.job-job.result.now) c.args.a (c.args.a + 1) c.next-b.result c.job-job.ensures (λ s above low is. absurd (omega arith)) (λ s. next.apart c.args.a s c.others-row.ensures);
     }
 
 pub others-preserved : goal.others-preserved
@@ -27,9 +28,9 @@ others-preserved c =
     record {
       above = omega (arith, next.above, c.others.invariant.above);
       goes = drafts_more job (pairs_of c.args.self.now.pairs) old new c.others.invariant.goes c.in_ok-add_pair.ensures.goes;
-      paired = row_paired_skipped job new c.args.a (c.others.b + 1) c.next-b-in-others.result
+      paired = row_paired_skipped job (plan c.job-job.result.now) new c.args.a (c.others.b + 1) c.next-b-in-others.result c.job-job.ensures
           (row_paired_next job c.args.a c.others.b old new c.others.invariant.paired c.in_ok-add_pair.ensures.goes.longer c.in_ok-add_pair.ensures.has) (λ s. next.apart c.args.a s c.others-row.ensures);
-      shown = row_skipped job c.args.a (c.others.b + 1) c.next-b-in-others.result (row_next job c.args.a c.others.b c.others.invariant.shown c.in_ok-add_pair.ensures.shown) (λ s. next.apart c.args.a s c.others-row.ensures);
+      shown = row_skipped job (plan c.job-job.result.now) c.args.a (c.others.b + 1) c.next-b-in-others.result c.job-job.ensures (row_next job c.args.a c.others.b c.others.invariant.shown c.in_ok-add_pair.ensures.shown) (λ s. next.apart c.args.a s c.others-row.ensures);
     }
 
 pub returns-clause-paired : goal.returns-clause-paired

@@ -1,7 +1,7 @@
 use Rattle.std.proofs.Common.{◌≡◌, ◌-◌, ◌<◌, ◌↔◌, length, sym, ◌∙◌, ap, subst, arith, IsTrue}
 use Rattle.hq_model.specs.Job.{Job}
 use Rattle.hq_model.specs.Order as order
-use Rattle.hq_order.specs.Bits.{has}
+use Rattle.hq_bits.specs.Bits.{has}
 use Rattle.hq_order.specs.Matrix.{row, last, words_for}
 use Rattle.hq_order.specs.View.{order_of}
 use Rattle.hq_order.proofs.Closure.{last_is, last_exact}

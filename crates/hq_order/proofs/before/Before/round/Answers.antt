@@ -1,7 +1,5 @@
-use Rattle.std.proofs.Common.{◌≡◌, sym, subst, inl, inr, Option, Some, None}
-use Rattle.std.specs.Global.{Vec}
-use Rattle.std.specs.Prelude.{ℕ, MatchOption}
-use Rattle.hq_model.specs.Job.{Job}
+use Rattle.std.proofs.Common.{◌≡◌, sym, subst, inl, inr, None}
+use Rattle.std.specs.Prelude.{MatchOption}
 use Rattle.hq_model.specs.Order as order
 use Rattle.hq_order.specs.Matrix.{IsMarkedNowhere, IsMarkedFirst, AreTurned}
 use Rattle.hq_order.specs.Rounds.{IsFirstWithin}

@@ -1,6 +1,0 @@
-use Rattle.std.proofs.Common.{take}
-use Rattle.hq_audit.proofs.Parting.{AreOf}
-use Rattle.hq_audit.proofs.parts.touches_of.Given as goal
-
-abbrev pub invariant-loop-packet : goal.invariant-loop-packet
-invariant-loop-packet l = AreOf l.size l.touches.items (take l.packet-index l.job.packets)

@@ -1,5 +1,0 @@
-use Rattle.hq_order.proofs.Cover.{CoversUpto}
-use Rattle.hq_order.proofs.bits.covers.Given as goal
-
-abbrev pub invariant-loop-i : goal.invariant-loop-i
-invariant-loop-i l = CoversUpto l.row l.other l.i

@@ -1,5 +1,0 @@
-use Rattle.hq_order.proofs.Sets.{less_at}
-use Rattle.hq_order.proofs.bits.less.Goals as goal
-
-pub returns : goal.returns
-returns c = less_at c.args.word c.args.other

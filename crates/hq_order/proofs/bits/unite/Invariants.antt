@@ -1,6 +1,0 @@
-use Rattle.std.proofs.Common.{bit_or}
-use Rattle.hq_order.proofs.Sets.{JoinedUpto}
-use Rattle.hq_order.proofs.bits.unite.Given as goal
-
-abbrev pub invariant-loop-i : goal.invariant-loop-i
-invariant-loop-i l = JoinedUpto bit_or l.fn.row l.other l.i l.row
