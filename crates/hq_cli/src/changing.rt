@@ -1,7 +1,8 @@
 //! Which heads `fix` and `trim` changed, in plain words on standard error.
 
-use hq_engines::{Aim, Changed, Status};
+use hq_engines::{Aim, Changed};
 use hq_job::Job;
+use hq_judging::Status;
 use hq_packet::{Head, Scope};
 use hq_report::ScopeWord;
 use hq_text::Name;

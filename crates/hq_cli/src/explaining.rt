@@ -1,182 +1,47 @@
-//! Plain words on standard error, beside the answer on standard output: made of the status, in which stands what the
-//! answer says.
+//! The command `explain`, and which pairs its words ask for.
 
-use hq_engines::{CertWords, CheckWords, Difference, FailureWords, Status, TimeWords};
-use hq_explain::Spot;
-use hq_fence::{Kind, Why};
-use hq_graph::Found;
-use hq_report::{JobWords, PacketWords};
-use hq_witness::{Origin, Place};
-use std::{fmt, io};
+use hq_engines::explain_engine;
+use hq_explain::Which;
+use hq_front::opened;
+use hq_judging::Status;
+use hq_text::number_of;
+use std::io::Write;
 
-const WORDS: &str = "these words are no packet; `hsaq pack --help` lists the fields";
-
-const PAIR: &str = "--pair wants the numbers of two packets, as in --pair 0 2";
-
-const NOT_ENABLED: &str = "an event isn't enabled after those before it";
-
-const STUCK: &str = "these packets can never complete, in any run";
-
-const DRAWN_STUCK: &str = "the packets drawn in red can never complete, in any run";
-
-const DRAWN_CONFLICT: &str = "nothing orders the conflicts that are drawn in red";
-
-/// What packets `p` and `r` do that conflicts.
-#[derive(Clone, Copy)]
-struct Clash {
-    p: u16,
-    r: u16,
-    kind: Kind,
+/// The pair of two words, where these are numbers.
+fn pair_of(p: &str, r: &str) -> Option<Which> {
+    let p = number_of(p.as_bytes())?;
+    let r = number_of(r.as_bytes())?;
+    Some(Which::Pair(p as usize, r as usize))
 }
 
-impl fmt::Display for Clash {
-    fn fmt<W: fmt::Write>(&self, f: &mut fmt::Formatter<W>) -> fmt::Result {
-        let Clash { p, r, kind } = *self;
-        match kind {
-            Kind::WriteRead => write!(f, "packet {r} reads what packet {p} writes"),
-            Kind::WriteWrite => write!(f, "packets {p} and {r} write the same bytes"),
-            Kind::ReadWrite => write!(f, "packet {r} writes what packet {p} reads"),
-        }
+/// Which pairs are to be explained, where the words say that.
+fn which_of(pair: Option<&str>, second: Option<&str>, all: bool) -> Option<Which> {
+    match (pair, second) {
+        (Some(p), Some(r)) => pair_of(p, r),
+        (None, None) if all => Some(Which::All),
+        (None, None) => Some(Which::First),
+        _ => None,
     }
 }
 
-/// What packets `p` and `r` lack.
-#[derive(Clone, Copy)]
-struct Lack {
-    p: u16,
-    r: u16,
-    why: Why,
-}
-
-impl fmt::Display for Lack {
-    fn fmt<W: fmt::Write>(&self, f: &mut fmt::Formatter<W>) -> fmt::Result {
-        let Lack { p, r, why } = *self;
-        match why {
-            Why::Unordered => write!(
-                f,
-                "nothing makes packet {r} wait until packet {p} is complete"
-            ),
-            Why::NotReleased => write!(
-                f,
-                "no release fence makes what packet {p} wrote visible before packet {r}"
-            ),
-            Why::NotAcquired => write!(
-                f,
-                "no acquire fence lets packet {r} see what packet {p} released"
-            ),
-        }
+fn explain_job<W: Write>(rt: &HostRuntime, job: &str, which: Which, writer: &mut W) -> Status {
+    match opened(rt, job, writer) {
+        Ok(mut input) => explain_engine(rt.alloc(), &mut input, which, writer),
+        Err(status) => status,
     }
 }
 
-/// Where a byte comes from.
-#[derive(Clone, Copy)]
-struct OriginWords(Origin);
-
-impl fmt::Display for OriginWords {
-    fn fmt<W: fmt::Write>(&self, f: &mut fmt::Formatter<W>) -> fmt::Result {
-        match self.0 {
-            Origin::Start => f.write_str("as it was at the start"),
-            Origin::StoredBy { packet } => write!(f, "as packet {packet} stored it"),
-        }
+/// Explains the pairs that are asked for, if it is told which those are.
+pub fn explain_asked<W: Write>(
+    rt: &HostRuntime,
+    job: &str,
+    pair: Option<&str>,
+    second: Option<&str>,
+    all: bool,
+    writer: &mut W,
+) -> Status {
+    match which_of(pair, second, all) {
+        Some(which) => explain_job(rt, job, which, writer),
+        None => Status::PairWords,
     }
-}
-
-/// A byte of memory: its buffer, and how far from the buffer's beginning it lies.
-#[derive(Clone, Copy)]
-struct ByteWords(Option<Spot>);
-
-impl fmt::Display for ByteWords {
-    fn fmt<W: fmt::Write>(&self, f: &mut fmt::Formatter<W>) -> fmt::Result {
-        match self.0 {
-            Some(spot) => {
-                let name = spot.name;
-                let offset = spot.offset;
-                write!(f, "{name}+{offset}")
-            }
-            None => f.write_str("a byte of memory"),
-        }
-    }
-}
-
-/// What can end or be read in two ways: a byte of memory, or an entry that a packet reads.
-#[derive(Clone, Copy)]
-struct Subject {
-    place: Place,
-    spot: Option<Spot>,
-}
-
-impl fmt::Display for Subject {
-    fn fmt<W: fmt::Write>(&self, f: &mut fmt::Formatter<W>) -> fmt::Result {
-        match self.place {
-            Place::Read { packet, entry } => write!(f, "packet {packet} can read entry {entry}"),
-            Place::Memory { byte: _ } => write!(f, "{} can end", ByteWords(self.spot)),
-        }
-    }
-}
-
-/// How two runs of a job differ.
-#[derive(Clone, Copy)]
-struct DifferenceWords(Difference);
-
-impl fmt::Display for DifferenceWords {
-    fn fmt<W: fmt::Write>(&self, f: &mut fmt::Formatter<W>) -> fmt::Result {
-        let subject = Subject {
-            place: self.0.place,
-            spot: self.0.spot,
-        };
-        let good = OriginWords(self.0.good);
-        let bad = OriginWords(self.0.bad);
-        write!(f, "{subject} {good}, and in another run {bad}")
-    }
-}
-
-/// Says what a conflict is.
-fn explain_conflict(rt: &HostRuntime, clash: Clash, lack: Lack) -> io::Result<()> {
-    eprintln!(rt; "hsaq: {clash}, but {lack}")
-}
-
-/// Says what is drawn in red.
-fn explain_drawn(rt: &HostRuntime, found: Found) -> io::Result<()> {
-    match found {
-        Found::Ordered => Ok(()),
-        Found::Conflict => eprintln!(rt; "hsaq: {DRAWN_CONFLICT}"),
-        Found::Stuck => eprintln!(rt; "hsaq: {DRAWN_STUCK}"),
-    }
-}
-
-/// Says what a status means. An explanation says all of that itself.
-fn say_meaning(rt: &HostRuntime, status: Status) -> io::Result<()> {
-    match status {
-        Status::Done | Status::Explained(_) | Status::Memory | Status::File => Ok(()),
-        Status::Words => eprintln!(rt; "hsaq: {WORDS}"),
-        Status::PairWords => eprintln!(rt; "hsaq: {PAIR}"),
-        Status::JobRefused(fault) => eprintln!(rt; "hsaq: {}", JobWords(fault)),
-        Status::PacketRefused(fault) => eprintln!(rt; "hsaq: {}", PacketWords(fault)),
-        Status::Conflict { p, r, kind, why } => {
-            explain_conflict(rt, Clash { p, r, kind }, Lack { p, r, why })
-        }
-        Status::Stuck => eprintln!(rt; "hsaq: {STUCK}"),
-        Status::Drawn(found) => explain_drawn(rt, found),
-        Status::Shown(difference) => eprintln!(rt; "hsaq: {}", DifferenceWords(difference)),
-        Status::CertificateRefused(fault) => eprintln!(rt; "hsaq: {}", CertWords(fault)),
-        Status::CertificateFails(fault) => eprintln!(rt; "hsaq: {}", CheckWords(fault)),
-        Status::TimelineRefused(fault) => eprintln!(rt; "hsaq: {}", TimeWords(fault)),
-        Status::NotEnabled(place) => {
-            eprintln!(rt; "hsaq: {NOT_ENABLED}: counted from 0, number {place}")
-        }
-        Status::DrawnUntil(place) => eprintln!(rt;
-            "hsaq: {NOT_ENABLED}, up to which the timeline is drawn: counted from 0, number {place}"
-        ),
-        Status::RunFailed(failure) => eprintln!(rt; "hsaq: {}", FailureWords(failure)),
-    }
-}
-
-/// Says what a status means. Where standard error fails, nothing is said.
-pub fn explain(rt: &HostRuntime, status: &Status) {
-    let _ = say_meaning(rt, *status);
-}
-
-/// Says why a file can't be opened. Where standard error fails, nothing is said.
-pub fn explain_unopened(rt: &HostRuntime, path: &str, error: &io::Error) {
-    let _ = eprintln!(rt; "hsaq: {path}: {error}");
 }

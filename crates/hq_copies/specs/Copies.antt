@@ -147,7 +147,8 @@ written copy byte = if is_dirty copy then value_or copy byte else byte
 -- what stands below a byte where so many lanes from start on have written their dirty bytes back, one behind the other
 abbrev pub after_pushes : List Held → ℕ → ℕ → ℕ → Option Copy → Option Copy
 after_pushes lanes start zero b below = below
-after_pushes lanes start (suc count) b below = taken (copies_of lanes (start + count) b) (after_pushes lanes start count b below)
+after_pushes lanes start (suc count) b below =
+    taken (copies_of lanes (start + count) b) (after_pushes lanes start count b below)
 
 -- All dirty bytes of the lanes from start on and before end are written back to agent a, and are clean.
 pub record LanesReleased (old : CopiesValue) (start end a : ℕ) (new : CopiesValue) : Type 0 where
@@ -157,7 +158,8 @@ pub record LanesReleased (old : CopiesValue) (start end a : ℕ) (new : CopiesVa
   pub agent_count : length new.agents ≡ length old.agents
   pub inside : (l b : ℕ) → start ≤ l → l < end → copies_of new.lanes l b ≡ cleaned (copies_of old.lanes l b)
   pub outside : (l b : ℕ) → (l < start) ⊎ (end ≤ l) → copies_of new.lanes l b ≡ copies_of old.lanes l b
-  pub agent : (b : ℕ) → copies_of new.agents a b ≡ after_pushes old.lanes start (end - start) b (copies_of old.agents a b)
+  pub agent : (b : ℕ)
+      → copies_of new.agents a b ≡ after_pushes old.lanes start (end - start) b (copies_of old.agents a b)
   pub others : (q b : ℕ) → q ≢ a → copies_of new.agents q b ≡ copies_of old.agents q b
 
 -- All dirty bytes of agent a are written back to memory, and are clean.

@@ -1,5 +1,5 @@
 -- What `fix` and `trim` write of a text.
-use Rattle.std.proofs.Common.{◌≡◌, ℕ, ◌⊎◌, inl, inr, List, Option, Some, None, length, refl, sym, ◌∙◌, ap, subst}
+use Rattle.std.proofs.Common.{◌≡◌, ℕ, List, Option, Some, None, length, refl, sym, ◌∙◌, subst}
 use Rattle.std.specs.Prelude.{IfSome}
 use Rattle.std.proofs.lemmas.List.{length-map}
 use Rattle.hq_packet.specs.Parts.{head_of}
@@ -11,49 +11,23 @@ use Rattle.hq_model.specs.Settings.{SameButHeads, highest}
 use Rattle.hq_model.specs.Theorems.{Valid}
 use Rattle.hq_model.proofs.SettingsKept.{heads_leave_valid}
 use Rattle.hq_model.proofs.SettingsSteps.{highest_is_highest}
-use Rattle.hq_text.specs.Intake.{OfText}
 use Rattle.hq_text.specs.Lines.{lines_of}
-use Rattle.hq_text.specs.Turns.{Ends, ReadTurn}
-use Rattle.hq_job.specs.Adds.{no_memory, FaultOf}
-use Rattle.hq_job.specs.JobText.{JobText, FirstFault}
+use Rattle.hq_job.specs.JobText.{JobText}
 use Rattle.hq_job.specs.Plan.{plan}
 use Rattle.hq_job.specs.Value.{JobValue}
-use Rattle.hq_job.specs.declared.fault.JobFault.{JobFault}
-use Rattle.hq_job.specs.declared.fault.Reason.TheVariants as reason
-use Rattle.hq_job.proofs.NotRead.{not_read}
 use Rattle.hq_audit.specs.Refused.{IsRefused}
 use Rattle.hq_audit.specs.declared.fault.AuditNo.{AuditNo}
-use Rattle.hq_engines.specs.Audit.{StuckExactly, NoSaid}
+use Rattle.hq_judging.specs.Audit.{StuckExactly, NoSaid}
 use Rattle.hq_engines.specs.Change.{ChangeReport, IsChanged, TellsChange, TellsText, judged_job}
 use Rattle.hq_engines.specs.Change.ChangeReport.{not_ordered}
-use Rattle.hq_engines.specs.Reports.{IsUnread, JobTextReport, NoJob, OfReader, ReaderReport, Reported, SaysNoJob}
-use Rattle.hq_engines.specs.Reports.JobTextReport.{of_job, no_job}
+use Rattle.hq_judging.specs.Reports.{JobTextReport, NoJob, OfReader, ReaderReport, Reported}
+use Rattle.hq_judging.specs.Reports.JobTextReport.{of_job, no_job}
 use Rattle.hq_engines.specs.declared.change.Aim.{Aim}
 use Rattle.hq_engines.specs.declared.change.Aim.TheVariants as aim
 use Rattle.hq_engines.specs.declared.change.Changed.{Changed}
-use Rattle.hq_engines.specs.declared.status.Status.{Status}
-use Rattle.hq_engines.proofs.Audits.{no_reported}
-use Rattle.hq_engines.proofs.NoJobs.{no_job_said}
-use Rattle.hq_engines.proofs.ReadTexts.{of_reader, found, missing}
-
--- ---- a text that was read whole
-
--- what holds of the whole text
-pub of_whole : (S : Type 0) (left : S → Option (List ℕ)) (old new : S) (text : List ℕ) (P : List ℕ → Type 0) → Ends S (ReadTurn left) 2000000 old text new → P text → OfReader S left old new P
-of_whole S left old new text P ended so = of_reader S left old new P (record { text = text; ended = ended; so = so })
-
-fault_of : (S : Type 0) (left : S → Option (List ℕ)) (old new : S) (text : List ℕ) (f : JobFault) → Ends S (ReadTurn left) 2000000 old text new → (f ≡ no_memory) ⊎ FirstFault (lines_of text) f
-    → FaultOf f (OfText S (ReadTurn left) 2000000 old new (λ t. FirstFault (lines_of t) f)) (IsUnread S left old new)
-fault_of S left old new text f ended (inl m) = inl m
-fault_of S left old new text f ended (inr first) = inr (inr (record { text = text; ended = ended; so = first }))
-
-never_read : (text : List ℕ) (f : JobFault) → (f ≡ no_memory) ⊎ FirstFault (lines_of text) f → ¬ (f.reason ≡ reason.Read)
-never_read text f (inl m) e = let never : ⊥ = cc (sym (ap (λ (g : JobFault). g.reason) m) ∙ e) in never
-never_read text f (inr first) e = not_read (lines_of text) f first e
-
-pub whole_refused : (S : Type 0) (left : S → Option (List ℕ)) (old new : S) (text : List ℕ) (f : JobFault) (was is : Option (List ℕ)) (answered : Status) → Ends S (ReadTurn left) 2000000 old text new → (f ≡ no_memory) ⊎ FirstFault (lines_of text) f
-    → SaysNoJob f was is answered → Reported (ReaderReport S left old new NoJob) was is answered
-whole_refused S left old new text f was is answered ended why said = no_job_said S left old new f was is answered (fault_of S left old new text f ended why) (λ e. absurd (never_read text f why e)) said
+use Rattle.hq_judging.specs.declared.status.Status.{Status}
+use Rattle.hq_judging.proofs.Audits.{no_reported}
+use Rattle.hq_judging.proofs.ReadTexts.{found, missing}
 
 -- ---- the job that is judged
 

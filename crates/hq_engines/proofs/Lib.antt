@@ -1,13 +1,5 @@
-pub mod NoJobs
-pub mod Shows
-pub mod Queues
-pub mod Packs
-pub mod PackReports
-pub mod Audits
-pub mod Checks
 pub mod Replays
-pub mod Runs
-pub mod ReadTexts
+pub mod Recordings
 pub mod Charts
 pub mod Graphs
 pub mod Changes

@@ -1,5 +1,5 @@
 -- What `replay` writes.
-use Rattle.std.proofs.Common.{◌≡◌, ◌⊎◌, ℕ, zero, suc, inl, inr, List, [], ◌∷◌, Option, length, codes, ap, ◌∙◌, refl, arith, length-append}
+use Rattle.std.proofs.Common.{◌≡◌, ◌⊎◌, ℕ, zero, suc, inl, inr, List, [], ◌∷◌, Option, Some, None, length, codes, ap, ◌∙◌, sym, refl, arith, length-append}
 use Rattle.hq_model.specs.Job.{Job}
 use Rattle.hq_model.specs.Machine.{listed}
 use Rattle.hq_text.specs.Lines.{lines_of}
@@ -11,32 +11,40 @@ use Rattle.hq_timeline.specs.TextFaults.{FirstFault}
 use Rattle.hq_timeline.specs.Grammar.{TimeText}
 use Rattle.hq_timeline.specs.Replays.{Replayed, NotReplayed}
 use Rattle.hq_timeline.specs.declared.fault.TimeFault.{TimeFault}
-use Rattle.hq_timeline.specs.declared.fault.TimeReason.TheVariants as reason
 use Rattle.hq_timeline.specs.declared.fault.ReplayFault.{ReplayFault}
 use Rattle.hq_timeline.specs.declared.fault.ReplayFault.TheVariants as stop
 use Rattle.hq_job.specs.Plan.{plan}
 use Rattle.hq_job.specs.Value.{JobValue}
 use Rattle.hq_engines.specs.Buffers.{buffers_text}
-use Rattle.hq_engines.specs.Replay.{NoTimeline, SaysNoTimeline, StopSaid, RunReport, TimelineReport, time_refusal, event_refusal}
+use Rattle.hq_engines.specs.Replay.{NoTimeline, SaysNoTimeline, StopSaid, RunReport, TimelineReport, told_of, time_refusal, event_refusal}
 use Rattle.hq_engines.specs.Replay.NoTimeline.{refused}
 use Rattle.hq_engines.specs.Replay.RunReport.{replayed, stopped, no_memory as run_memory}
 use Rattle.hq_engines.specs.Replay.TimelineReport.{read, no_timeline}
-use Rattle.hq_engines.specs.Reports.{OfReader, ReaderReport, Reported, Said, with_feed}
-use Rattle.hq_engines.specs.Reports.ReaderReport.{of_text, no_memory}
-use Rattle.hq_engines.proofs.ReadTexts.{of_reader, missing, found}
-use Rattle.hq_engines.specs.declared.status.Status.{Status}
-use Rattle.hq_engines.specs.declared.status.Status.TheVariants.{Done, TimelineRefused, NotEnabled, Memory}
+use Rattle.hq_judging.specs.Reports.{OfReader, ReaderReport, Reported, Said, with_feed}
+use Rattle.hq_judging.specs.Reports.ReaderReport.{of_text, no_memory}
+use Rattle.hq_judging.proofs.ReadTexts.{of_reader, missing, found}
+use Rattle.hq_judging.specs.declared.status.Status.{Status}
+use Rattle.hq_judging.specs.declared.status.TimelineFault.{TimelineFault}
+use Rattle.std.specs.Prelude.{MatchOption}
+use Rattle.hq_judging.specs.declared.status.Status.TheVariants.{Done, TimelineRefused, NotEnabled, Memory}
 
 -- a fault that isn't of memory is the text's
-own : (text : List ℕ) (fault : TimeFault) → HasFault (lines_of text) fault → ¬ (fault.reason ≡ reason.Memory) → FirstFault (lines_of text) fault
-own text fault (inl e) not_memory = absurd (not_memory (ap (λ (f : TimeFault). f.reason) e))
-own text fault (inr first) not_memory = first
+own : (text : List ℕ) (fault : TimeFault) (told : TimelineFault) → HasFault (lines_of text) fault → told_of fault ≡ Some told → FirstFault (lines_of text) fault
+own text fault told (inl e) is = absurd (none_some told (ap told_of (sym e) ∙ is))
+  where
+    none_some : (told : TimelineFault) → None ≡ Some told → ⊥
+    none_some told e = cc
+own text fault told (inr first) is = first
 
 pub no_timeline_said : (S : Type 0) (left : S → Option (List ℕ)) (old new : S) (fault : TimeFault) (was is : Option (List ℕ)) (answered : Status)
     → OfText S (ReadTurn left) 2000000 old new (λ text. HasFault (lines_of text) fault) → SaysNoTimeline fault was is answered → Reported (ReaderReport S left old new NoTimeline) was is answered
-no_timeline_said S left old new fault was is answered h (inl said) = (with_feed (codes "out of memory"), Memory, no_memory, said.1)
-no_timeline_said S left old new fault was is answered h (inr said) =
-    (with_feed (time_refusal fault), TimelineRefused fault, of_text (of_reader S left old new (λ text. NoTimeline text (with_feed (time_refusal fault)) (TimelineRefused fault)) (record { text = h.text; ended = h.ended; so = refused fault (own h.text fault h.so said.0) })), said.1)
+no_timeline_said S left old new fault was is answered h said = go (told_of fault) refl said
+  where
+    go : (o : Option TimelineFault) → told_of fault ≡ o → MatchOption o (Said was is (with_feed (codes "out of memory")) Memory answered) (λ told. Said was is (with_feed (time_refusal told)) (TimelineRefused told) answered)
+        → Reported (ReaderReport S left old new NoTimeline) was is answered
+    go None e said = (with_feed (codes "out of memory"), Memory, no_memory, said)
+    go (Some told) e said =
+        (with_feed (time_refusal told), TimelineRefused told, of_text (of_reader S left old new (λ text. NoTimeline text (with_feed (time_refusal told)) (TimelineRefused told)) (record { text = h.text; ended = h.ended; so = refused fault told (own h.text fault told h.so e) e })), said)
 
 -- what a replay answered is its report
 pub stop_reported : (job : JobValue) (events : List Event) (fault : ReplayFault) (old new : Option (List ℕ)) (answered : Status) → NotReplayed (plan job) events fault → StopSaid fault old new answered → Reported (RunReport job events) old new answered

@@ -8,12 +8,12 @@ use Rattle.hq_job.specs.Plan.{plan}
 use Rattle.hq_job.specs.Rewritten.{TextRewritten, heads_of}
 use Rattle.hq_job.specs.Value.{JobValue}
 use Rattle.hq_change.specs.Minimal.{IsFixed, IsTrimmed}
-use Rattle.hq_engines.specs.Audit.{NotOrdered}
+use Rattle.hq_judging.specs.Audit.{NotOrdered}
 use Rattle.hq_engines.specs.declared.change.Aim.{Aim}
 use Rattle.hq_engines.specs.declared.change.Aim.TheVariants as aim
 use Rattle.hq_engines.specs.declared.change.Changed.{Changed}
-use Rattle.hq_engines.specs.declared.status.Status.{Status}
-use Rattle.hq_engines.specs.declared.status.Status.TheVariants.{Done}
+use Rattle.hq_judging.specs.declared.status.Status.{Status}
+use Rattle.hq_judging.specs.declared.status.Status.TheVariants.{Done}
 
 -- k is the job as the aim has it: with the least that it lacks, or without all that it doesn't need
 abbrev pub IsChanged : Aim → Job → Job → Type 0

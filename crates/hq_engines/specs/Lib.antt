@@ -1,13 +1,6 @@
-pub mod Statuses
-pub mod Reports
-pub mod Show
-pub mod Audit
-pub mod Pack
-pub mod Packing
-pub mod Check
 pub mod Buffers
 pub mod Replay
-pub mod Run
+pub mod Recording
 pub mod Chart
 pub mod Graph
 pub mod Change

@@ -1,5 +1,5 @@
 -- What `replay` writes.
-use Rattle.std.specs.Prelude.{◌≡◌, ℕ, ◌⊎◌, List, ◌++◌, Option, codes}
+use Rattle.std.specs.Prelude.{◌≡◌, ℕ, List, ◌++◌, Option, Some, None, MatchOption, codes}
 use Rattle.std.specs.Fmt.{decimal}
 use Rattle.hq_text.specs.Lines.{lines_of}
 use Rattle.hq_job.specs.Plan.{plan}
@@ -14,19 +14,31 @@ use Rattle.hq_timeline.specs.declared.fault.TimeReason.TheVariants as reason
 use Rattle.hq_timeline.specs.declared.fault.ReplayFault.{ReplayFault}
 use Rattle.hq_timeline.specs.declared.fault.ReplayFault.TheVariants as fault
 use Rattle.hq_engines.specs.Buffers.{buffers_text}
-use Rattle.hq_engines.specs.Reports.{Said, with_feed}
-use Rattle.hq_engines.specs.declared.status.Status.{Status}
-use Rattle.hq_engines.specs.declared.status.Status.TheVariants.{Done, TimelineRefused, NotEnabled, Memory}
+use Rattle.hq_judging.specs.Reports.{Said, with_feed}
+use Rattle.hq_judging.specs.declared.status.Status.{Status}
+use Rattle.hq_judging.specs.declared.status.TimelineFault.{TimelineFault}
+use Rattle.hq_judging.specs.declared.status.TimelineReason.{TimelineReason}
+use Rattle.hq_judging.specs.declared.status.TimelineReason.TheVariants as told
+use Rattle.hq_judging.specs.declared.status.Status.TheVariants.{Done, TimelineRefused, NotEnabled, Memory}
 
 -- ---- the lines
 
-abbrev pub time_code : TimeReason → List ℕ
-time_code reason.Word = codes "E1"
-time_code reason.Number = codes "E2"
-time_code reason.NoEnd = codes "E3"
-time_code reason.Memory = codes "E4"
+-- what a fault tells of a text, if it isn't that memory ran out
+abbrev pub told_as : ℕ → TimeReason → Option TimelineFault
+told_as line reason.Word = Some (record { line = line; reason = told.Word })
+told_as line reason.Number = Some (record { line = line; reason = told.Number })
+told_as line reason.NoEnd = Some (record { line = line; reason = told.NoEnd })
+told_as line reason.Memory = None
 
-abbrev pub time_refusal : TimeFault → List ℕ
+abbrev pub told_of : TimeFault → Option TimelineFault
+told_of fault = told_as fault.line fault.reason
+
+abbrev pub time_code : TimelineReason → List ℕ
+time_code told.Word = codes "E1"
+time_code told.Number = codes "E2"
+time_code told.NoEnd = codes "E3"
+
+abbrev pub time_refusal : TimelineFault → List ℕ
 time_refusal fault = codes "refused line " ++ decimal fault.line ++ codes " " ++ time_code fault.reason
 
 abbrev pub event_refusal : ℕ → List ℕ
@@ -36,8 +48,8 @@ event_refusal place = codes "refused event " ++ decimal place
 
 -- Why there is no journal: the text has a first fault.
 pub data NoTimeline (text : List ℕ) : List ℕ → Status → Type 0 where
-  refused : (fault : TimeFault) → FirstFault (lines_of text) fault
-      → NoTimeline text (with_feed (time_refusal fault)) (TimelineRefused fault)
+  refused : (fault : TimeFault) (told : TimelineFault) → FirstFault (lines_of text) fault → told_of fault ≡ Some told
+      → NoTimeline text (with_feed (time_refusal told)) (TimelineRefused told)
 
 -- What is written of a job and the events of a journal: the buffers as these leave them; or the first event that
 -- isn't enabled.
@@ -61,9 +73,8 @@ pub data TimelineReport (Report : List Event → List ℕ → Status → Type 0)
 -- why there is no journal is written, by the parser's fault
 abbrev pub SaysNoTimeline : TimeFault → Option (List ℕ) → Option (List ℕ) → Status → Type 0
 SaysNoTimeline fault old new answered =
-    ((fault.reason ≡ reason.Memory) × Said old new (with_feed (codes "out of memory")) Memory answered)
-    ⊎ ((¬ (fault.reason ≡ reason.Memory))
-    × Said old new (with_feed (time_refusal fault)) (TimelineRefused fault) answered)
+    MatchOption (told_of fault) (Said old new (with_feed (codes "out of memory")) Memory answered)
+    (λ told. Said old new (with_feed (time_refusal told)) (TimelineRefused told) answered)
 
 -- why the events don't all happen is written
 abbrev pub StopSaid : ReplayFault → Option (List ℕ) → Option (List ℕ) → Status → Type 0

@@ -2,59 +2,67 @@
 use Rattle.std.specs.Prelude.{◌≡◌, ℕ, ◌⊎◌, List, [], ◌++◌, Option, Some, None, codes}
 use Rattle.std.specs.Fmt.{decimal}
 use Rattle.std.specs.Io.KnownBytes.{Appends}
-use Rattle.hq_explain.specs.Shared.{spot_of}
-use Rattle.hq_explain.specs.declared.sharing.Spot.{Spot}
 use Rattle.hq_fence.specs.Names.{kind_name}
 use Rattle.hq_fence.specs.declared.shown.Kind.{Kind}
 use Rattle.hq_job.specs.Plan.{plan}
 use Rattle.hq_job.specs.Value.{JobValue}
 use Rattle.hq_model.specs.Fence.{Ordered}
+use Rattle.hq_report.specs.Spots.{spot_of}
+use Rattle.hq_report.specs.declared.spots.Spot.{Spot}
 use Rattle.hq_timeline.specs.Printed.{text_of}
 use Rattle.hq_witness.specs.Witness.{WitnessValue, IsWitness}
 use Rattle.hq_witness.specs.declared.origin.Origin.{Origin}
 use Rattle.hq_witness.specs.declared.origin.Origin.TheVariants as origin
 use Rattle.hq_witness.specs.declared.place.Place.{Place}
 use Rattle.hq_witness.specs.declared.place.Place.TheVariants as place
-use Rattle.hq_engines.specs.Audit.{NotOrdered}
-use Rattle.hq_engines.specs.Reports.{with_feed}
-use Rattle.hq_engines.specs.declared.status.Difference.{Difference}
-use Rattle.hq_engines.specs.declared.status.Status.{Status}
-use Rattle.hq_engines.specs.declared.status.Status.TheVariants.{Done, Shown, Memory, File}
+use Rattle.hq_judging.specs.Audit.{NotOrdered}
+use Rattle.hq_judging.specs.Reports.{with_feed}
+use Rattle.hq_judging.specs.declared.status.Difference.{Difference}
+use Rattle.hq_judging.specs.declared.status.Differs.{Differs}
+use Rattle.hq_judging.specs.declared.status.Differs.TheVariants as differs
+use Rattle.hq_judging.specs.declared.status.Status.{Status}
+use Rattle.hq_judging.specs.declared.status.Status.TheVariants.{Done, Shown, Memory, File}
 
 -- ---- the lines
 
--- the start, or the packet that stored the byte
-abbrev pub origin_text : Origin → List ℕ
-origin_text origin.Start = codes "start"
-origin_text (origin.StoredBy p) = decimal p
+-- the packet that stored the byte, or that it is as memory starts
+abbrev pub origin_text : Option ℕ → List ℕ
+origin_text None = codes "start"
+origin_text (Some p) = decimal p
 
 -- a byte's buffer, and how far from its beginning the byte lies
 abbrev pub byte_text : Option Spot → List ℕ
 byte_text None = codes "memory"
 byte_text (Some spot) = codes "memory " ++ spot.name ++ codes " " ++ decimal spot.offset
 
--- where the byte of a place lies, if it is one of memory
-abbrev pub spot_at : JobValue → Place → Option Spot
-spot_at job (place.Read p i) = None
-spot_at job (place.Memory b) = spot_of job.buffers b
-
-abbrev pub place_text : Place → Option Spot → List ℕ
-place_text (place.Read p i) spot = codes "read " ++ decimal p ++ codes " " ++ decimal i
-place_text (place.Memory b) spot = byte_text spot
+abbrev pub place_text : Differs → List ℕ
+place_text (differs.Read p i) = codes "read " ++ decimal p ++ codes " " ++ decimal i
+place_text (differs.Memory spot) = byte_text spot
 
 abbrev pub pair_text : ℕ → ℕ → Kind → List ℕ
 pair_text p r kind = codes "witness " ++ decimal p ++ codes " " ++ decimal r ++ codes " " ++ kind_name kind
 
 -- the place, and its origin in the good run and in the bad one
 abbrev pub differs_text : Difference → List ℕ
-differs_text d = place_text d.place d.spot ++ codes " " ++ origin_text d.good ++ codes " " ++ origin_text d.bad
+differs_text d = place_text d.place ++ codes " " ++ origin_text d.good ++ codes " " ++ origin_text d.bad
 
 abbrev pub lines_text : ℕ → ℕ → Kind → Difference → List ℕ
 lines_text p r kind difference = pair_text p r kind ++ codes "\n" ++ differs_text difference
 
--- where the two runs of a witness differ
+-- what a place is in a job
+abbrev pub differs_at : JobValue → Place → Differs
+differs_at job (place.Read p i) = differs.Read p i
+differs_at job (place.Memory b) = differs.Memory (spot_of job.buffers b)
+
+-- the packet that stored a byte of this origin, if one did
+abbrev pub stored_by : Origin → Option ℕ
+stored_by origin.Start = None
+stored_by (origin.StoredBy p) = Some p
+
+-- how the two runs of a witness differ
 abbrev pub difference_of : JobValue → WitnessValue → Difference
-difference_of job w = record { place = w.place; spot = spot_at job w.place; good = w.good_origin; bad = w.bad_origin }
+difference_of job w =
+    record { place = differs_at job w.place; good = stored_by w.good_origin; bad = stored_by w.bad_origin }
 
 abbrev pub witness_text : JobValue → WitnessValue → List ℕ
 witness_text job w = lines_text w.p w.r w.kind (difference_of job w)

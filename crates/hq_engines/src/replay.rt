@@ -4,23 +4,23 @@ ghost use Rattle.std.specs.Prelude.{◌≡◌, Some, IfOk, IfErr, OnOk};
 ghost use Rattle.hq_text.specs.Lines.{lines_of};
 ghost use Rattle.hq_timeline.specs.Grammar.{TimeText};
 ghost use Rattle.hq_engines.specs.Replay.{NoTimeline, SaysNoTimeline, StopSaid, RunReport, TimelineReport};
-ghost use Rattle.hq_engines.specs.Replay.{time_refusal, event_refusal};
-ghost use Rattle.hq_engines.specs.Reports.{JobTextReport, OfReader, ReaderReport, Reported};
+ghost use Rattle.hq_engines.specs.Replay.{event_refusal, time_refusal, told_of};
+ghost use Rattle.hq_judging.specs.Reports.{JobTextReport, OfReader, ReaderReport, Reported};
 
 use crate::buffers::say_buffers;
-use crate::saying::{say, say_file, say_memory};
-use crate::status::Status;
-use crate::taking::{let_go, take_job};
 use hq_job::Job;
+use hq_judging::{
+    Status, TimelineFault, TimelineReason, let_go, say, say_file, say_memory, take_job,
+};
 use hq_machine::Journal;
 use hq_timeline::{ReadFault, ReplayFault, TimeFault, TimeReason, read, replay};
 use std::alloc::Global;
 use std::fmt;
 use std::io::{Read, Write};
 
-/// A timeline's refusal: `refused line`, the line, and E1 to E4.
+/// A timeline's refusal: `refused line`, the line, and E1 to E3.
 #[derive(Clone, Copy)]
-struct TimeRefusal(TimeFault);
+struct TimeRefusal(TimelineFault);
 
 impl fmt::Display for TimeRefusal {
     ghost output = { λ r. Some (time_refusal r.0) };
@@ -28,10 +28,9 @@ impl fmt::Display for TimeRefusal {
     fn fmt<W: fmt::Write>(&self, f: &mut fmt::Formatter<W>) -> fmt::Result {
         let line = self.0.line;
         match self.0.reason {
-            TimeReason::Word => write!(f, "refused line {line} E1"),
-            TimeReason::Number => write!(f, "refused line {line} E2"),
-            TimeReason::NoEnd => write!(f, "refused line {line} E3"),
-            TimeReason::Memory => write!(f, "refused line {line} E4"),
+            TimelineReason::Word => write!(f, "refused line {line} E1"),
+            TimelineReason::Number => write!(f, "refused line {line} E2"),
+            TimelineReason::NoEnd => write!(f, "refused line {line} E3"),
         }
     }
 }
@@ -48,13 +47,29 @@ impl fmt::Display for EventRefusal {
     }
 }
 
+/// What a fault of a timeline tells of its text, if it isn't that memory ran out.
+fn told_of(fault: TimeFault) -> Option<TimelineFault>
+    ensures { result ≡ told_of fault }
+{
+    let reason = match fault.reason {
+        TimeReason::Word => TimelineReason::Word,
+        TimeReason::Number => TimelineReason::Number,
+        TimeReason::NoEnd => TimelineReason::NoEnd,
+        TimeReason::Memory => return None,
+    };
+    Some(TimelineFault {
+        line: fault.line,
+        reason,
+    })
+}
+
 /// Writes why a text is no timeline.
 fn say_no_timeline<W: Write>(writer: &mut W, fault: TimeFault) -> Status
     ensures { SaysNoTimeline fault (W.contents writer.old) (W.contents writer.new) result }
 {
-    match fault.reason {
-        TimeReason::Memory => say_memory(writer),
-        _ => say(writer, TimeRefusal(fault), Status::TimelineRefused(fault)),
+    match told_of(fault) {
+        Some(told) => say(writer, TimeRefusal(told), Status::TimelineRefused(told)),
+        None => say_memory(writer),
     }
 }
 

@@ -5,37 +5,36 @@ ghost use Rattle.hq_job.specs.Plan.{plan};
 ghost use Rattle.hq_timeline.specs.Printed.{text_of};
 ghost use Rattle.hq_witness.specs.Witness.{IsWitness, no_of};
 ghost use Rattle.hq_witness.specs.declared.fault.WitnessNo.TheVariants.{Ordered};
-ghost use Rattle.hq_engines.specs.Reports.{Said, with_feed};
-ghost use Rattle.hq_engines.specs.Run.{BothSaid, contents_in};
-ghost use Rattle.hq_engines.specs.Witness.{Witnessed, WitnessReport, byte_text, difference_of, differs_text};
-ghost use Rattle.hq_engines.specs.Witness.{lines_text, origin_text, pair_text, place_text, spot_at, witness_text};
+ghost use Rattle.hq_judging.specs.Reports.{Said, with_feed};
+ghost use Rattle.hq_engines.specs.Recording.{BothSaid, contents_in};
+ghost use Rattle.hq_engines.specs.Witness.{Witnessed, WitnessReport, byte_text, difference_of, differs_at};
+ghost use Rattle.hq_engines.specs.Witness.{differs_text, lines_text, origin_text, pair_text, place_text, stored_by};
+ghost use Rattle.hq_engines.specs.Witness.{witness_text};
 
-use crate::audit::say_no_certificate;
-use crate::laws::stuck_exactly;
-use crate::run::write_timeline;
-use crate::saying::{say, say_file, say_memory};
-use crate::status::{Difference, Status};
+use crate::recording::write_timeline;
 use hq_audit::AuditNo;
-use hq_explain::{Spot, spot_of};
 use hq_fence::Kind;
 use hq_job::Job;
+use hq_judging::laws::stuck_exactly;
+use hq_judging::{Difference, Differs, Status, say, say_file, say_memory, say_no_certificate};
+use hq_report::{Spot, spot_of};
 use hq_timeline::PrintFault;
 use hq_witness::{Origin, Place, Witness, WitnessNo, witness};
 use std::alloc::Global;
 use std::fmt;
 use std::io::Write;
 
-/// An origin: `start`, or the packet's number.
+/// The packet whose store a byte is, or `start`.
 #[derive(Clone, Copy)]
-struct OriginWord(Origin);
+struct OriginWord(Option<u32>);
 
 impl fmt::Display for OriginWord {
     ghost output = { λ o. Some (origin_text o.0) };
 
     fn fmt<W: fmt::Write>(&self, f: &mut fmt::Formatter<W>) -> fmt::Result {
         match self.0 {
-            Origin::Start => f.write_str("start"),
-            Origin::StoredBy { packet } => write!(f, "{packet}"),
+            Some(packet) => write!(f, "{packet}"),
+            None => f.write_str("start"),
         }
     }
 }
@@ -59,20 +58,17 @@ impl fmt::Display for ByteWords {
     }
 }
 
-/// A place, with where its byte lies, if it is one of memory.
+/// What two runs differ in.
 #[derive(Clone, Copy)]
-struct PlaceWords {
-    place: Place,
-    spot: Option<Spot>,
-}
+struct PlaceWords(Differs);
 
 impl fmt::Display for PlaceWords {
-    ghost output = { λ w. Some (place_text w.place w.spot) };
+    ghost output = { λ w. Some (place_text w.0) };
 
     fn fmt<W: fmt::Write>(&self, f: &mut fmt::Formatter<W>) -> fmt::Result {
-        match self.place {
-            Place::Read { packet, entry } => write!(f, "read {packet} {entry}"),
-            Place::Memory { byte: _ } => write!(f, "{}", ByteWords(self.spot)),
+        match self.0 {
+            Differs::Read { packet, entry } => write!(f, "read {packet} {entry}"),
+            Differs::Memory { spot } => write!(f, "{}", ByteWords(spot)),
         }
     }
 }
@@ -101,10 +97,7 @@ impl fmt::Display for DiffersWords {
     ghost output = { λ w. Some (differs_text w.0) };
 
     fn fmt<W: fmt::Write>(&self, f: &mut fmt::Formatter<W>) -> fmt::Result {
-        let place = PlaceWords {
-            place: self.0.place,
-            spot: self.0.spot,
-        };
+        let place = PlaceWords(self.0.place);
         let good = OriginWord(self.0.good);
         let bad = OriginWord(self.0.bad);
         write!(f, "{place} {good} {bad}")
@@ -126,29 +119,36 @@ impl fmt::Display for WitnessLines {
     }
 }
 
-/// Where the byte of a place lies, if it is one of memory.
-fn spot_at(job: &Job, place: Place) -> Option<Spot>
-    ensures { result ≡ spot_at job.now place }
+/// What a place is in a job.
+fn differs_at(job: &Job, place: Place) -> Differs
+    ensures { result ≡ differs_at job.now place }
 {
     match place {
-        Place::Read {
-            packet: _,
-            entry: _,
-        } => None,
-        Place::Memory { byte } => spot_of(job.buffers(), byte as u64),
+        Place::Read { packet, entry } => Differs::Read { packet, entry },
+        Place::Memory { byte } => Differs::Memory {
+            spot: spot_of(job.buffers(), byte as u64),
+        },
     }
 }
 
-/// Where the two runs of a witness of a job differ.
+/// The packet that stored a byte of this origin, if one did.
+fn stored_by(origin: Origin) -> Option<u32>
+    ensures { result ≡ stored_by origin }
+{
+    match origin {
+        Origin::Start => None,
+        Origin::StoredBy { packet } => Some(packet),
+    }
+}
+
+/// How the two runs of a witness of a job differ.
 fn difference_of(job: &Job, witness: &Witness) -> Difference
     ensures { result ≡ difference_of job.now witness.now }
 {
-    let place = witness.place();
     Difference {
-        place,
-        spot: spot_at(job, place),
-        good: witness.good_origin(),
-        bad: witness.bad_origin(),
+        place: differs_at(job, witness.place()),
+        good: stored_by(witness.good_origin()),
+        bad: stored_by(witness.bad_origin()),
     }
 }
 

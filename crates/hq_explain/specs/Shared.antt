@@ -1,14 +1,14 @@
 -- The bytes that two packets share, and where they lie.
-use Rattle.std.specs.Prelude.{ℕ, ◌-◌, nat_lt, if◌then◌else◌, List, [], ◌∷◌, length, Option, Some, None, min, slice_get}
+use Rattle.std.specs.Prelude.{ℕ, ◌-◌, nat_lt, if◌then◌else◌, List, [], ◌∷◌, Option, Some, None, min, slice_get}
 use Rattle.hq_footprint.specs.declared.footprint.Range.{Range}
 use Rattle.hq_footprint.specs.declared.footprint.Footprint.{Footprint}
 use Rattle.hq_footprint.specs.Table.{range}
-use Rattle.hq_job.specs.Value.{Bytes, JobValue}
+use Rattle.hq_job.specs.Value.{JobValue}
 use Rattle.hq_fence.specs.declared.shown.Kind.{Kind}
 use Rattle.hq_fence.specs.declared.shown.Kind.TheVariants as kind
 use Rattle.hq_job.specs.declared.rows.Placed.{Placed}
 use Rattle.hq_explain.specs.declared.sharing.Run.{Run}
-use Rattle.hq_explain.specs.declared.sharing.Spot.{Spot}
+use Rattle.hq_report.specs.Spots.{spot_of}
 
 -- what two ranges have in common: from where the later begins to where the first of them ends
 abbrev pub common : Range → Range → Range
@@ -26,12 +26,6 @@ abbrev pub run_of : Kind → Footprint → Footprint → Option Range
 run_of kind.WriteRead p r = first_common r.reads p.write
 run_of kind.WriteWrite p r = first_common (p.write ∷ []) r.write
 run_of kind.ReadWrite p r = first_common p.reads r.write
-
--- where the byte of a number lies, when the buffers are laid end to end
-abbrev pub spot_of : List Bytes → ℕ → Option Spot
-spot_of [] n = None
-spot_of (b ∷ bs) n = if nat_lt n (length b.bytes) then Some
-    (record { name = b.name; at = b.at; offset = n }) else spot_of bs (n - length b.bytes)
 
 abbrev pub run_at : JobValue → Option Range → Option Run
 run_at job None = None

@@ -26,7 +26,8 @@ use Rattle.hq_report.specs.Shown.{kind_word, scope_word}
 use Rattle.hq_explain.specs.Shared.{run_between}
 use Rattle.hq_explain.specs.declared.advice.Advice.{Advice}
 use Rattle.hq_explain.specs.declared.sharing.Run.{Run}
-use Rattle.hq_explain.specs.declared.sharing.Spot.{Spot}
+use Rattle.hq_report.specs.Spots.{spot_text}
+use Rattle.hq_report.specs.declared.spots.Spot.{Spot}
 use Rattle.hq_explain.specs.declared.conflicts.How.{How}
 use Rattle.hq_explain.specs.declared.conflicts.How.TheVariants as how
 use Rattle.hq_explain.specs.declared.conflicts.Hows.{Hows}
@@ -77,13 +78,6 @@ abbrev pub head_text : JobValue → ℕ → ℕ → Bool → List ℕ
 head_text job a b ordered = title a b ordered ++ packet_line job a ++ packet_line job b
 
 -- ---- conflicts
-
--- so far from where a buffer begins
-abbrev pub offset_text : Spot → List ℕ
-offset_text spot = spot.name ++ codes "+" ++ decimal spot.offset
-
-abbrev pub spot_text : Spot → List ℕ
-spot_text spot = offset_text spot ++ codes " (address " ++ decimal (spot.at + spot.offset) ++ codes ")"
 
 -- where the first of some bytes lies, in its buffer and in memory, and how many there are
 abbrev pub bytes_text : ℕ → Option Spot → List ℕ

@@ -4,38 +4,14 @@ ghost use Rattle.std.specs.Prelude.{◌≡◌, OnOk, Some};
 ghost use Rattle.std.specs.Io.KnownBytes.{Appends};
 ghost use Rattle.hq_explain.specs.Texts.{acquire_text, bytes_text, hows_of, how_text, kind_line, kind_text};
 ghost use Rattle.hq_explain.specs.Texts.{kind_words, kinds_text};
-ghost use Rattle.hq_explain.specs.Texts.{no_hows, offset_text, part_text, release_text, rw_how, spot_text};
+ghost use Rattle.hq_explain.specs.Texts.{no_hows, part_text, release_text, rw_how};
 ghost use Rattle.hq_explain.specs.Texts.{two_acquires, two_releases, ww_how, wr_how};
 
-use crate::sharing::{Run, Spot, run_between};
+use crate::sharing::{Run, run_between};
 use hq_fence::{Acquire, Kind, Release, Shown};
 use hq_job::Job;
 use std::io::Write;
 use std::{fmt, io};
-
-/// How far from where its buffer begins a byte lies.
-#[derive(Clone, Copy)]
-struct OffsetText(Spot);
-
-impl fmt::Display for OffsetText {
-    ghost output = { λ s. Some (offset_text s.0) };
-
-    fn fmt<W: fmt::Write>(&self, f: &mut fmt::Formatter<W>) -> fmt::Result {
-        let name = self.0.name;
-        let offset = self.0.offset;
-        write!(f, "{name}+{offset}")
-    }
-}
-
-impl fmt::Display for Spot {
-    ghost output = { λ s. Some (spot_text s) };
-
-    fn fmt<W: fmt::Write>(&self, f: &mut fmt::Formatter<W>) -> fmt::Result {
-        let offset = OffsetText(*self);
-        let address = self.at as u128 + self.offset as u128;
-        write!(f, "{offset} (address {address})")
-    }
-}
 
 impl fmt::Display for Run {
     ghost output = { λ r. Some (bytes_text r.len r.spot) };

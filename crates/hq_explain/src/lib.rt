@@ -28,6 +28,4 @@ pub use advice::{Advice, advice_on};
 pub use change::{Change, Fence};
 pub use explaining::explain;
 pub use fault::ExplainFault;
-pub use hq_graph::Found;
-pub use sharing::{Spot, spot_of};
 pub use which::Which;

@@ -1,21 +1,12 @@
 //! The bytes that two packets share, and where they lie.
 
 ghost use Rattle.std.specs.Prelude.{◌≡◌, ◌∷◌, []};
-ghost use Rattle.hq_job.specs.Blocks.{blocks_of};
-ghost use Rattle.hq_explain.specs.Shared.{common, first_common, run_between, run_of, spot_of};
+ghost use Rattle.hq_explain.specs.Shared.{common, first_common, run_between, run_of};
 
 use hq_fence::Kind;
 use hq_footprint::{Footprint, Range};
-use hq_job::{Block, Job};
-use hq_text::Name;
-
-/// Where a byte lies: in which buffer, which begins at an address, and how far from its beginning.
-#[derive(Clone, Copy)]
-pub struct Spot {
-    pub name: Name,
-    pub at: u64,
-    pub offset: u64,
-}
+use hq_job::Job;
+use hq_report::{Spot, spot_of};
 
 /// What two ranges have in common.
 fn common(x: Range, y: Range) -> Range
@@ -49,23 +40,6 @@ fn run_of(kind: Kind, p: &Footprint, r: &Footprint) -> Option<Range>
         Kind::WriteRead => first_common(&r.reads, p.write),
         Kind::WriteWrite => first_common(&[p.write], r.write),
         Kind::ReadWrite => first_common(&p.reads, r.write),
-    }
-}
-
-/// Where the byte of a number lies.
-pub fn spot_of(buffers: &[Block], number: u64) -> Option<Spot>
-    ensures { result ≡ spot_of (blocks_of buffers.now) number }
-{
-    let (first, rest) = buffers.split_first()?;
-    let count = first.bytes.len() as u64;
-    if number < count {
-        Some(Spot {
-            name: first.name,
-            at: first.at,
-            offset: number,
-        })
-    } else {
-        spot_of(rest, number - count)
     }
 }
 

@@ -9,7 +9,6 @@ ghost use Rattle.hq_graph.specs.Order.{IsFound};
 ghost use Rattle.hq_graph.specs.declared.fault.GraphFault.TheVariants.{Memory};
 
 use crate::fault::GraphFault;
-use crate::found::Found;
 use crate::judging::found_of;
 use crate::nodes::{write_close, write_clusters};
 use crate::pairs::{write_pairs, write_waits};
@@ -17,6 +16,7 @@ use crate::part::Part;
 use crate::rows::steps_of;
 use crate::sight::Sight;
 use crate::stuck::stuck_of;
+use hq_audit::Found;
 use hq_job::Job;
 use hq_order::Before;
 use hq_parts::Parts;

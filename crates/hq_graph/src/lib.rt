@@ -8,7 +8,6 @@
 mod drawing;
 mod edges;
 mod fault;
-mod found;
 mod judging;
 mod nodes;
 mod pairs;
@@ -26,7 +25,6 @@ mod words;
 pub use drawing::graph;
 pub use edges::signal_name;
 pub use fault::GraphFault;
-pub use found::Found;
 pub use nodes::{Work, work_of};
 pub use rule::Rule;
 pub use ruling::rule_in;

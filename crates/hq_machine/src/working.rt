@@ -6,7 +6,8 @@ ghost use Rattle.hq_job.specs.Plan.{plan};
 ghost use Rattle.hq_model.specs.Job.{IsPacket, packet as packet_of};
 ghost use Rattle.hq_model.specs.Machine.{AllRead, AllStored, Released};
 ghost use Rattle.hq_model.specs.Machine.{Event};
-ghost use Rattle.hq_machine.specs.View.{IsStateOf, MayFinish, Moved, Refused, row_of, stores_of, with_decrement, state_of};
+ghost use Rattle.hq_machine.specs.View.{IsStateOf, MayFinish, Moved, Refused};
+ghost use Rattle.hq_machine.specs.View.{row_of, stores_of, with_decrement, state_of};
 
 use crate::fault::StepFault;
 use crate::packets::{done_of, queue_of, read_at, read_count, write_count};

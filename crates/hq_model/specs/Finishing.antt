@@ -14,8 +14,8 @@ StandstillReached = (job : Job) (events : List Event) (state : State) → Valid 
 
 -- A run that no work is left to has completed exactly the packets that stand in no stuck set.
 abbrev pub StandstillLaw : Type 0
-StandstillLaw = (job : Job) (events : List Event) (state : State) → Valid job → Run job events state → NoWorkLeft job state
-    → (p : ℕ) → IsPacket job p → ((state.phase p ≡ Complete) ↔ (Stuck job p → ⊥))
+StandstillLaw = (job : Job) (events : List Event) (state : State) → Valid job → Run job events state
+    → NoWorkLeft job state → (p : ℕ) → IsPacket job p → ((state.phase p ≡ Complete) ↔ (Stuck job p → ⊥))
 
 -- So the packets of stuck sets are exactly those that no run completes.
 abbrev pub StuckExact : Type 0

@@ -7,7 +7,9 @@
 mod plain;
 mod refusals;
 mod shown;
+mod spots;
 
 pub use plain::{FootWords, JobWords, PacketWords, ReasonWords};
 pub use refusals::{FootCode, JobRefusal, PacketCode, PacketRefusal, ReasonCode};
 pub use shown::{KindWord, ScopeWord, ShownPacket};
+pub use spots::{OffsetText, Spot, spot_of};

@@ -1,4 +1,6 @@
-use hq_engines::{accept, audit_engine, pack_engine, replay_engine, show_engine};
+use hq_engines::replay_engine;
+use hq_judging::{audit_engine, pack_engine, show_engine};
+use hq_run_engine::accept;
 use std::io;
 use std::io::{Read, Write};
 use std::test::*;

@@ -1,5 +1,5 @@
 use Rattle.std.proofs.Common.{refl}
-use Rattle.hq_engines.specs.Check.{CertReport}
+use Rattle.hq_judging.specs.Check.{CertReport}
 use Rattle.hq_c.proofs.Given.{answers_both}
 use Rattle.hq_c.proofs.hsaq_check.Goals as goal
 

@@ -1,8 +1,8 @@
 use Rattle.std.proofs.Common.{refl, subst, sym}
 use Rattle.hq_job.specs.Plan.{plan}
 use Rattle.hq_witness.specs.Witness.{IsNo}
-use Rattle.hq_engines.specs.Run.{contents_in}
-use Rattle.hq_engines.proofs.Audits.{no_reported}
+use Rattle.hq_engines.specs.Recording.{contents_in}
+use Rattle.hq_judging.proofs.Audits.{no_reported}
 use Rattle.hq_engines.proofs.Witnesses.{no_witness_reported, ordered_reported, refused_of}
 use Rattle.hq_engines.proofs.witness.witness_engine.Goals as goal
 

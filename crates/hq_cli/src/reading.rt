@@ -1,0 +1,62 @@
+//! The commands that read a job, and perhaps a timeline beside it, and write an answer.
+
+use crate::changing::{say_changes, say_unmended};
+use crate::progress::Settling;
+use hq_engines::{Aim, change_engine, chart_engine, graph_engine, replay_engine};
+use hq_front::{Input, opened, opened_both};
+use hq_judging::Status;
+use std::io::{BufReader, Write};
+
+pub fn replay<W: Write>(rt: &HostRuntime, job: &str, timeline: &str, writer: &mut W) -> Status {
+    match opened_both(rt, job, timeline, writer) {
+        Ok((mut input, mut file)) => replay_engine(rt.alloc(), &mut input, &mut file, writer),
+        Err(status) => status,
+    }
+}
+
+pub fn chart<W: Write>(
+    rt: &HostRuntime,
+    job: &str,
+    timeline: &str,
+    copies: bool,
+    writer: &mut W,
+) -> Status {
+    match opened_both(rt, job, timeline, writer) {
+        Ok((mut input, mut file)) => {
+            chart_engine(rt.alloc(), &mut input, &mut file, copies, writer)
+        }
+        Err(status) => status,
+    }
+}
+
+pub fn graph<W: Write>(rt: &HostRuntime, job: &str, writer: &mut W) -> Status {
+    match opened(rt, job, writer) {
+        Ok(mut input) => graph_engine(rt.alloc(), &mut input, writer),
+        Err(status) => status,
+    }
+}
+
+/// Prints the job of a reader with other heads, and says which.
+fn change_opened<W: Write>(
+    rt: &HostRuntime,
+    input: &mut BufReader<Input>,
+    aim: Aim,
+    writer: &mut W,
+) -> Status {
+    let settling = Settling::new(rt);
+    let (status, changed) = change_engine(rt.alloc(), input, writer, aim, &settling);
+    settling.clear();
+    say_unmended(rt, &status, aim);
+    if let Some(changed) = changed {
+        say_changes(rt, changed, aim);
+    }
+    status
+}
+
+/// Prints a job with other heads, and says which.
+pub fn change<W: Write>(rt: &HostRuntime, job: &str, aim: Aim, writer: &mut W) -> Status {
+    match opened(rt, job, writer) {
+        Ok(mut input) => change_opened(rt, &mut input, aim, writer),
+        Err(status) => status,
+    }
+}

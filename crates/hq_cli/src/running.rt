@@ -1,0 +1,95 @@
+//! The commands that run a job, and write timelines beside the answer.
+
+use crate::progress::Progress;
+use hq_engines::witness_engine;
+use hq_front::{created, job_of};
+use hq_job::Job;
+use hq_judging::{Status, say_memory};
+use hq_kernels::{Kit, stock_kits};
+use hq_run_engine::run_engine;
+use std::io::Write;
+use std::sync::Wait;
+use std::thread::Threads;
+
+/// Drops a job. In a proof a call is one step, and a drop among others takes as long as a hundred.
+fn let_go(_job: Job) {}
+
+/// Drops kits.
+fn let_kits_go(_kits: Vec<Kit>) {}
+
+/// Runs a job with stock bodies. The timeline's file is made before the job is audited.
+fn run_found<W: Write>(
+    rt: &HostRuntime,
+    threads: &(impl Threads + Wait + Sync),
+    job: Job,
+    timeline: Option<&str>,
+    writer: &mut W,
+) -> Status {
+    let Ok(kits) = stock_kits(rt.alloc(), &job) else {
+        let_go(job);
+        return say_memory(writer);
+    };
+    let mut out = match created(rt, timeline, writer) {
+        Ok(out) => out,
+        Err(status) => {
+            let_go(job);
+            let_kits_go(kits);
+            return status;
+        }
+    };
+    let progress = Progress::new(rt, job.packets().len());
+    let status = run_engine(threads, rt.alloc(), job, kits, &progress, &mut out, writer);
+    progress.clear();
+    status
+}
+
+/// Reads the job before it makes the timeline's file.
+pub fn run<W: Write>(
+    rt: &HostRuntime,
+    threads: &(impl Threads + Wait + Sync),
+    job: &str,
+    timeline: Option<&str>,
+    writer: &mut W,
+) -> Status {
+    match job_of(rt, job, writer) {
+        Ok(job) => run_found(rt, threads, job, timeline, writer),
+        Err(status) => status,
+    }
+}
+
+/// Shows two runs of a job, whose timelines' files are made before they are looked for.
+fn witness_found<W: Write>(
+    rt: &HostRuntime,
+    job: &Job,
+    good: Option<&str>,
+    bad: Option<&str>,
+    writer: &mut W,
+) -> Status {
+    let mut right = match created(rt, good, writer) {
+        Ok(out) => out,
+        Err(status) => return status,
+    };
+    let mut wrong = match created(rt, bad, writer) {
+        Ok(out) => out,
+        Err(status) => return status,
+    };
+    witness_engine(rt.alloc(), job, &mut right, &mut wrong, writer)
+}
+
+/// Reads the job before it makes the timelines' files.
+pub fn witness<W: Write>(
+    rt: &HostRuntime,
+    job: &str,
+    good: Option<&str>,
+    bad: Option<&str>,
+    writer: &mut W,
+) -> Status {
+    match job_of(rt, job, writer) {
+        Ok(job) => {
+            let status = witness_found(rt, &job, good, bad, writer);
+            let_go(job);
+            status
+        }
+        Err(status) => status,
+    }
+}

@@ -1,4 +1,0 @@
-use Rattle.hq_engines.proofs.laws.stuck_exactly.Goals as goal
-
-pub returns : goal.returns
-returns c = (c.stuck_exact.ensures, c.standstill_law.ensures)

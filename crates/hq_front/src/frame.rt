@@ -1,0 +1,68 @@
+//! From the words of a command line to an exit status.
+
+use hq_judging::{Status, say_memory};
+use hq_plain::explain;
+use hq_words::WordsFault;
+use std::alloc::{AllocError, Global};
+use std::io::Write;
+use std::process::ExitCode;
+use std::{env, io};
+
+/// The words behind the program's name.
+pub fn words_of(rt: &HostRuntime) -> io::Result<Vec<String>> {
+    Ok(env::args(rt)?.skip(1).collect::<Vec<String>>(rt.alloc())?)
+}
+
+/// The texts of words.
+pub fn texts_of(alloc: Global, words: &[String]) -> Result<Vec<&str>, AllocError> {
+    let mut texts = Vec::with_capacity(alloc, words.len())?;
+    for word in words {
+        texts.push(word.as_str())?;
+    }
+    Ok(texts)
+}
+
+/// What `clap` says of words: a fault on standard error; the help or the version, which is asked for, on standard
+/// output.
+fn say_error(rt: &HostRuntime, error: &clap::Error) -> Status {
+    match (error.print(rt), error.use_stderr()) {
+        (Err(_), _) => Status::File,
+        (Ok(()), true) => Status::Words,
+        (Ok(()), false) => Status::Done,
+    }
+}
+
+/// Says why words ask for no command.
+pub fn say_words(rt: &HostRuntime, fault: &WordsFault) -> Status {
+    match fault {
+        WordsFault::Words(error) => say_error(rt, error),
+        WordsFault::Memory => say_memory(&mut rt.stdout()),
+    }
+}
+
+/// Writes what is held back, and answers the status; where that fails it is `File`.
+fn flushed<W: Write>(writer: &mut W, status: Status) -> Status {
+    match writer.flush() {
+        Ok(()) => status,
+        Err(_) => Status::File,
+    }
+}
+
+/// Writes what is held back of an answer, and says in plain words how the command ended.
+pub fn finished<W: Write>(rt: &HostRuntime, writer: &mut W, status: Status) -> Status {
+    let status = flushed(writer, status);
+    explain(rt, &status);
+    status
+}
+
+/// The exit status of a program that ended so, or whose words couldn't be had.
+pub fn exit_code(rt: &HostRuntime, ended: io::Result<Status>) -> ExitCode {
+    let status = match ended {
+        Ok(status) => status,
+        Err(error) => match error.kind() {
+            io::ErrorKind::OutOfMemory => say_memory(&mut rt.stdout()),
+            _ => Status::Words,
+        },
+    };
+    ExitCode::from(status.code())
+}

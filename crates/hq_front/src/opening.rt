@@ -1,0 +1,70 @@
+//! Files that commands read and write: where one can't be opened, that is written, and said on standard error.
+
+use crate::input::{Input, open, open_file};
+use crate::output::{Output, create};
+use hq_job::Job;
+use hq_judging::{Status, say_file, say_memory, take_job};
+use hq_plain::explain_unopened;
+use std::io;
+use std::io::{BufReader, Write};
+
+/// Writes that a file can't be opened, and says why.
+fn say_unopened<W: Write>(
+    rt: &HostRuntime,
+    path: &str,
+    error: &io::Error,
+    writer: &mut W,
+) -> Status {
+    explain_unopened(rt, path, error);
+    match error.kind() {
+        io::ErrorKind::OutOfMemory => say_memory(writer),
+        _ => say_file(writer),
+    }
+}
+
+/// The file of a path, or standard input for `@`; or the status, where it can't be opened, which is written then.
+pub fn opened<W: Write>(
+    rt: &HostRuntime,
+    path: &str,
+    writer: &mut W,
+) -> Result<BufReader<Input>, Status> {
+    match open(rt, path) {
+        Ok(input) => Ok(input),
+        Err(error) => Err(say_unopened(rt, path, &error, writer)),
+    }
+}
+
+/// A job, and the file of a path beside it, both opened before either is read; or the status, where one can't be.
+pub fn opened_both<W: Write>(
+    rt: &HostRuntime,
+    job: &str,
+    path: &str,
+    writer: &mut W,
+) -> Result<(BufReader<Input>, BufReader<Input>), Status> {
+    let input = opened(rt, job, writer)?;
+    match open_file(rt, path) {
+        Ok(file) => Ok((input, file)),
+        Err(error) => Err(say_unopened(rt, path, &error, writer)),
+    }
+}
+
+/// The file that a timeline is asked for in, if it is; or the status, where it can't be made, which is written then.
+pub fn created<W: Write>(
+    rt: &HostRuntime,
+    timeline: Option<&str>,
+    writer: &mut W,
+) -> Result<Option<Output>, Status> {
+    let Some(path) = timeline else {
+        return Ok(None);
+    };
+    match create(rt, path) {
+        Ok(out) => Ok(Some(out)),
+        Err(error) => Err(say_unopened(rt, path, &error, writer)),
+    }
+}
+
+/// The job of a path; or the status, where there is none, which is written then. Its file is closed again.
+pub fn job_of<W: Write>(rt: &HostRuntime, job: &str, writer: &mut W) -> Result<Job, Status> {
+    let mut input = opened(rt, job, writer)?;
+    take_job(rt.alloc(), &mut input, writer)
+}

@@ -1,0 +1,9 @@
+pub mod NoJobs
+pub mod Shows
+pub mod Queues
+pub mod Packs
+pub mod PackReports
+pub mod Audits
+pub mod Checks
+pub mod ReadTexts
+pub mod WholeTexts

@@ -1,0 +1,99 @@
+//! `hsaq audit`: from a job's bytes to a certificate's bytes.
+
+ghost use Rattle.std.specs.Prelude.{◌⊎◌, codes};
+ghost use Rattle.hq_cert.specs.Printed.{text_of};
+ghost use Rattle.hq_job.specs.Plan.{plan};
+ghost use Rattle.hq_judging.specs.Audit.{JobReport, NoSaid, conflict_text};
+ghost use Rattle.hq_judging.specs.Reports.{JobTextReport, ReaderReport, Reported, Said, with_feed};
+
+use crate::laws::stuck_exactly;
+use crate::saying::{say, say_memory};
+use crate::status::Status;
+use crate::stuck::say_stuck;
+use crate::taking::{let_go, take_job};
+use hq_audit::{AuditNo, audit};
+use hq_cert::{Certificate, PrintFault, print};
+use hq_fence::{Kind, Why};
+use hq_job::Job;
+use std::alloc::Global;
+use std::fmt;
+use std::io::{Read, Write};
+
+/// A conflict that isn't ordered: `conflict`, the packets, the kind and the reason.
+#[derive(Clone, Copy)]
+struct ConflictLine {
+    p: u16,
+    r: u16,
+    kind: Kind,
+    why: Why,
+}
+
+impl fmt::Display for ConflictLine {
+    ghost use Rattle.std.specs.Prelude.{Some};
+
+    ghost output = { λ c. Some (conflict_text c.p c.r c.kind c.why) };
+
+    fn fmt<W: fmt::Write>(&self, f: &mut fmt::Formatter<W>) -> fmt::Result {
+        write!(
+            f,
+            "conflict {} {} {} {}",
+            self.p, self.r, self.kind, self.why
+        )
+    }
+}
+
+/// Writes a certificate.
+fn say_certificate<W: Write>(alloc: Global, writer: &mut W, certificate: &Certificate) -> Status
+    ensures { Said (W.contents writer.old) (W.contents writer.new) (text_of certificate.now) Status.Done result
+        ⊎ Said (W.contents writer.old) (W.contents writer.new)
+        (with_feed (codes "out of memory")) Status.Memory result }
+{
+    match print(alloc, certificate, writer) {
+        Ok(()) => Status::Done,
+        Err(PrintFault::Memory) => say_memory(writer),
+        Err(PrintFault::Writer) => Status::File,
+    }
+}
+
+/// Writes why a job has no certificate.
+pub fn say_no_certificate<W: Write>(writer: &mut W, no: AuditNo) -> Status
+    ensures { NoSaid no (W.contents writer.old) (W.contents writer.new) result }
+{
+    match no {
+        AuditNo::Stuck(packets) => say_stuck(writer, &packets),
+        AuditNo::Conflict { p, r, kind, why } => say(
+            writer,
+            ConflictLine { p, r, kind, why },
+            Status::Conflict { p, r, kind, why },
+        ),
+        AuditNo::Memory => say_memory(writer),
+    }
+}
+
+/// Audits a job, and writes its certificate, or why there is none.
+fn audit_found<W: Write>(alloc: Global, writer: &mut W, job: &Job) -> Status
+    ensures { Reported (JobReport (plan job.now)) (W.contents writer.old) (W.contents writer.new) result }
+{
+    job.valid();
+    stuck_exactly();
+    match audit(alloc, job) {
+        Ok(certificate) => say_certificate(alloc, writer, &certificate),
+        Err(no) => say_no_certificate(writer, no),
+    }
+}
+
+/// Reads a job and writes its certificate, or the packets that can never complete, or the conflict that nothing
+/// orders. Nothing is written before the last growth of memory.
+pub fn audit_engine<R: Read, W: Write>(alloc: Global, reader: &mut R, writer: &mut W) -> Status
+    ensures { Reported (ReaderReport R R.remaining reader.old reader.new (JobTextReport (λ job. JobReport (plan job))))
+        (W.contents writer.old) (W.contents writer.new) result }
+{
+    match take_job(alloc, reader, writer) {
+        Ok(job) => {
+            let status = audit_found(alloc, writer, &job);
+            let_go(job);
+            status
+        }
+        Err(status) => status,
+    }
+}

@@ -1,0 +1,65 @@
+//! `hsaq check` without threads, for callers that may start none.
+
+ghost use Rattle.std.specs.Prelude.{◌≡◌};
+ghost use Rattle.hq_judging.specs.Check.{CheckedReport, CertReport};
+ghost use Rattle.hq_judging.specs.Reports.{JobTextReport, ReaderReport, Reported};
+
+use crate::check::{say_checked, take_certificate};
+use crate::status::Status;
+use crate::taking::{let_go, take_job};
+use hq_cert::Certificate;
+use hq_certcheck::check;
+use hq_job::Job;
+use std::alloc::Global;
+use std::io::{Read, Write};
+
+/// Checks a certificate against a job, and writes the answer.
+fn check_found<W: Write>(
+    alloc: Global,
+    writer: &mut W,
+    job: Job,
+    certificate: &Certificate,
+) -> Status
+    ensures { Reported (CheckedReport job certificate.now) (W.contents writer.old) (W.contents writer.new) result }
+{
+    let checked = check(alloc, job, certificate);
+    say_checked(writer, checked)
+}
+
+/// Reads a certificate, and writes whether it holds for a job.
+fn check_read<S: Read, W: Write>(
+    alloc: Global,
+    certificate: &mut S,
+    writer: &mut W,
+    job: Job,
+) -> Status
+    ensures { Reported (ReaderReport S S.remaining certificate.old certificate.new (CertReport job))
+        (W.contents writer.old) (W.contents writer.new) result }
+{
+    match take_certificate(alloc, certificate, writer) {
+        Ok(certificate) => check_found(alloc, writer, job, &certificate),
+        Err(status) => {
+            let_go(job);
+            status
+        }
+    }
+}
+
+/// Reads a job and then a certificate, and writes whether the certificate holds for the job, as `check_engine`
+/// does, but checks it on the caller's thread, by `check`.
+pub fn check_alone_engine<R: Read, S: Read, W: Write>(
+    alloc: Global,
+    reader: &mut R,
+    certificate: &mut S,
+    writer: &mut W,
+) -> Status
+    ensures { Reported
+        (ReaderReport R R.remaining reader.old reader.new
+        (JobTextReport (λ job. ReaderReport S S.remaining certificate.old certificate.new (CertReport job))))
+        (W.contents writer.old) (W.contents writer.new) result }
+{
+    match take_job(alloc, reader, writer) {
+        Ok(job) => check_read(alloc, certificate, writer, job),
+        Err(status) => status,
+    }
+}

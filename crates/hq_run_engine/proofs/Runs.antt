@@ -1,0 +1,47 @@
+-- What `run` writes.
+use Rattle.std.proofs.Common.{◌≡◌, ◌⊎◌, ℕ, inl, inr, List, [], Option, Some, None, codes, ap₂, sym, subst}
+use Rattle.std.specs.Prelude.{MatchOption}
+use Rattle.hq_job.specs.Plan.{plan}
+use Rattle.hq_job.specs.Value.{JobValue}
+use Rattle.hq_machine.specs.declared.event.Event.{Event}
+use Rattle.hq_runner.specs.Journals.{IsOneByOne, IsWhole}
+use Rattle.hq_timeline.specs.Printed.{text_of}
+use Rattle.hq_judging.specs.Audit.{NotOrdered}
+use Rattle.hq_judging.specs.Audit.NotOrdered.{no_memory}
+use Rattle.hq_engines.specs.Buffers.{buffers_text}
+use Rattle.hq_judging.specs.Reports.{Reported, Said, with_feed}
+use Rattle.hq_engines.specs.Recording.{BothSaid, Recorded}
+use Rattle.hq_engines.proofs.Recordings.{alone}
+use Rattle.hq_run_engine.specs.Run.{RunReport, failure_text}
+use Rattle.hq_run_engine.specs.Run.RunReport.{ran, not_ordered, stopped}
+use Rattle.hq_judging.specs.declared.status.RunFailure.{RunFailure}
+use Rattle.hq_judging.specs.declared.status.Status.{Status}
+use Rattle.hq_judging.specs.declared.status.Status.TheVariants.{Done, RunFailed, Memory}
+
+pub ran_reported : (job : JobValue) (events : List Event) (memory : List ℕ) (begun recorded old new : Option (List ℕ)) (answered : Status) → IsWhole (plan job) events memory → IsOneByOne (plan job) memory
+    → BothSaid begun recorded (text_of events) old new (buffers_text job.buffers memory) Done answered ⊎ BothSaid begun recorded [] old new (with_feed (codes "out of memory")) Memory answered
+    → Recorded (RunReport job) begun recorded old new answered
+ran_reported job events memory begun recorded old new answered whole one (inl said) = (text_of events, buffers_text job.buffers memory, Done, ran events memory whole one, said)
+ran_reported job events memory begun recorded old new answered whole one (inr said) = ([], with_feed (codes "out of memory"), Memory, not_ordered no_memory, said)
+
+-- the same of the job and the memory as they were seen
+pub ran_of : (job seen : JobValue) (events : List Event) (memory bytes : List ℕ) (begun recorded old new : Option (List ℕ)) (answered : Status) → seen ≡ job → bytes ≡ memory
+    → IsWhole (plan job) events memory → IsOneByOne (plan job) memory
+    → BothSaid begun recorded (text_of events) old new (buffers_text seen.buffers bytes) Done answered ⊎ BothSaid begun recorded [] old new (with_feed (codes "out of memory")) Memory answered
+    → Recorded (RunReport job) begun recorded old new answered
+ran_of job seen events memory bytes begun recorded old new answered same_job same_memory whole one said =
+    ran_reported job events memory begun recorded old new answered whole one
+    (subst (λ text. BothSaid begun recorded (text_of events) old new text Done answered ⊎ BothSaid begun recorded [] old new (with_feed (codes "out of memory")) Memory answered)
+    (ap₂ (λ (j : JobValue) m. buffers_text j.buffers m) same_job same_memory) said)
+
+pub fault_reported : (job : JobValue) (found : Option RunFailure) (begun recorded old new : Option (List ℕ)) (answered : Status) → recorded ≡ begun
+    → MatchOption found (Said old new (with_feed (codes "out of memory")) Memory answered) (λ f. Said old new (with_feed (failure_text f)) (RunFailed f) answered)
+    → Recorded (RunReport job) begun recorded old new answered
+fault_reported job (Some f) begun recorded old new answered same said =
+    ([], with_feed (failure_text f), RunFailed f, stopped f, alone begun recorded old new (with_feed (failure_text f)) (RunFailed f) answered same said)
+fault_reported job None begun recorded old new answered same said =
+    ([], with_feed (codes "out of memory"), Memory, not_ordered no_memory, alone begun recorded old new (with_feed (codes "out of memory")) Memory answered same said)
+
+pub not_ordered_reported : (job : JobValue) (begun recorded old new : Option (List ℕ)) (answered : Status) → recorded ≡ begun → Reported (NotOrdered (plan job)) old new answered
+    → Recorded (RunReport job) begun recorded old new answered
+not_ordered_reported job begun recorded old new answered same said = ([], said.0, said.1, not_ordered said.2, alone begun recorded old new said.0 said.1 answered same said.3)
