@@ -5,7 +5,7 @@ ghost use Rattle.hq_audit.specs.Refused.{no_of_order, no_of_pair};
 ghost use Rattle.hq_audit.specs.declared.fault.AuditNo.TheVariants.{Memory};
 
 use crate::directed::Unshown;
-use hq_fence::{Kind, Why};
+use hq_finding::{Kind, Why};
 use hq_order::OrderFault;
 use std::alloc::{AllocError, AllocFailed};
 use thiserror::Error;

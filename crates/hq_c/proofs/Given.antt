@@ -5,12 +5,12 @@ use Rattle.hq_job.specs.JobText.{JobText}
 use Rattle.hq_text.specs.Lines.{lines_of}
 use Rattle.hq_c.specs.Calls.{Answers, OfBytes, IsHandedOut}
 use Rattle.hq_c.specs.Calls.OfBytes.{of_text as given, no_memory as out_of_memory}
-use Rattle.hq_judging.specs.Reports.{ReaderReport, JobTextReport, Reported, Said}
-use Rattle.hq_judging.specs.Reports.ReaderReport.{of_text, no_text, no_memory}
-use Rattle.hq_judging.specs.Reports.JobTextReport.{of_job, no_job}
-use Rattle.hq_judging.specs.Statuses.{code_of}
-use Rattle.hq_judging.specs.declared.status.Status.{Status}
-use Rattle.hq_judging.specs.declared.status.Status.TheVariants.{File}
+use Rattle.hq_status.specs.Reports.{ReaderReport, JobTextReport, Reported, Said}
+use Rattle.hq_status.specs.Reports.ReaderReport.{of_text, no_text, no_memory}
+use Rattle.hq_status.specs.Reports.JobTextReport.{of_job, no_job}
+use Rattle.hq_status.specs.Statuses.{code_of}
+use Rattle.hq_status.specs.declared.status.Status.{Status}
+use Rattle.hq_status.specs.declared.status.Status.TheVariants.{File}
 
 -- The report of a reader that had these bytes left is the report of these bytes, or that it failed.
 pub of_bytes : (S : Type 0) (left : S → Option (List ℕ)) (old new : S) (bytes : List ℕ) (Report : List ℕ → List ℕ → Status → Type 0) (out : List ℕ) (status : Status)

@@ -1,9 +1,9 @@
 -- What a call from another language leaves.
 use Rattle.std.specs.Prelude.{◌≡◌, ℕ, ◌⊎◌, List, ◌++◌, length, take, drop, codes}
-use Rattle.hq_judging.specs.Reports.{with_feed}
-use Rattle.hq_judging.specs.Statuses.{code_of}
-use Rattle.hq_judging.specs.declared.status.Status.{Status}
-use Rattle.hq_judging.specs.declared.status.Status.TheVariants.{Memory, File}
+use Rattle.hq_status.specs.Reports.{with_feed}
+use Rattle.hq_status.specs.Statuses.{code_of}
+use Rattle.hq_status.specs.declared.status.Status.{Status}
+use Rattle.hq_status.specs.declared.status.Status.TheVariants.{Memory, File}
 
 -- What is written of these bytes: the report of the text that they are, or that memory ran out.
 pub data OfBytes (Report : List ℕ → List ℕ → Status → Type 0) (bytes : List ℕ) : List ℕ → Status → Type 0 where

@@ -2,9 +2,9 @@
 
 ghost use Rattle.std.specs.Prelude.{◌≡◌};
 ghost use Rattle.hq_c.specs.Calls.{IsHandedOut};
-ghost use Rattle.hq_judging.specs.Statuses.{code_of};
+ghost use Rattle.hq_status.specs.Statuses.{code_of};
 
-use hq_judging::Status;
+use hq_status::Status;
 
 /// Hands out as much of a report as there is room for, and its whole length; answers its status as a number.
 pub fn hand_out(written: &[u8], status: Status, report: &mut [u8], whole: &mut usize) -> u32

@@ -13,8 +13,8 @@ ghost use Rattle.hq_engines.specs.Change.{ChangeReport};
 ghost use Rattle.hq_judging.specs.Check.{CertReport};
 ghost use Rattle.hq_engines.specs.Explain.{ExplainReport};
 ghost use Rattle.hq_engines.specs.Replay.{RunReport, TimelineReport};
-ghost use Rattle.hq_judging.specs.Reports.{JobTextReport};
-ghost use Rattle.hq_judging.specs.Show.{ShowReport};
+ghost use Rattle.hq_status.specs.Reports.{JobTextReport};
+ghost use Rattle.hq_showing.specs.Show.{ShowReport};
 ghost use Rattle.hq_job.specs.Plan.{plan};
 
 mod handing;
@@ -23,7 +23,8 @@ use handing::hand_out;
 use hq_change::Unwatched;
 use hq_engines::{Aim, change_engine, explain_engine, replay_engine};
 use hq_explain::Which;
-use hq_judging::{audit_engine, check_alone_engine, show_engine};
+use hq_judging::{audit_engine, check_alone_engine};
+use hq_showing::show_engine;
 use std::alloc::Global;
 
 /// Audits a job: its certificate, or the packets that can never complete, or the conflict that nothing orders.

@@ -2,7 +2,7 @@
 
 use hq_engines::{Aim, Changed};
 use hq_job::Job;
-use hq_judging::Status;
+use hq_status::Status;
 use hq_packet::{Head, Scope};
 use hq_report::ScopeWord;
 use hq_text::Name;

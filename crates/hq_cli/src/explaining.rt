@@ -3,7 +3,7 @@
 use hq_engines::explain_engine;
 use hq_explain::Which;
 use hq_front::opened;
-use hq_judging::Status;
+use hq_status::Status;
 use hq_text::number_of;
 use std::io::Write;
 

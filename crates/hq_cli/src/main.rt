@@ -1,4 +1,4 @@
-//! The program `hsaq`: orders the packets of HSA user-mode queues, and proves it.
+//! The program `hsaq`: checks how the packets of HSA user-mode queues are ordered, and runs them.
 #![tactic(auto)]
 
 mod changing;
@@ -9,8 +9,9 @@ mod running;
 
 use explaining::explain_asked;
 use hq_engines::Aim;
-use hq_front::{exit_code, finished, judged, say_words, texts_of, words_of};
-use hq_judging::{Status, say_memory};
+use hq_commands::judged;
+use hq_front::{exit_code, finished, say_words, texts_of, words_of};
+use hq_status::{Status, say_memory};
 use hq_words::{Asked, command_of};
 use reading::{change, chart, graph, replay};
 use running::{run, witness};

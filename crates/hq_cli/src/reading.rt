@@ -4,7 +4,7 @@ use crate::changing::{say_changes, say_unmended};
 use crate::progress::Settling;
 use hq_engines::{Aim, change_engine, chart_engine, graph_engine, replay_engine};
 use hq_front::{Input, opened, opened_both};
-use hq_judging::Status;
+use hq_status::Status;
 use std::io::{BufReader, Write};
 
 pub fn replay<W: Write>(rt: &HostRuntime, job: &str, timeline: &str, writer: &mut W) -> Status {

@@ -4,7 +4,7 @@ use crate::progress::Progress;
 use hq_engines::witness_engine;
 use hq_front::{created, job_of};
 use hq_job::Job;
-use hq_judging::{Status, say_memory};
+use hq_status::{Status, say_memory};
 use hq_kernels::{Kit, stock_kits};
 use hq_run_engine::run_engine;
 use std::io::Write;

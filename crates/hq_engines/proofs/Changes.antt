@@ -20,14 +20,14 @@ use Rattle.hq_audit.specs.declared.fault.AuditNo.{AuditNo}
 use Rattle.hq_judging.specs.Audit.{StuckExactly, NoSaid}
 use Rattle.hq_engines.specs.Change.{ChangeReport, IsChanged, TellsChange, TellsText, judged_job}
 use Rattle.hq_engines.specs.Change.ChangeReport.{not_ordered}
-use Rattle.hq_judging.specs.Reports.{JobTextReport, NoJob, OfReader, ReaderReport, Reported}
-use Rattle.hq_judging.specs.Reports.JobTextReport.{of_job, no_job}
+use Rattle.hq_status.specs.Reports.{JobTextReport, NoJob, OfReader, ReaderReport, Reported}
+use Rattle.hq_status.specs.Reports.JobTextReport.{of_job, no_job}
 use Rattle.hq_engines.specs.declared.change.Aim.{Aim}
 use Rattle.hq_engines.specs.declared.change.Aim.TheVariants as aim
 use Rattle.hq_engines.specs.declared.change.Changed.{Changed}
-use Rattle.hq_judging.specs.declared.status.Status.{Status}
+use Rattle.hq_status.specs.declared.status.Status.{Status}
 use Rattle.hq_judging.proofs.Audits.{no_reported}
-use Rattle.hq_judging.proofs.ReadTexts.{found, missing}
+use Rattle.hq_status.proofs.ReadTexts.{found, missing}
 
 -- ---- the job that is judged
 

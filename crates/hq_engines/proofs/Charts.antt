@@ -7,9 +7,9 @@ use Rattle.hq_timeline.specs.Replays.{Replayed, StopsAt}
 use Rattle.hq_chart.specs.Chart.{chart_text}
 use Rattle.hq_engines.specs.Chart.{ChartReport}
 use Rattle.hq_engines.specs.Chart.ChartReport.{drawn, stopped, no_memory}
-use Rattle.hq_judging.specs.Reports.{Reported, Said, with_feed}
-use Rattle.hq_judging.specs.declared.status.Status.{Status}
-use Rattle.hq_judging.specs.declared.status.Status.TheVariants.{Done, DrawnUntil, Memory}
+use Rattle.hq_status.specs.Reports.{Reported, Said, with_feed}
+use Rattle.hq_status.specs.declared.status.Status.{Status}
+use Rattle.hq_status.specs.declared.status.Status.TheVariants.{Done, DrawnUntil, Memory}
 
 pub drawn_reported : (job : JobValue) (copies : Bool) (events : List Event) (bytes : List ℕ) (old new : Option (List ℕ)) (answered : Status) → Replayed (plan job) events bytes
     → Said old new (chart_text job copies events false) Done answered ⊎ Said old new (with_feed (codes "out of memory")) Memory answered → Reported (ChartReport job copies events) old new answered

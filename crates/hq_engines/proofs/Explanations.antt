@@ -3,17 +3,17 @@ use Rattle.std.proofs.Common.{◌≡◌, ℕ, ◌++◌, inl, inr, List, [], Opti
 use Rattle.hq_job.specs.Plan.{plan}
 use Rattle.hq_job.specs.Value.{JobValue}
 use Rattle.hq_graph.specs.Graph.{Wrote}
-use Rattle.hq_audit.specs.declared.found.Found.{Found}
+use Rattle.hq_finding.specs.declared.found.Found.{Found}
 use Rattle.hq_explain.specs.Explained.{Explained}
 use Rattle.hq_explain.specs.Told.{Broken}
 use Rattle.hq_explain.specs.declared.which.Which.{Which}
 use Rattle.hq_engines.specs.Explain.{ExplainReport}
 use Rattle.hq_engines.specs.Explain.ExplainReport.{explained, no_memory}
-use Rattle.hq_judging.specs.Reports.{Reported, Said, with_feed}
-use Rattle.hq_judging.specs.declared.status.Status.{Status}
-use Rattle.hq_judging.specs.declared.status.Status.TheVariants.{Memory, File}
-use Rattle.hq_judging.specs.declared.status.Status.TheVariants as status
-use Rattle.hq_judging.proofs.Shows.{appends_more}
+use Rattle.hq_status.specs.Reports.{Reported, Said, with_feed}
+use Rattle.hq_status.specs.declared.status.Status.{Status}
+use Rattle.hq_status.specs.declared.status.Status.TheVariants.{Memory, File}
+use Rattle.hq_status.specs.declared.status.Status.TheVariants as status
+use Rattle.hq_status.proofs.Appending.{appends_more}
 use Rattle.hq_explain.proofs.Counting.{nothing_told}
 
 pub explain_reported : (job : JobValue) (which : Which) (old new : Option (List ℕ)) (found : Found) (answered : Status) → Wrote old new (Explained job (plan job) which found) → answered ≡ status.Explained found → Reported (ExplainReport which job) old new answered

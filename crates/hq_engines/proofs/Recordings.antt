@@ -2,10 +2,10 @@
 use Rattle.std.proofs.Common.{◌≡◌, ℕ, inl, inr, List, [], Option, Some, None, sym, subst}
 use Rattle.std.proofs.lemmas.List.{append-nil}
 use Rattle.std.specs.Io.KnownBytes.{Appends}
-use Rattle.hq_judging.specs.Reports.{Said}
+use Rattle.hq_status.specs.Reports.{Said}
 use Rattle.hq_engines.specs.Recording.{BothSaid}
-use Rattle.hq_judging.specs.declared.status.Status.{Status}
-use Rattle.hq_judging.specs.declared.status.Status.TheVariants.{File}
+use Rattle.hq_status.specs.declared.status.Status.{Status}
+use Rattle.hq_status.specs.declared.status.Status.TheVariants.{File}
 
 -- nothing is written behind what is known
 stays : (known : Option (List ℕ)) → Appends known known []

@@ -20,13 +20,13 @@ use Rattle.hq_engines.specs.Replay.{NoTimeline, SaysNoTimeline, StopSaid, RunRep
 use Rattle.hq_engines.specs.Replay.NoTimeline.{refused}
 use Rattle.hq_engines.specs.Replay.RunReport.{replayed, stopped, no_memory as run_memory}
 use Rattle.hq_engines.specs.Replay.TimelineReport.{read, no_timeline}
-use Rattle.hq_judging.specs.Reports.{OfReader, ReaderReport, Reported, Said, with_feed}
-use Rattle.hq_judging.specs.Reports.ReaderReport.{of_text, no_memory}
-use Rattle.hq_judging.proofs.ReadTexts.{of_reader, missing, found}
-use Rattle.hq_judging.specs.declared.status.Status.{Status}
-use Rattle.hq_judging.specs.declared.status.TimelineFault.{TimelineFault}
+use Rattle.hq_status.specs.Reports.{OfReader, ReaderReport, Reported, Said, with_feed}
+use Rattle.hq_status.specs.Reports.ReaderReport.{of_text, no_memory}
+use Rattle.hq_status.proofs.ReadTexts.{of_reader, missing, found}
+use Rattle.hq_status.specs.declared.status.Status.{Status}
+use Rattle.hq_status.specs.declared.status.TimelineFault.{TimelineFault}
 use Rattle.std.specs.Prelude.{MatchOption}
-use Rattle.hq_judging.specs.declared.status.Status.TheVariants.{Done, TimelineRefused, NotEnabled, Memory}
+use Rattle.hq_status.specs.declared.status.Status.TheVariants.{Done, TimelineRefused, NotEnabled, Memory}
 
 -- a fault that isn't of memory is the text's
 own : (text : List ℕ) (fault : TimeFault) (told : TimelineFault) → HasFault (lines_of text) fault → told_of fault ≡ Some told → FirstFault (lines_of text) fault

@@ -13,12 +13,12 @@ use Rattle.hq_model.specs.Job.{Job}
 use Rattle.hq_witness.specs.Witness.{WitnessValue, IsWitness, IsNo, no_of}
 use Rattle.hq_judging.specs.Audit.{NotOrdered}
 use Rattle.hq_judging.specs.Audit.NotOrdered.{no_memory}
-use Rattle.hq_judging.specs.Reports.{Reported, Said, with_feed}
+use Rattle.hq_status.specs.Reports.{Reported, Said, with_feed}
 use Rattle.hq_engines.specs.Recording.{BothSaid}
 use Rattle.hq_engines.specs.Witness.{Held, Witnessed, WitnessReport, difference_of, witness_text}
 use Rattle.hq_engines.specs.Witness.WitnessReport.{shown, ordered, not_ordered, broken}
-use Rattle.hq_judging.specs.declared.status.Status.{Status}
-use Rattle.hq_judging.specs.declared.status.Status.TheVariants.{Done, Shown, Memory, File}
+use Rattle.hq_status.specs.declared.status.Status.{Status}
+use Rattle.hq_status.specs.declared.status.Status.TheVariants.{Done, Shown, Memory, File}
 
 -- nothing is written behind what is known
 stays : (known : Option (List ℕ)) → Appends known known []

@@ -2,7 +2,7 @@
 use Rattle.std.specs.Prelude.{ℕ, List, [], ◌∷◌, ◌++◌, take, drop, length, codes}
 use Rattle.hex.specs.Hex.{encode_lower}
 use Rattle.hq_job.specs.Value.{Bytes}
-use Rattle.hq_judging.specs.Reports.{with_feed}
+use Rattle.hq_status.specs.Reports.{with_feed}
 
 -- a buffer's name and its bytes as hexadecimal digits
 abbrev pub buffer_line : List ℕ → List ℕ → List ℕ

@@ -12,8 +12,8 @@ use Rattle.hq_judging.specs.Audit.{NotOrdered}
 use Rattle.hq_engines.specs.declared.change.Aim.{Aim}
 use Rattle.hq_engines.specs.declared.change.Aim.TheVariants as aim
 use Rattle.hq_engines.specs.declared.change.Changed.{Changed}
-use Rattle.hq_judging.specs.declared.status.Status.{Status}
-use Rattle.hq_judging.specs.declared.status.Status.TheVariants.{Done}
+use Rattle.hq_status.specs.declared.status.Status.{Status}
+use Rattle.hq_status.specs.declared.status.Status.TheVariants.{Done}
 
 -- k is the job as the aim has it: with the least that it lacks, or without all that it doesn't need
 abbrev pub IsChanged : Aim → Job → Job → Type 0

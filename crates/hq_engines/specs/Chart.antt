@@ -5,9 +5,9 @@ use Rattle.hq_job.specs.Value.{JobValue}
 use Rattle.hq_machine.specs.declared.event.Event.{Event}
 use Rattle.hq_timeline.specs.Replays.{Replayed, StopsAt}
 use Rattle.hq_chart.specs.Chart.{chart_text}
-use Rattle.hq_judging.specs.Reports.{with_feed}
-use Rattle.hq_judging.specs.declared.status.Status.{Status}
-use Rattle.hq_judging.specs.declared.status.Status.TheVariants.{Done, DrawnUntil, Memory}
+use Rattle.hq_status.specs.Reports.{with_feed}
+use Rattle.hq_status.specs.declared.status.Status.{Status}
+use Rattle.hq_status.specs.declared.status.Status.TheVariants.{Done, DrawnUntil, Memory}
 
 -- What is written of a job and events: their picture, with what happens to copies where that is asked for; or that
 -- of the events before the first one that isn't enabled, which says so.

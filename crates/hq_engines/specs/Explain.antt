@@ -5,10 +5,10 @@ use Rattle.hq_job.specs.Value.{JobValue}
 use Rattle.hq_explain.specs.Explained.{Explained}
 use Rattle.hq_explain.specs.Told.{Broken}
 use Rattle.hq_explain.specs.declared.which.Which.{Which}
-use Rattle.hq_audit.specs.declared.found.Found.{Found}
-use Rattle.hq_judging.specs.Reports.{with_feed}
-use Rattle.hq_judging.specs.declared.status.Status.{Status}
-use Rattle.hq_judging.specs.declared.status.Status.TheVariants as status
+use Rattle.hq_finding.specs.declared.found.Found.{Found}
+use Rattle.hq_status.specs.Reports.{with_feed}
+use Rattle.hq_status.specs.declared.status.Status.{Status}
+use Rattle.hq_status.specs.declared.status.Status.TheVariants as status
 
 -- What is written of a job: the explanation of the pairs that are asked for, whose status says what an audit finds,
 -- of one pair what it finds of that; or some of the pairs, and that memory ran out.

@@ -4,10 +4,10 @@ use Rattle.hq_job.specs.Plan.{plan}
 use Rattle.hq_job.specs.Value.{JobValue}
 use Rattle.hq_graph.specs.Graph.{GraphText}
 use Rattle.hq_graph.specs.Order.{IsFound}
-use Rattle.hq_audit.specs.declared.found.Found.{Found}
-use Rattle.hq_judging.specs.Reports.{with_feed}
-use Rattle.hq_judging.specs.declared.status.Status.{Status}
-use Rattle.hq_judging.specs.declared.status.Status.TheVariants.{Drawn, Memory}
+use Rattle.hq_finding.specs.declared.found.Found.{Found}
+use Rattle.hq_status.specs.Reports.{with_feed}
+use Rattle.hq_status.specs.declared.status.Status.{Status}
+use Rattle.hq_status.specs.declared.status.Status.TheVariants.{Drawn, Memory}
 
 -- What is written of a job: the picture of its order, whose status says what an audit finds; or that memory ran out.
 pub data GraphReport (job : JobValue) : List ℕ → Status → Type 0 where

@@ -1,8 +1,8 @@
 -- What is written to two writers: a run's timeline, where it is asked for, and the answer.
 use Rattle.std.specs.Prelude.{◌≡◌, ◌⊎◌, ℕ, List, Option, Some, None}
 use Rattle.std.specs.Io.KnownBytes.{Appends}
-use Rattle.hq_judging.specs.declared.status.Status.{Status}
-use Rattle.hq_judging.specs.declared.status.Status.TheVariants.{File}
+use Rattle.hq_status.specs.declared.status.Status.{Status}
+use Rattle.hq_status.specs.declared.status.Status.TheVariants.{File}
 
 -- what a writer holds, where there is one
 abbrev pub contents_in : {T : Type 0} → (T → Option (List ℕ)) → Option T → Option (List ℕ)

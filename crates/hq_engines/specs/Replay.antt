@@ -14,12 +14,12 @@ use Rattle.hq_timeline.specs.declared.fault.TimeReason.TheVariants as reason
 use Rattle.hq_timeline.specs.declared.fault.ReplayFault.{ReplayFault}
 use Rattle.hq_timeline.specs.declared.fault.ReplayFault.TheVariants as fault
 use Rattle.hq_engines.specs.Buffers.{buffers_text}
-use Rattle.hq_judging.specs.Reports.{Said, with_feed}
-use Rattle.hq_judging.specs.declared.status.Status.{Status}
-use Rattle.hq_judging.specs.declared.status.TimelineFault.{TimelineFault}
-use Rattle.hq_judging.specs.declared.status.TimelineReason.{TimelineReason}
-use Rattle.hq_judging.specs.declared.status.TimelineReason.TheVariants as told
-use Rattle.hq_judging.specs.declared.status.Status.TheVariants.{Done, TimelineRefused, NotEnabled, Memory}
+use Rattle.hq_status.specs.Reports.{Said, with_feed}
+use Rattle.hq_status.specs.declared.status.Status.{Status}
+use Rattle.hq_status.specs.declared.status.TimelineFault.{TimelineFault}
+use Rattle.hq_status.specs.declared.status.TimelineReason.{TimelineReason}
+use Rattle.hq_status.specs.declared.status.TimelineReason.TheVariants as told
+use Rattle.hq_status.specs.declared.status.Status.TheVariants.{Done, TimelineRefused, NotEnabled, Memory}
 
 -- ---- the lines
 

@@ -2,8 +2,8 @@
 use Rattle.std.specs.Prelude.{◌≡◌, ℕ, ◌⊎◌, List, [], ◌++◌, Option, Some, None, codes}
 use Rattle.std.specs.Fmt.{decimal}
 use Rattle.std.specs.Io.KnownBytes.{Appends}
-use Rattle.hq_fence.specs.Names.{kind_name}
-use Rattle.hq_fence.specs.declared.shown.Kind.{Kind}
+use Rattle.hq_finding.specs.Names.{kind_name}
+use Rattle.hq_finding.specs.declared.kind.Kind.{Kind}
 use Rattle.hq_job.specs.Plan.{plan}
 use Rattle.hq_job.specs.Value.{JobValue}
 use Rattle.hq_model.specs.Fence.{Ordered}
@@ -16,12 +16,12 @@ use Rattle.hq_witness.specs.declared.origin.Origin.TheVariants as origin
 use Rattle.hq_witness.specs.declared.place.Place.{Place}
 use Rattle.hq_witness.specs.declared.place.Place.TheVariants as place
 use Rattle.hq_judging.specs.Audit.{NotOrdered}
-use Rattle.hq_judging.specs.Reports.{with_feed}
-use Rattle.hq_judging.specs.declared.status.Difference.{Difference}
-use Rattle.hq_judging.specs.declared.status.Differs.{Differs}
-use Rattle.hq_judging.specs.declared.status.Differs.TheVariants as differs
-use Rattle.hq_judging.specs.declared.status.Status.{Status}
-use Rattle.hq_judging.specs.declared.status.Status.TheVariants.{Done, Shown, Memory, File}
+use Rattle.hq_status.specs.Reports.{with_feed}
+use Rattle.hq_status.specs.declared.status.Difference.{Difference}
+use Rattle.hq_status.specs.declared.status.Differs.{Differs}
+use Rattle.hq_status.specs.declared.status.Differs.TheVariants as differs
+use Rattle.hq_status.specs.declared.status.Status.{Status}
+use Rattle.hq_status.specs.declared.status.Status.TheVariants.{Done, Shown, Memory, File}
 
 -- ---- the lines
 

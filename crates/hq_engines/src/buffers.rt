@@ -4,11 +4,11 @@ ghost use Rattle.std.specs.Prelude.{◌≡◌, ◌≤◌, ◌++◌, ◌⊎◌, I
 ghost use Rattle.std.specs.List.{flat_map};
 ghost use Rattle.hq_job.specs.Blocks.{bytes_of};
 ghost use Rattle.hq_job.specs.Plan.{plan};
-ghost use Rattle.hq_judging.specs.Reports.{Said, with_feed};
+ghost use Rattle.hq_status.specs.Reports.{Said, with_feed};
 ghost use Rattle.hq_engines.specs.Buffers.{buffer_line, buffers_text};
 
 use hq_job::{Block, Job};
-use hq_judging::{Status, say_memory, say_text};
+use hq_status::{Status, say_memory, say_text};
 use std::alloc::{AllocError, Global};
 use std::io::Write;
 

@@ -8,13 +8,14 @@ ghost use Rattle.hq_job.specs.Rewritten.{TextRewritten, heads_of, job_with_heads
 ghost use Rattle.hq_audit.specs.Refused.{IsRefused};
 ghost use Rattle.hq_audit.specs.declared.fault.AuditNo.TheVariants.{Memory};
 ghost use Rattle.hq_engines.specs.Change.{ChangeReport, IsChanged, TellsChange, TellsText, judged_job};
-ghost use Rattle.hq_judging.specs.Reports.{JobTextReport, OfReader, ReaderReport, Reported};
+ghost use Rattle.hq_status.specs.Reports.{JobTextReport, OfReader, ReaderReport, Reported};
 
 use hq_audit::AuditNo;
 use hq_change::{Watch, fix, trim};
 use hq_job::{Job, rewrite};
 use hq_judging::laws::stuck_exactly;
-use hq_judging::{Status, let_go, say_no_certificate, say_text, take_job_text};
+use hq_judging::say_no_certificate;
+use hq_status::{Status, let_go, say_text, take_job_text};
 use hq_packet::Head;
 use std::alloc::{AllocError, Global};
 use std::io::{Read, Write};

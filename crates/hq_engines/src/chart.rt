@@ -6,12 +6,12 @@ ghost use Rattle.hq_job.specs.Plan.{plan};
 ghost use Rattle.hq_timeline.specs.Replays.{NotReplayed};
 ghost use Rattle.hq_engines.specs.Chart.{ChartReport};
 ghost use Rattle.hq_engines.specs.Replay.{TimelineReport};
-ghost use Rattle.hq_judging.specs.Reports.{JobTextReport, ReaderReport, Reported, Said, with_feed};
+ghost use Rattle.hq_status.specs.Reports.{JobTextReport, ReaderReport, Reported, Said, with_feed};
 
 use crate::replay::take_journal;
 use hq_chart::{ChartFault, chart};
 use hq_job::Job;
-use hq_judging::{Status, let_go, say_memory, take_job};
+use hq_status::{Status, let_go, say_memory, take_job};
 use hq_machine::{Event, Journal};
 use hq_timeline::{ReplayFault, replay};
 use std::alloc::Global;

@@ -1,11 +1,11 @@
 //! `hsaq explain`: why a job's conflicts are ordered, or aren't.
 
 ghost use Rattle.hq_engines.specs.Explain.{ExplainReport};
-ghost use Rattle.hq_judging.specs.Reports.{JobTextReport, ReaderReport, Reported};
+ghost use Rattle.hq_status.specs.Reports.{JobTextReport, ReaderReport, Reported};
 
 use hq_explain::{ExplainFault, Which, explain};
 use hq_job::Job;
-use hq_judging::{Status, let_go, say_memory, take_job};
+use hq_status::{Status, let_go, say_memory, take_job};
 use std::alloc::Global;
 use std::io::{Read, Write};
 

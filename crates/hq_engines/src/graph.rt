@@ -1,11 +1,11 @@
 //! `hsaq graph`: a picture of a job's order.
 
 ghost use Rattle.hq_engines.specs.Graph.{GraphReport};
-ghost use Rattle.hq_judging.specs.Reports.{JobTextReport, ReaderReport, Reported};
+ghost use Rattle.hq_status.specs.Reports.{JobTextReport, ReaderReport, Reported};
 
 use hq_graph::{GraphFault, graph};
 use hq_job::Job;
-use hq_judging::{Status, let_go, say_memory, take_job};
+use hq_status::{Status, let_go, say_memory, take_job};
 use std::alloc::Global;
 use std::io::{Read, Write};
 

@@ -5,13 +5,11 @@ ghost use Rattle.hq_text.specs.Lines.{lines_of};
 ghost use Rattle.hq_timeline.specs.Grammar.{TimeText};
 ghost use Rattle.hq_engines.specs.Replay.{NoTimeline, SaysNoTimeline, StopSaid, RunReport, TimelineReport};
 ghost use Rattle.hq_engines.specs.Replay.{event_refusal, time_refusal, told_of};
-ghost use Rattle.hq_judging.specs.Reports.{JobTextReport, OfReader, ReaderReport, Reported};
+ghost use Rattle.hq_status.specs.Reports.{JobTextReport, OfReader, ReaderReport, Reported};
 
 use crate::buffers::say_buffers;
 use hq_job::Job;
-use hq_judging::{
-    Status, TimelineFault, TimelineReason, let_go, say, say_file, say_memory, take_job,
-};
+use hq_status::{Status, TimelineFault, TimelineReason, let_go, say, say_file, say_memory, take_job};
 use hq_machine::Journal;
 use hq_timeline::{ReadFault, ReplayFault, TimeFault, TimeReason, read, replay};
 use std::alloc::Global;

@@ -6,8 +6,8 @@ use Rattle.hq_job.specs.Value.{JobValue}
 use Rattle.hq_model.specs.Job.{Job, IsPacket}
 use Rattle.hq_graph.specs.Graph.{Wrote}
 use Rattle.hq_graph.specs.Order.{IsFound}
-use Rattle.hq_audit.specs.declared.found.Found.{Found}
-use Rattle.hq_audit.specs.declared.found.Found.TheVariants as found
+use Rattle.hq_finding.specs.declared.found.Found.{Found}
+use Rattle.hq_finding.specs.declared.found.Found.TheVariants as found
 use Rattle.hq_explain.specs.Explain.{PairText}
 use Rattle.hq_explain.specs.Explained.{AreTwo, Explained, HasOrder, PairSaid, StuckText, found_if}
 use Rattle.hq_explain.specs.Explained.Explained.{stuck, first, all, pair}

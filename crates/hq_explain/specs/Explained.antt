@@ -6,8 +6,8 @@ use Rattle.hq_model.specs.Order.{OrderList, Stuck}
 use Rattle.hq_graph.specs.Graph.{Is, Each, Where}
 use Rattle.hq_fence.specs.Judgement.{HaveConflict}
 use Rattle.hq_graph.specs.Order.{IsFound, Awaits}
-use Rattle.hq_audit.specs.declared.found.Found.{Found}
-use Rattle.hq_audit.specs.declared.found.Found.TheVariants as found
+use Rattle.hq_finding.specs.declared.found.Found.{Found}
+use Rattle.hq_finding.specs.declared.found.Found.TheVariants as found
 use Rattle.hq_graph.specs.declared.wait.Wait.{Wait}
 use Rattle.hq_explain.specs.Explain.{PairText}
 use Rattle.hq_explain.specs.Told.{AllText}

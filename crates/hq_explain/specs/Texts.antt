@@ -10,13 +10,13 @@ use Rattle.hq_job.specs.declared.rows.Queue.{Queue}
 use Rattle.hq_model.specs.Job.{place_in_queue}
 use Rattle.hq_fence.specs.declared.shown.Acquire.{Acquire}
 use Rattle.hq_fence.specs.declared.shown.Acquire.TheVariants as acquire
-use Rattle.hq_fence.specs.declared.shown.Kind.{Kind}
-use Rattle.hq_fence.specs.declared.shown.Kind.TheVariants as kind
+use Rattle.hq_finding.specs.declared.kind.Kind.{Kind}
+use Rattle.hq_finding.specs.declared.kind.Kind.TheVariants as kind
 use Rattle.hq_fence.specs.declared.shown.Release.{Release}
 use Rattle.hq_fence.specs.declared.shown.Release.TheVariants as release
 use Rattle.hq_fence.specs.declared.shown.Shown.{Shown}
-use Rattle.hq_fence.specs.declared.shown.Why.{Why}
-use Rattle.hq_fence.specs.declared.shown.Why.TheVariants as why
+use Rattle.hq_finding.specs.declared.why.Why.{Why}
+use Rattle.hq_finding.specs.declared.why.Why.TheVariants as why
 use Rattle.hq_graph.specs.Graph.{name_of, named_by, awaited_by, work_of, work_text}
 use Rattle.hq_graph.specs.declared.rule.Rule.{Rule}
 use Rattle.hq_graph.specs.declared.rule.Rule.TheVariants as rule

@@ -8,7 +8,8 @@ ghost use Rattle.hq_explain.specs.Texts.{no_hows, part_text, release_text, rw_ho
 ghost use Rattle.hq_explain.specs.Texts.{two_acquires, two_releases, ww_how, wr_how};
 
 use crate::sharing::{Run, run_between};
-use hq_fence::{Acquire, Kind, Release, Shown};
+use hq_fence::{Acquire, Release, Shown};
+use hq_finding::Kind;
 use hq_job::Job;
 use std::io::Write;
 use std::{fmt, io};

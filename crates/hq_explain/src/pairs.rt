@@ -16,7 +16,7 @@ use crate::fault::ExplainFault;
 use crate::packets::write_head;
 use crate::paths::write_path;
 use hq_audit::{Directed, Unshown, direct};
-use hq_fence::Why;
+use hq_finding::Why;
 use hq_job::Job;
 use hq_order::Before;
 use std::alloc::Global;

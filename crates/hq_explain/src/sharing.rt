@@ -3,7 +3,7 @@
 ghost use Rattle.std.specs.Prelude.{◌≡◌, ◌∷◌, []};
 ghost use Rattle.hq_explain.specs.Shared.{common, first_common, run_between, run_of};
 
-use hq_fence::Kind;
+use hq_finding::Kind;
 use hq_footprint::{Footprint, Range};
 use hq_job::Job;
 use hq_report::{Spot, spot_of};

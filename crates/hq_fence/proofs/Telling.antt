@@ -11,8 +11,8 @@ use Rattle.hq_fence.specs.Judgement.{begin_of, end_of, first_of, IsRelease, IsAc
 use Rattle.hq_footprint.specs.declared.conflicts.Kinds.{Kinds}
 use Rattle.hq_job.specs.Conflicts.{HasConflicts}
 use Rattle.hq_model.proofs.Fences.{shown_is_before}
-use Rattle.hq_fence.specs.declared.shown.Kind.{Kind}
-use Rattle.hq_fence.specs.declared.shown.Why.TheVariants as why
+use Rattle.hq_finding.specs.declared.kind.Kind.{Kind}
+use Rattle.hq_finding.specs.declared.why.Why.TheVariants as why
 use Rattle.hq_fence.specs.Asking.{Answers}
 use Rattle.hq_fence.specs.declared.search.Ending.{Ending}
 use Rattle.hq_fence.specs.declared.search.Ending.TheVariants as ending
@@ -26,7 +26,7 @@ use Rattle.hq_fence.specs.declared.shown.Release.{Release}
 use Rattle.hq_fence.specs.declared.shown.Release.TheVariants as release
 use Rattle.hq_fence.specs.declared.shown.Shown.{Shown}
 use Rattle.hq_fence.specs.declared.shown.NotShown.{NotShown}
-use Rattle.hq_fence.specs.declared.shown.Kind.TheVariants as kind
+use Rattle.hq_finding.specs.declared.kind.Kind.TheVariants as kind
 
 -- the last packet of an acquire
 last_of : Acquire → ℕ

@@ -12,10 +12,10 @@ use Rattle.hq_fence.specs.declared.shown.Acquire.{Acquire}
 use Rattle.hq_fence.specs.declared.shown.Acquire.TheVariants as acquire
 use Rattle.hq_fence.specs.declared.shown.Shown.{Shown}
 use Rattle.hq_fence.specs.declared.shown.NotShown.{NotShown}
-use Rattle.hq_fence.specs.declared.shown.Kind.{Kind}
-use Rattle.hq_fence.specs.declared.shown.Kind.TheVariants as kind
-use Rattle.hq_fence.specs.declared.shown.Why.{Why}
-use Rattle.hq_fence.specs.declared.shown.Why.TheVariants as why
+use Rattle.hq_finding.specs.declared.kind.Kind.{Kind}
+use Rattle.hq_finding.specs.declared.kind.Kind.TheVariants as kind
+use Rattle.hq_finding.specs.declared.why.Why.{Why}
+use Rattle.hq_finding.specs.declared.why.Why.TheVariants as why
 
 -- the two conflict in some way, a first
 abbrev pub HaveConflict : Job → ℕ → ℕ → Type 0

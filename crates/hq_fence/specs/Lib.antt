@@ -1,4 +1,3 @@
 pub mod Spans
 pub mod Judgement
 pub mod Asking
-pub mod Names

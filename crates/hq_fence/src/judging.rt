@@ -8,11 +8,12 @@ ghost use Rattle.hq_model.specs.Order as order;
 ghost use Rattle.hq_model.specs.Fence as model;
 ghost use Rattle.hq_fence.specs.Judgement.{HaveConflict, ReleasesBefore, ReleasesToAcquire, Shows, IsNotShown};
 ghost use Rattle.hq_fence.specs.Judgement.{flag_of, IsFirstKind};
-ghost use Rattle.hq_fence.specs.declared.shown.Kind as shown;
+ghost use Rattle.hq_finding.specs.declared.kind.Kind as shown;
 
 use crate::fences::{need, releases};
 use crate::search::{Ending, Goal, Search};
-use crate::shown::{Acquire, Kind, NotShown, Release, Shown, Why};
+use crate::shown::{Acquire, NotShown, Release, Shown};
+use hq_finding::{Kind, Why};
 use hq_footprint::Kinds;
 use hq_order::Before;
 

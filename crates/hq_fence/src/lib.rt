@@ -14,4 +14,4 @@ mod shown;
 mod span;
 
 pub use judging::{have_conflict, judge, judge_at_once, judge_kinds};
-pub use shown::{Acquire, Kind, NotShown, Release, Shown, Why};
+pub use shown::{Acquire, NotShown, Release, Shown};

@@ -1,8 +1,6 @@
 //! What is answered of two packets, `p` and `r`, with `p` first.
 
-ghost use Rattle.std.specs.Prelude.{Some};
-
-use std::fmt;
+use hq_finding::{Kind, Why};
 
 /// The packets whose release fences release `p`, by number: one alone; or one that releases to its agent, and a
 /// later one on that agent that releases to the system.
@@ -29,51 +27,6 @@ pub struct Shown {
     pub ww: Option<Release>,
     /// Whether `p` reads what `r` writes. No fence is needed for that.
     pub rw: bool,
-}
-
-/// A kind of conflict: `p` writes what `r` reads, both write, `p` reads what `r` writes.
-#[derive(Clone, Copy, Debug, PartialEq, Eq)]
-pub enum Kind {
-    WriteRead,
-    WriteWrite,
-    ReadWrite,
-}
-
-impl fmt::Display for Kind {
-    ghost use Rattle.hq_fence.specs.Names.{kind_name};
-
-    ghost output = { λ kind. Some (kind_name kind) };
-
-    fn fmt<W: fmt::Write>(&self, f: &mut fmt::Formatter<W>) -> fmt::Result {
-        f.write_str(match self {
-            Kind::WriteRead => "wr",
-            Kind::WriteWrite => "ww",
-            Kind::ReadWrite => "rw",
-        })
-    }
-}
-
-/// Why a conflict isn't ordered: `p` isn't before `r`, `p` isn't released before `r`, or `r` acquires nothing after
-/// such a release.
-#[derive(Clone, Copy, Debug, PartialEq, Eq)]
-pub enum Why {
-    Unordered,
-    NotReleased,
-    NotAcquired,
-}
-
-impl fmt::Display for Why {
-    ghost use Rattle.hq_fence.specs.Names.{why_name};
-
-    ghost output = { λ why. Some (why_name why) };
-
-    fn fmt<W: fmt::Write>(&self, f: &mut fmt::Formatter<W>) -> fmt::Result {
-        f.write_str(match self {
-            Why::Unordered => "Unordered",
-            Why::NotReleased => "NotReleased",
-            Why::NotAcquired => "NotAcquired",
-        })
-    }
 }
 
 /// A conflict that isn't ordered, and why.

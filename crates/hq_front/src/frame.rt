@@ -1,7 +1,7 @@
 //! From the words of a command line to an exit status.
 
-use hq_judging::{Status, say_memory};
 use hq_plain::explain;
+use hq_status::{Status, say_memory};
 use hq_words::WordsFault;
 use std::alloc::{AllocError, Global};
 use std::io::Write;

@@ -3,8 +3,8 @@
 use crate::input::{Input, open, open_file};
 use crate::output::{Output, create};
 use hq_job::Job;
-use hq_judging::{Status, say_file, say_memory, take_job};
 use hq_plain::explain_unopened;
+use hq_status::{Status, say_file, say_memory, take_job};
 use std::io;
 use std::io::{BufReader, Write};
 

@@ -15,7 +15,7 @@ use Rattle.hq_audit.specs.declared.directed.Unshown.{Unshown}
 use Rattle.hq_audit.specs.declared.fault.AuditNo.TheVariants as audit
 use Rattle.hq_audit.specs.Refused.{AllShown, IsFirstUnshown}
 use Rattle.hq_audit.proofs.Certifying.{ordered_is_not_refused, shown_is_ordered}
-use Rattle.hq_audit.specs.declared.found.Found.TheVariants as found
+use Rattle.hq_finding.specs.declared.found.Found.TheVariants as found
 use Rattle.hq_graph.specs.declared.rule.Rule.{Rule}
 use Rattle.hq_graph.specs.declared.rule.Rule.TheVariants as rule
 use Rattle.hq_graph.specs.declared.wait.Wait.{Wait}

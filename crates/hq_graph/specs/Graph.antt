@@ -16,7 +16,7 @@ use Rattle.hq_job.specs.declared.rows.Placed.{Placed}
 use Rattle.hq_job.specs.declared.rows.Queue.{Queue}
 use Rattle.hq_model.specs.Job.{Job}
 use Rattle.hq_model.specs.Order.{Stuck}
-use Rattle.hq_fence.specs.Names.{kind_name, why_name}
+use Rattle.hq_finding.specs.Names.{kind_name, why_name}
 use Rattle.hq_fence.specs.declared.shown.Release.{Release}
 use Rattle.hq_fence.specs.declared.shown.Release.TheVariants as release
 use Rattle.hq_fence.specs.declared.shown.Acquire.{Acquire}

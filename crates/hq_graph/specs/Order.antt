@@ -8,8 +8,8 @@ use Rattle.hq_graph.specs.declared.rule.Rule.{Rule}
 use Rattle.hq_graph.specs.declared.rule.Rule.TheVariants as rule
 use Rattle.hq_graph.specs.declared.wait.Wait.{Wait}
 use Rattle.hq_graph.specs.declared.wait.Wait.TheVariants as wait
-use Rattle.hq_audit.specs.declared.found.Found.{Found}
-use Rattle.hq_audit.specs.declared.found.Found.TheVariants as found
+use Rattle.hq_finding.specs.declared.found.Found.{Found}
+use Rattle.hq_finding.specs.declared.found.Found.TheVariants as found
 
 -- p is before r, and no packet is between them: a pair of the order's transitive reduction. A packet of a circle,
 -- which no job with an order list has, is before itself and so between itself and any other: no step begins or ends

@@ -16,7 +16,7 @@ use crate::part::Part;
 use crate::rows::steps_of;
 use crate::sight::Sight;
 use crate::stuck::stuck_of;
-use hq_audit::Found;
+use hq_finding::Found;
 use hq_job::Job;
 use hq_order::Before;
 use hq_parts::Parts;

@@ -5,7 +5,8 @@ ghost use Rattle.hq_graph.specs.Known.{TellsStuck};
 ghost use Rattle.hq_graph.specs.Order.{IsFound};
 
 use crate::stuck::Stuck;
-use hq_audit::{Found, all_shown};
+use hq_audit::all_shown;
+use hq_finding::Found;
 use hq_order::Before;
 use hq_parts::Parts;
 

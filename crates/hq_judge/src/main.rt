@@ -2,8 +2,9 @@
 //! is, which has all commands.
 #![tactic(auto)]
 
-use hq_front::{exit_code, finished, judged, say_words, texts_of, words_of};
-use hq_judging::{Status, say_memory};
+use hq_commands::judged;
+use hq_front::{exit_code, finished, say_words, texts_of, words_of};
+use hq_status::{Status, say_memory};
 use hq_words::{Asked, command_of};
 use std::io;
 use std::io::{BufWriter, Write};

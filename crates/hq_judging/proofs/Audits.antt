@@ -11,9 +11,9 @@ use Rattle.hq_audit.specs.declared.fault.AuditNo.TheVariants as no
 use Rattle.hq_judging.specs.Audit.{JobReport, NeverComplete, StuckExactly, NoSaid, NotOrdered, stuck_text, conflict_text}
 use Rattle.hq_judging.specs.Audit.JobReport.{ordered, not_ordered}
 use Rattle.hq_judging.specs.Audit.NotOrdered.{stuck, conflict, no_memory}
-use Rattle.hq_judging.specs.Reports.{Reported, Said, with_feed}
-use Rattle.hq_judging.specs.declared.status.Status.{Status}
-use Rattle.hq_judging.specs.declared.status.Status.TheVariants as status
+use Rattle.hq_status.specs.Reports.{Reported, Said, with_feed}
+use Rattle.hq_status.specs.declared.status.Status.{Status}
+use Rattle.hq_status.specs.declared.status.Status.TheVariants as status
 
 never_complete : StuckExactly → (job : Job) → Valid job → (packets : List ℕ) → AreStuck job packets → NeverComplete job packets
 never_complete law job valid packets are = record {

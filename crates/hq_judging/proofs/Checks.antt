@@ -21,11 +21,11 @@ use Rattle.hq_certcheck.specs.declared.fault.CheckNo.{CheckNo}
 use Rattle.hq_judging.specs.Check.{CheckedReport, CertReport, Checked, accepted_text, refusal_text, refusal_status}
 use Rattle.hq_judging.specs.Check.CheckedReport.{accepted, refused as unaccepted}
 use Rattle.hq_judging.specs.Check.CertReport.{checked, no_certificate}
-use Rattle.hq_judging.specs.Reports.{OfReader, ReaderReport, Reported, Said, with_feed}
-use Rattle.hq_judging.specs.Reports.ReaderReport.{of_text, no_memory}
-use Rattle.hq_judging.proofs.ReadTexts.{of_reader, missing, found}
-use Rattle.hq_judging.specs.declared.status.Status.{Status}
-use Rattle.hq_judging.specs.declared.status.Status.TheVariants.{Done, CertificateRefused, Memory}
+use Rattle.hq_status.specs.Reports.{OfReader, ReaderReport, Reported, Said, with_feed}
+use Rattle.hq_status.specs.Reports.ReaderReport.{of_text, no_memory}
+use Rattle.hq_status.proofs.ReadTexts.{of_reader, missing, found}
+use Rattle.hq_status.specs.declared.status.Status.{Status}
+use Rattle.hq_status.specs.declared.status.Status.TheVariants.{Done, CertificateRefused, Memory}
 
 -- a fault that isn't of memory is the text's
 own : (text : List ℕ) (fault : CertFault) → HasFault (lines_of text) fault → ¬ (fault.reason ≡ reason.Memory) → FirstFault (lines_of text) fault

@@ -1,9 +1,3 @@
-pub mod NoJobs
-pub mod Shows
-pub mod Queues
-pub mod Packs
-pub mod PackReports
 pub mod Audits
 pub mod Checks
-pub mod ReadTexts
-pub mod WholeTexts
+mod Numbers

@@ -8,16 +8,16 @@ use Rattle.hq_model.specs.Machine.Phase.{Complete}
 use Rattle.hq_model.specs.Finishing.{StandstillLaw, StuckExact}
 use Rattle.hq_model.specs.Certificate.{Certificate, CertHolds}
 use Rattle.hq_order.specs.Placing.{AreStuck}
-use Rattle.hq_fence.specs.Names.{kind_name, why_name}
-use Rattle.hq_fence.specs.declared.shown.Kind.{Kind}
-use Rattle.hq_fence.specs.declared.shown.Why.{Why}
+use Rattle.hq_finding.specs.Names.{kind_name, why_name}
+use Rattle.hq_finding.specs.declared.kind.Kind.{Kind}
+use Rattle.hq_finding.specs.declared.why.Why.{Why}
 use Rattle.hq_audit.specs.Refused.{IsRefused}
 use Rattle.hq_audit.specs.declared.fault.AuditNo.{AuditNo}
 use Rattle.hq_audit.specs.declared.fault.AuditNo.TheVariants as no
 use Rattle.hq_cert.specs.Printed.{text_of}
-use Rattle.hq_judging.specs.Reports.{Said, with_feed}
-use Rattle.hq_judging.specs.declared.status.Status.{Status}
-use Rattle.hq_judging.specs.declared.status.Status.TheVariants.{Done, Stuck, Conflict, Memory}
+use Rattle.hq_status.specs.Reports.{Said, with_feed}
+use Rattle.hq_status.specs.declared.status.Status.{Status}
+use Rattle.hq_status.specs.declared.status.Status.TheVariants.{Done, Stuck, Conflict, Memory}
 
 -- numbers, each behind a space
 abbrev pub numbers_text : List ℕ → List ℕ

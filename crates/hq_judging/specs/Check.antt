@@ -16,10 +16,10 @@ use Rattle.hq_certcheck.specs.Refusals.{IsRefused}
 use Rattle.hq_certcheck.specs.View.{AcceptedJob}
 use Rattle.hq_certcheck.specs.declared.fault.CheckNo.{CheckNo}
 use Rattle.hq_certcheck.specs.declared.fault.CheckNo.TheVariants as no
-use Rattle.hq_judging.specs.Reports.{Said, with_feed}
-use Rattle.hq_judging.specs.declared.status.CheckFault.TheVariants as check
-use Rattle.hq_judging.specs.declared.status.Status.{Status}
-use Rattle.hq_judging.specs.declared.status.Status.TheVariants.{Done, CertificateRefused, CertificateFails, Memory}
+use Rattle.hq_status.specs.Reports.{Said, with_feed}
+use Rattle.hq_status.specs.declared.status.CheckFault.TheVariants as check
+use Rattle.hq_status.specs.declared.status.Status.{Status}
+use Rattle.hq_status.specs.declared.status.Status.TheVariants.{Done, CertificateRefused, CertificateFails, Memory}
 
 -- ---- the lines
 

@@ -4,16 +4,14 @@ ghost use Rattle.std.specs.Prelude.{◌⊎◌, codes};
 ghost use Rattle.hq_cert.specs.Printed.{text_of};
 ghost use Rattle.hq_job.specs.Plan.{plan};
 ghost use Rattle.hq_judging.specs.Audit.{JobReport};
-ghost use Rattle.hq_judging.specs.Reports.{JobTextReport, ReaderReport, Reported, Said, with_feed};
+ghost use Rattle.hq_status.specs.Reports.{JobTextReport, ReaderReport, Reported, Said, with_feed};
 
 use crate::audit::say_no_certificate;
 use crate::laws::stuck_exactly;
-use crate::saying::say_memory;
-use crate::status::Status;
-use crate::taking::take_job;
 use hq_audit::audit_wide;
 use hq_cert::{Certificate, PrintFault, print_wide};
 use hq_job::Job;
+use hq_status::{Status, say_memory, take_job};
 use std::alloc::Global;
 use std::io::{Read, Write};
 use std::thread::Threads;

@@ -8,14 +8,12 @@ ghost use Rattle.hq_cert.specs.Grammar.{CertText};
 ghost use Rattle.hq_judging.specs.Check.{NoCertificate, SaysNoCertificate, Checked, CheckedReport, CertReport};
 ghost use Rattle.hq_judging.specs.Check.{NoSaid, accepted_text, cert_refusal, bad_line_text, pair_missing_text};
 ghost use Rattle.hq_judging.specs.Check.{bad_pair_text};
-ghost use Rattle.hq_judging.specs.Reports.{JobTextReport, OfReader, ReaderReport, Reported, Said, with_feed};
+ghost use Rattle.hq_status.specs.Reports.{JobTextReport, OfReader, ReaderReport, Reported, Said, with_feed};
 
-use crate::saying::{say, say_file, say_memory};
-use crate::status::{CheckFault, Status};
-use crate::taking::{let_go, take_job};
 use hq_cert::{CertFault, CertReason, Certificate, ReadFault, read};
 use hq_certcheck::{Accepted, CheckNo, check_wide};
 use hq_job::Job;
+use hq_status::{CheckFault, Status, let_go, say, say_file, say_memory, take_job};
 use std::alloc::Global;
 use std::fmt;
 use std::io::{Read, Write};

@@ -2,14 +2,13 @@
 
 ghost use Rattle.std.specs.Prelude.{◌≡◌};
 ghost use Rattle.hq_judging.specs.Check.{CheckedReport, CertReport};
-ghost use Rattle.hq_judging.specs.Reports.{JobTextReport, ReaderReport, Reported};
+ghost use Rattle.hq_status.specs.Reports.{JobTextReport, ReaderReport, Reported};
 
 use crate::check::{say_checked, take_certificate};
-use crate::status::Status;
-use crate::taking::{let_go, take_job};
 use hq_cert::Certificate;
 use hq_certcheck::check;
 use hq_job::Job;
+use hq_status::{Status, let_go, take_job};
 use std::alloc::Global;
 use std::io::{Read, Write};
 

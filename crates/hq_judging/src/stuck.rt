@@ -2,10 +2,10 @@
 
 ghost use Rattle.std.specs.Prelude.{OnOk};
 ghost use Rattle.std.specs.Io.KnownBytes.{Appends};
-ghost use Rattle.hq_judging.specs.Reports.{Said};
+ghost use Rattle.hq_status.specs.Reports.{Said};
 ghost use Rattle.hq_judging.specs.Audit.{numbers_text, stuck_text};
 
-use crate::status::Status;
+use hq_status::Status;
 use std::io;
 use std::io::Write;
 

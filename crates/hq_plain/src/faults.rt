@@ -1,7 +1,7 @@
 //! Faults of certificates, timelines and runs in plain words, for standard error.
 
 use hq_cert::{CertFault, CertReason};
-use hq_judging::{CheckFault, RunFailure, TimelineFault, TimelineReason};
+use hq_status::{CheckFault, RunFailure, TimelineFault, TimelineReason};
 use std::fmt;
 
 /// What is wrong with a certificate's line.

@@ -2,10 +2,9 @@
 //! answer says.
 
 use crate::faults::{CertWords, CheckWords, FailureWords, TimeWords};
-use hq_audit::Found;
-use hq_fence::{Kind, Why};
-use hq_judging::{Difference, Differs, Status};
+use hq_finding::{Found, Kind, Why};
 use hq_report::{JobWords, OffsetText, PacketWords};
+use hq_status::{Difference, Differs, Status};
 use std::{fmt, io};
 
 const WORDS: &str = "these words are no packet; `hsaq pack --help` lists the fields";

@@ -9,14 +9,14 @@ use Rattle.hq_timeline.specs.Printed.{text_of}
 use Rattle.hq_judging.specs.Audit.{NotOrdered}
 use Rattle.hq_judging.specs.Audit.NotOrdered.{no_memory}
 use Rattle.hq_engines.specs.Buffers.{buffers_text}
-use Rattle.hq_judging.specs.Reports.{Reported, Said, with_feed}
+use Rattle.hq_status.specs.Reports.{Reported, Said, with_feed}
 use Rattle.hq_engines.specs.Recording.{BothSaid, Recorded}
 use Rattle.hq_engines.proofs.Recordings.{alone}
 use Rattle.hq_run_engine.specs.Run.{RunReport, failure_text}
 use Rattle.hq_run_engine.specs.Run.RunReport.{ran, not_ordered, stopped}
-use Rattle.hq_judging.specs.declared.status.RunFailure.{RunFailure}
-use Rattle.hq_judging.specs.declared.status.Status.{Status}
-use Rattle.hq_judging.specs.declared.status.Status.TheVariants.{Done, RunFailed, Memory}
+use Rattle.hq_status.specs.declared.status.RunFailure.{RunFailure}
+use Rattle.hq_status.specs.declared.status.Status.{Status}
+use Rattle.hq_status.specs.declared.status.Status.TheVariants.{Done, RunFailed, Memory}
 
 pub ran_reported : (job : JobValue) (events : List Event) (memory : List ℕ) (begun recorded old new : Option (List ℕ)) (answered : Status) → IsWhole (plan job) events memory → IsOneByOne (plan job) memory
     → BothSaid begun recorded (text_of events) old new (buffers_text job.buffers memory) Done answered ⊎ BothSaid begun recorded [] old new (with_feed (codes "out of memory")) Memory answered

@@ -10,11 +10,11 @@ use Rattle.hq_runner.specs.declared.outcome.RunFault.TheVariants as fault
 use Rattle.hq_timeline.specs.Printed.{text_of}
 use Rattle.hq_judging.specs.Audit.{NotOrdered}
 use Rattle.hq_engines.specs.Buffers.{buffers_text}
-use Rattle.hq_judging.specs.Reports.{with_feed}
-use Rattle.hq_judging.specs.declared.status.RunFailure.{RunFailure}
-use Rattle.hq_judging.specs.declared.status.RunFailure.TheVariants as failure
-use Rattle.hq_judging.specs.declared.status.Status.{Status}
-use Rattle.hq_judging.specs.declared.status.Status.TheVariants.{Done, RunFailed}
+use Rattle.hq_status.specs.Reports.{with_feed}
+use Rattle.hq_status.specs.declared.status.RunFailure.{RunFailure}
+use Rattle.hq_status.specs.declared.status.RunFailure.TheVariants as failure
+use Rattle.hq_status.specs.declared.status.Status.{Status}
+use Rattle.hq_status.specs.declared.status.Status.TheVariants.{Done, RunFailed}
 
 -- ---- the lines
 

@@ -6,7 +6,7 @@ ghost use Rattle.hq_kernels.specs.Kits.{KitsFit, bodies_of};
 ghost use Rattle.hq_timeline.specs.Printed.{text_of};
 ghost use Rattle.hq_engines.specs.Buffers.{buffers_text};
 ghost use Rattle.hq_engines.specs.Recording.{BothSaid, Recorded, contents_in};
-ghost use Rattle.hq_judging.specs.Reports.{Said, with_feed};
+ghost use Rattle.hq_status.specs.Reports.{Said, with_feed};
 ghost use Rattle.hq_run_engine.specs.Run.{RunReport, failure_of, failure_text};
 
 use crate::accepting::accept;
@@ -14,7 +14,8 @@ use hq_certcheck::Accepted;
 use hq_engines::{buffers_text_of, write_timeline};
 use hq_job::Job;
 use hq_judging::laws::stuck_exactly;
-use hq_judging::{RunFailure, Status, say, say_file, say_memory, say_no_certificate, say_text};
+use hq_judging::say_no_certificate;
+use hq_status::{RunFailure, Status, say, say_file, say_memory, say_text};
 use hq_kernels::Kit;
 use hq_machine::Journal;
 use hq_runner::{Gate, RunFault, run};

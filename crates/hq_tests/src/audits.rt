@@ -1,4 +1,5 @@
-use hq_audit::{AuditNo, Kind, Why, audit};
+use hq_audit::{AuditNo, audit};
+use hq_finding::{Kind, Why};
 use hq_cert::{Fences, Rule};
 use hq_job::read_text;
 use std::test::*;

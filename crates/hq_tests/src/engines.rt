@@ -1,5 +1,6 @@
 use hq_engines::replay_engine;
-use hq_judging::{audit_engine, pack_engine, show_engine};
+use hq_judging::audit_engine;
+use hq_showing::{pack_engine, show_engine};
 use hq_run_engine::accept;
 use std::io;
 use std::io::{Read, Write};

@@ -1,4 +1,5 @@
-use hq_fence::{Acquire, Kind, NotShown, Release, Shown, Why, judge};
+use hq_fence::{Acquire, NotShown, Release, Shown, judge};
+use hq_finding::{Kind, Why};
 use hq_job::read_text;
 use hq_order::Before;
 use std::test::*;

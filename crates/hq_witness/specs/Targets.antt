@@ -1,8 +1,8 @@
 -- What two runs are to show: a conflict that isn't ordered, and the bytes that it may be about.
 use Rattle.std.specs.Prelude.{ℕ, List}
 use Rattle.hq_audit.specs.declared.directed.Unshown.{Unshown}
-use Rattle.hq_fence.specs.declared.shown.Kind.{Kind}
-use Rattle.hq_fence.specs.declared.shown.Kind.TheVariants as kind
+use Rattle.hq_finding.specs.declared.kind.Kind.{Kind}
+use Rattle.hq_finding.specs.declared.kind.Kind.TheVariants as kind
 use Rattle.hq_model.specs.Job.{Packet}
 use Rattle.hq_witness.specs.declared.target.Target.{Target}
 

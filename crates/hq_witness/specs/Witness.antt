@@ -3,8 +3,8 @@ use Rattle.std.specs.Prelude.{◌≡◌, ◌≢◌, ◌⊎◌, ℕ, List, map}
 use Rattle.hq_audit.specs.declared.fault.AuditNo.{AuditNo}
 use Rattle.hq_audit.specs.declared.fault.AuditNo.TheVariants as audit
 use Rattle.hq_audit.specs.Refused.{IsRefused}
-use Rattle.hq_fence.specs.declared.shown.Kind.{Kind}
-use Rattle.hq_fence.specs.declared.shown.Why.{Why}
+use Rattle.hq_finding.specs.declared.kind.Kind.{Kind}
+use Rattle.hq_finding.specs.declared.why.Why.{Why}
 use Rattle.hq_machine.specs.declared.event.Event.{Event}
 use Rattle.hq_machine.specs.Events.{coarse_of}
 use Rattle.hq_model.specs.Fence.{Ordered}

@@ -13,7 +13,7 @@ use crate::eager::{in_order, with_first};
 use crate::late::late;
 use crate::recording::{Recording, let_go};
 use crate::target::Target;
-use hq_fence::Why;
+use hq_finding::Why;
 use hq_job::Job;
 use hq_machine::Journal;
 use hq_order::Before;

@@ -5,7 +5,7 @@ ghost use Rattle.hq_witness.specs.Witness.{no_of};
 ghost use Rattle.hq_witness.specs.declared.fault.WitnessNo.TheVariants.{Memory};
 
 use hq_audit::AuditNo;
-use hq_fence::{Kind, Why};
+use hq_finding::{Kind, Why};
 use std::alloc::{AllocError, AllocFailed};
 use thiserror::Error;
 

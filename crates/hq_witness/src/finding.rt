@@ -16,7 +16,7 @@ use crate::target::Target;
 use crate::value::Witness;
 use hq_audit::laws::ordered_is_not_refused;
 use hq_audit::{AuditNo, direct, verdict};
-use hq_fence::{Kind, Why};
+use hq_finding::{Kind, Why};
 use hq_job::Job;
 use hq_order::{Before, schedule};
 use std::alloc::{AllocError, Global};

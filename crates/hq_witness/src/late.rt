@@ -10,7 +10,7 @@ use crate::origin::Origin;
 use crate::packets::{acquire_of, agent_of, agent_total, packet_total, queue_of, release_of};
 use crate::recording::{Recording, let_go};
 use crate::target::Target;
-use hq_fence::Kind;
+use hq_finding::Kind;
 use hq_job::Job;
 use hq_machine::Event;
 use hq_order::Before;

@@ -24,7 +24,7 @@ mod value;
 
 pub use fault::WitnessNo;
 pub use finding::witness;
-pub use hq_fence::{Kind, Why};
+pub use hq_finding::{Kind, Why};
 pub use origin::Origin;
 pub use place::Place;
 pub use value::Witness;

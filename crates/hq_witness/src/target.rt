@@ -6,7 +6,7 @@ ghost use Rattle.hq_model.specs.Job.{packet};
 ghost use Rattle.hq_witness.specs.Targets.{other_bytes, written_bytes};
 
 use crate::packets::{reads, writes, written};
-use hq_fence::{Kind, Why};
+use hq_finding::{Kind, Why};
 use hq_job::Job;
 use std::ops::Range;
 

@@ -4,7 +4,7 @@ ghost use Rattle.std.specs.Prelude.{◌≡◌};
 
 use crate::origin::Origin;
 use crate::place::Place;
-use hq_fence::{Kind, Why};
+use hq_finding::{Kind, Why};
 use hq_machine::Journal;
 use std::marker::Model;
 

@@ -1,7 +1,7 @@
 use Rattle.std.proofs.Common.{refl}
 use Rattle.hq_job.specs.Plan.{plan}
 use Rattle.hq_judging.specs.Audit.{JobReport}
-use Rattle.hq_judging.specs.Reports.{JobTextReport}
+use Rattle.hq_status.specs.Reports.{JobTextReport}
 use Rattle.hq_c.proofs.Given.{answers_one}
 use Rattle.hq_c.proofs.hsaq_audit.Goals as goal
 

@@ -1,6 +1,6 @@
 use Rattle.std.proofs.Common.{refl}
 use Rattle.hq_engines.specs.Explain.{ExplainReport}
-use Rattle.hq_judging.specs.Reports.{JobTextReport}
+use Rattle.hq_status.specs.Reports.{JobTextReport}
 use Rattle.hq_explain.specs.declared.which.Which.TheVariants as which
 use Rattle.hq_c.proofs.Given.{answers_one}
 use Rattle.hq_c.proofs.hsaq_explain.Goals as goal

@@ -1,6 +1,6 @@
 use Rattle.std.proofs.Common.{refl}
-use Rattle.hq_judging.specs.Reports.{JobTextReport}
-use Rattle.hq_judging.specs.Show.{ShowReport}
+use Rattle.hq_status.specs.Reports.{JobTextReport}
+use Rattle.hq_showing.specs.Show.{ShowReport}
 use Rattle.hq_c.proofs.Given.{answers_one}
 use Rattle.hq_c.proofs.hsaq_show.Goals as goal
 

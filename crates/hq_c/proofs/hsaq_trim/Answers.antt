@@ -1,6 +1,6 @@
 use Rattle.std.proofs.Common.{refl}
 use Rattle.hq_engines.specs.Change.{ChangeReport}
-use Rattle.hq_judging.specs.Reports.{JobTextReport}
+use Rattle.hq_status.specs.Reports.{JobTextReport}
 use Rattle.hq_engines.specs.declared.change.Aim.TheVariants as aim
 use Rattle.hq_c.proofs.Given.{answers_one}
 use Rattle.hq_c.proofs.hsaq_trim.Goals as goal

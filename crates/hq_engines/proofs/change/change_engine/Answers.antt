@@ -1,6 +1,6 @@
 use Rattle.std.proofs.Common.{ap, subst}
 use Rattle.hq_engines.specs.Change.{ChangeReport}
-use Rattle.hq_judging.specs.Reports.{Reported}
+use Rattle.hq_status.specs.Reports.{Reported}
 use Rattle.hq_engines.proofs.Changes.{change_missing, change_reported, change_told_if}
 use Rattle.hq_engines.proofs.change.change_engine.Goals as goal
 

@@ -1,7 +1,7 @@
 use Rattle.std.proofs.Common.{subst}
 use Rattle.hq_engines.specs.Change.ChangeReport.{changed}
-use Rattle.hq_judging.specs.Reports.{Said}
-use Rattle.hq_judging.specs.declared.status.Status.TheVariants as status
+use Rattle.hq_status.specs.Reports.{Said}
+use Rattle.hq_status.specs.declared.status.Status.TheVariants as status
 use Rattle.hq_engines.proofs.Changes.{no_change}
 use Rattle.hq_engines.proofs.change.change_found.Goals as goal
 

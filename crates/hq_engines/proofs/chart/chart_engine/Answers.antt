@@ -1,8 +1,8 @@
 use Rattle.std.proofs.Common.{ap}
 use Rattle.hq_engines.specs.Chart.{ChartReport}
 use Rattle.hq_engines.specs.Replay.{TimelineReport}
-use Rattle.hq_judging.specs.Reports.{ReaderReport}
-use Rattle.hq_judging.proofs.NoJobs.{job_missing, job_found}
+use Rattle.hq_status.specs.Reports.{ReaderReport}
+use Rattle.hq_status.proofs.NoJobs.{job_missing, job_found}
 use Rattle.hq_engines.proofs.chart.chart_engine.Goals as goal
 
 pub returns-in-Err : goal.returns-in-Err

@@ -1,7 +1,7 @@
 use Rattle.std.proofs.Common.{◌⊎◌, false, codes, subst}
 use Rattle.hq_chart.specs.Chart.{chart_text}
-use Rattle.hq_judging.specs.Reports.{Said, with_feed}
-use Rattle.hq_judging.specs.declared.status.Status.TheVariants.{Done, Memory}
+use Rattle.hq_status.specs.Reports.{Said, with_feed}
+use Rattle.hq_status.specs.declared.status.Status.TheVariants.{Done, Memory}
 use Rattle.hq_engines.proofs.Charts.{drawn_reported}
 use Rattle.hq_engines.proofs.chart.chart_found.Goals as goal
 

@@ -3,8 +3,8 @@ use Rattle.hq_chart.specs.Chart.{chart_text}
 use Rattle.hq_job.specs.Plan.{plan}
 use Rattle.hq_timeline.specs.Replays.{NotReplayed}
 use Rattle.hq_engines.specs.Chart.ChartReport.{no_memory}
-use Rattle.hq_judging.specs.Reports.{Said, with_feed}
-use Rattle.hq_judging.specs.declared.status.Status.TheVariants.{DrawnUntil, Memory}
+use Rattle.hq_status.specs.Reports.{Said, with_feed}
+use Rattle.hq_status.specs.declared.status.Status.TheVariants.{DrawnUntil, Memory}
 use Rattle.hq_engines.proofs.Charts.{stopped_reported}
 use Rattle.hq_engines.proofs.chart.chart_stopped.Goals as goal
 

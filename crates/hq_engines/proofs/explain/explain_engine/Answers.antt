@@ -1,6 +1,6 @@
 use Rattle.std.proofs.Common.{ap}
 use Rattle.hq_engines.specs.Explain.{ExplainReport}
-use Rattle.hq_judging.proofs.NoJobs.{job_missing, job_found}
+use Rattle.hq_status.proofs.NoJobs.{job_missing, job_found}
 use Rattle.hq_engines.proofs.explain.explain_engine.Goals as goal
 
 pub returns-in-Err : goal.returns-in-Err

@@ -1,5 +1,5 @@
 use Rattle.std.proofs.Common.{refl}
-use Rattle.hq_judging.specs.declared.status.Status.TheVariants.{File}
+use Rattle.hq_status.specs.declared.status.Status.TheVariants.{File}
 use Rattle.hq_engines.proofs.Explanations.{explain_broken, explain_reported, explain_unwritten}
 use Rattle.hq_engines.proofs.explain.explain_found.Goals as goal
 

@@ -1,7 +1,7 @@
 use Rattle.std.proofs.Common.{ap, refl, subst, codes}
 use Rattle.hq_engines.specs.Graph.GraphReport.{no_memory}
-use Rattle.hq_judging.specs.Reports.{Said, with_feed}
-use Rattle.hq_judging.specs.declared.status.Status.TheVariants.{Memory, File}
+use Rattle.hq_status.specs.Reports.{Said, with_feed}
+use Rattle.hq_status.specs.declared.status.Status.TheVariants.{Memory, File}
 use Rattle.hq_engines.proofs.Graphs.{graph_reported, graph_unwritten}
 use Rattle.hq_engines.proofs.graph.graph_found.Goals as goal
 

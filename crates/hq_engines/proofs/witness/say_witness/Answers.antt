@@ -1,7 +1,7 @@
 use Rattle.std.proofs.Common.{◌∙◌, ap, codes, refl, subst, Err}
 use Rattle.std.specs.Io.KnownBytes.{Appends}
 use Rattle.hq_timeline.specs.Printed.{text_of}
-use Rattle.hq_judging.specs.Reports.{with_feed}
+use Rattle.hq_status.specs.Reports.{with_feed}
 use Rattle.hq_engines.specs.Recording.{contents_in}
 use Rattle.hq_engines.proofs.Witnesses.{witness_reported, memory_reported, failed_reported}
 use Rattle.hq_engines.proofs.witness.say_witness.Goals as goal

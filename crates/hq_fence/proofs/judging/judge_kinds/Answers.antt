@@ -1,6 +1,6 @@
 use Rattle.std.proofs.Common.{◌≡◌, true, false, sym, ◌∙◌, None, Ok, Err}
 use Rattle.hq_model.specs.Order.{Before}
-use Rattle.hq_fence.specs.declared.shown.Why.TheVariants as why
+use Rattle.hq_finding.specs.declared.why.Why.TheVariants as why
 use Rattle.hq_fence.proofs.Telling.{unordered, nothing_shown, exact, some_acquired}
 use Rattle.hq_fence.proofs.judging.judge_kinds.Goals as goal
 

@@ -1,7 +1,7 @@
 use Rattle.std.proofs.Common.{ap}
 use Rattle.hq_job.specs.Plan.{plan}
 use Rattle.hq_judging.specs.Audit.{JobReport}
-use Rattle.hq_judging.proofs.NoJobs.{job_missing, job_found}
+use Rattle.hq_status.proofs.NoJobs.{job_missing, job_found}
 use Rattle.hq_judging.proofs.audit_wide.audit_wide_engine.Goals as goal
 
 pub returns-in-Err : goal.returns-in-Err

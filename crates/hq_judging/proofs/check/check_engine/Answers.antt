@@ -1,7 +1,7 @@
 use Rattle.std.proofs.Common.{ap}
 use Rattle.hq_judging.specs.Check.{CertReport}
-use Rattle.hq_judging.specs.Reports.{ReaderReport}
-use Rattle.hq_judging.proofs.NoJobs.{job_missing, job_found}
+use Rattle.hq_status.specs.Reports.{ReaderReport}
+use Rattle.hq_status.proofs.NoJobs.{job_missing, job_found}
 use Rattle.hq_judging.proofs.check.check_engine.Goals as goal
 
 pub returns-in-Err : goal.returns-in-Err

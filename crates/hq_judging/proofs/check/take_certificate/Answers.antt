@@ -1,11 +1,11 @@
 use Rattle.std.proofs.Common.{codes}
 use Rattle.hq_cert.specs.Grammar.{CertText}
 use Rattle.hq_text.specs.Lines.{lines_of}
-use Rattle.hq_judging.specs.Reports.{with_feed}
-use Rattle.hq_judging.specs.Reports.ReaderReport.{no_text}
-use Rattle.hq_judging.specs.declared.status.Status.TheVariants.{File}
+use Rattle.hq_status.specs.Reports.{with_feed}
+use Rattle.hq_status.specs.Reports.ReaderReport.{no_text}
+use Rattle.hq_status.specs.declared.status.Status.TheVariants.{File}
 use Rattle.hq_judging.proofs.Checks.{no_certificate_said}
-use Rattle.hq_judging.proofs.ReadTexts.{of_reader, reader_fault, text_fault}
+use Rattle.hq_status.proofs.ReadTexts.{of_reader, reader_fault, text_fault}
 use Rattle.hq_judging.proofs.check.take_certificate.Goals as goal
 
 pub returns-in-Ok-clause-found : goal.returns-in-Ok-clause-found

@@ -1,5 +1,5 @@
 use Rattle.std.proofs.Common.{refl}
-use Rattle.hq_judging.proofs.Shows.{numbers_more}
+use Rattle.hq_judging.proofs.Numbers.{numbers_more}
 use Rattle.hq_judging.proofs.stuck.write_numbers.Goals as goal
 
 pub loop-number-preserved : goal.loop-number-preserved

@@ -1,0 +1,86 @@
+"""Runs hsaq and another program of the same command line in turn, and says what each took."""
+import hashlib
+import os
+import subprocess
+import tempfile
+import time
+
+HERE = os.path.dirname(os.path.abspath(__file__))
+HSAQ = os.path.join(HERE, '..', 'crates', 'hq_cli', 'out', 'hq_cli')
+
+
+def surroundings():
+    """What the script `hsaq` asks the C library for."""
+    with open(os.path.join(HERE, '..', 'hsaq')) as file:
+        tunables = [line.split(':-')[1].rstrip('}\n') for line in file if 'GLIBC_TUNABLES=' in line]
+    os.environ.setdefault('GLIBC_TUNABLES', tunables[0])
+
+
+class Best:
+    """The least processor time on one processor and the least time by the clock on all of the runs so far, and the memory of one, in KB."""
+
+    def __init__(self):
+        self.one, self.all, self.memory = float('inf'), float('inf'), 0
+
+    def run(self, words, core):
+        """Runs the words once more, on one processor or, with None, on all."""
+        pin = None if core is None else lambda: os.sched_setaffinity(0, {core})
+        start = time.perf_counter()
+        with subprocess.Popen(words, stdout=subprocess.DEVNULL, stderr=subprocess.DEVNULL, preexec_fn=pin) as child:
+            _, status, use = os.wait4(child.pid, 0)
+            child.returncode = os.waitstatus_to_exitcode(status)
+        if core is None:
+            self.all = min(self.all, time.perf_counter() - start)
+        else:
+            self.one = min(self.one, use.ru_utime + use.ru_stime)
+
+    def weigh(self, words, note):
+        """Runs the words once more, under a small program that tells how much memory they took."""
+        subprocess.run(['/usr/bin/time', '-f', '%M', '-o', note] + words, stdout=subprocess.DEVNULL, stderr=subprocess.DEVNULL)
+        with open(note) as file:
+            self.memory = int(file.read().split()[-1])
+
+
+def words_for(command, other, job, scratch):
+    """The words of a command behind the program's name; what it reads beside the job is made by OTHER."""
+    if command == 'check':
+        certificate = os.path.join(scratch, 'certificate')
+        with open(certificate, 'wb') as file:
+            subprocess.run([other, 'audit', job], stdout=file, stderr=subprocess.DEVNULL)
+        return [command, job, certificate]
+    if command == 'replay':
+        timeline = os.path.splitext(job)[0] + '.timeline'
+        if not os.path.exists(timeline):
+            timeline = os.path.join(scratch, 'timeline')
+            subprocess.run([other, 'run', job, '--timeline', timeline], stdout=subprocess.DEVNULL, check=True)
+        return [command, job, timeline]
+    return [command, job]
+
+
+def digest(words):
+    return hashlib.sha256(subprocess.run(words, stdout=subprocess.PIPE, stderr=subprocess.DEVNULL).stdout).digest()
+
+
+def compared(hsaq, other, command, job, runs, core):
+    """The best of the runs of both programs, which take turns, and whether both write the same."""
+    with tempfile.TemporaryDirectory() as scratch:
+        words = words_for(command, other, job, scratch)
+        best = [(hsaq, Best()), (other, Best())]
+        for _ in range(runs):
+            for where in (core, None):
+                for program, it in best:
+                    it.run([program] + words, where)
+        for program, it in best:
+            it.weigh([program] + words, os.path.join(scratch, 'note'))
+        return best[0][1], best[1][1], digest([hsaq] + words) == digest([other] + words)
+
+
+HEAD = '%-20s %8s %8s %6s %9s %8s %6s %9s %6s' % ('job', 'one, ms', 'other', 'ratio', 'all, ms', 'other', 'ratio', 'KB', 'ratio')
+
+
+def line(job, ours, theirs, same):
+    """A line of the table: what both took, and the ratios."""
+    name = os.path.splitext(os.path.basename(job))[0]
+    text = '%-20s %8.1f %8.1f %6.2f' % (name, ours.one * 1000, theirs.one * 1000, ours.one / theirs.one)
+    text += ' %9.1f %8.1f %6.2f' % (ours.all * 1000, theirs.all * 1000, ours.all / theirs.all)
+    return text + ' %9d %6.2f%s' % (ours.memory, ours.memory / theirs.memory, '' if same else '  DIFFERENT')

@@ -1,5 +1,0 @@
-use Rattle.hq_judging.proofs.laws.one_pack_report.Goals as goal
-use Rattle.hq_judging.proofs.PackReports.{one_report}
-
-pub returns : goal.returns
-returns c = one_report

@@ -1,0 +1,4 @@
+mod Shows
+mod Queues
+mod Packs
+mod PackReports

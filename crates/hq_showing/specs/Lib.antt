@@ -1,0 +1,3 @@
+pub mod Show
+pub mod Pack
+pub mod Packing

@@ -1,0 +1,4 @@
+pub mod ReadTexts
+pub mod NoJobs
+pub mod WholeTexts
+pub mod Appending
