@@ -1,7 +1,7 @@
 //! `hsaq audit` in many threads.
 
 ghost use Rattle.std.specs.Prelude.{◌⊎◌, codes};
-ghost use Rattle.hq_cert.specs.Printed.{text_of};
+ghost use Rattle.hq_certtext.specs.Printed.{text_of};
 ghost use Rattle.hq_job.specs.Plan.{plan};
 ghost use Rattle.hq_judging.specs.Audit.{JobReport};
 ghost use Rattle.hq_judging.specs.Reports.{JobTextReport, ReaderReport, Reported, Said, with_feed};
@@ -12,7 +12,8 @@ use crate::saying::say_memory;
 use crate::status::Status;
 use crate::taking::take_job;
 use hq_audit::audit_wide;
-use hq_cert::{Certificate, PrintFault, print_wide};
+use hq_cert::Certificate;
+use hq_certtext::{PrintFault, print_wide};
 use hq_job::Job;
 use std::alloc::Global;
 use std::io::{Read, Write};

@@ -4,7 +4,7 @@ ghost use Rattle.std.specs.Prelude.{◌≡◌};
 ghost use Rattle.hq_judging.specs.Statuses.{code_of, code_of_found};
 
 use hq_audit::Found;
-use hq_cert::CertFault;
+use hq_certread::CertFault;
 use hq_fence::{Kind, Why};
 use hq_job::JobFault;
 use hq_packet::PacketFault;
