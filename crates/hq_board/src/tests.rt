@@ -36,7 +36,7 @@ fn accepted(alloc: Global) -> Result<Accepted, Fail> {
     let Ok(job) = hq_job::read_text(alloc, JOB) else {
         return Err("the text is a job".into());
     };
-    let Ok(certificate) = hq_cert::parse(alloc, CERTIFICATE) else {
+    let Ok(certificate) = hq_certread::parse(alloc, CERTIFICATE) else {
         return Err("the text is a certificate".into());
     };
     match check(alloc, job, &certificate) {

@@ -1,14 +1,1 @@
 pub mod View
-pub mod Grammar
-pub mod LineTests
-pub mod TextFaults
-pub mod Gives
-pub mod DraftView
-pub mod Cited
-pub mod Printed
-pub mod LineForms
-pub mod OnePass
-pub mod Rows
-pub mod Gains
-pub mod SoFar
-pub mod Parted

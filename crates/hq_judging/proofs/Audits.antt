@@ -4,7 +4,7 @@ use Rattle.hq_model.specs.Job.{Job}
 use Rattle.hq_model.specs.Certificate.{Certificate, CertHolds}
 use Rattle.hq_model.specs.Theorems.{Valid}
 use Rattle.hq_order.specs.Placing.{AreStuck}
-use Rattle.hq_cert.specs.Printed.{text_of}
+use Rattle.hq_certtext.specs.Printed.{text_of}
 use Rattle.hq_audit.specs.Refused.{IsRefused}
 use Rattle.hq_audit.specs.declared.fault.AuditNo.{AuditNo}
 use Rattle.hq_audit.specs.declared.fault.AuditNo.TheVariants as no

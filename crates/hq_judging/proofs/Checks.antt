@@ -3,11 +3,11 @@ use Rattle.std.proofs.Common.{◌≡◌, ℕ, inl, inr, List, Option, IfOk, IfEr
 use Rattle.hq_text.specs.Lines.{lines_of}
 use Rattle.hq_text.specs.Intake.{OfText}
 use Rattle.hq_text.specs.Turns.{ReadTurn}
-use Rattle.hq_cert.specs.SoFar.{HasFault}
-use Rattle.hq_cert.specs.TextFaults.{FirstFault}
-use Rattle.hq_cert.specs.Grammar.{CertText}
-use Rattle.hq_cert.specs.declared.fault.CertFault.{CertFault}
-use Rattle.hq_cert.specs.declared.fault.CertReason.TheVariants as reason
+use Rattle.hq_certread.specs.SoFar.{HasFault}
+use Rattle.hq_certread.specs.TextFaults.{FirstFault}
+use Rattle.hq_certtext.specs.Grammar.{CertText}
+use Rattle.hq_certread.specs.declared.fault.CertFault.{CertFault}
+use Rattle.hq_certread.specs.declared.fault.CertReason.TheVariants as reason
 use Rattle.hq_judging.specs.Check.{NoCertificate, SaysNoCertificate, cert_refusal}
 use Rattle.hq_judging.specs.Check.NoCertificate.{refused}
 use Rattle.hq_job.specs.Plan.{plan}

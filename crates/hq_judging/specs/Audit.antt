@@ -14,7 +14,7 @@ use Rattle.hq_finding.specs.declared.why.Why.{Why}
 use Rattle.hq_audit.specs.Refused.{IsRefused}
 use Rattle.hq_audit.specs.declared.fault.AuditNo.{AuditNo}
 use Rattle.hq_audit.specs.declared.fault.AuditNo.TheVariants as no
-use Rattle.hq_cert.specs.Printed.{text_of}
+use Rattle.hq_certtext.specs.Printed.{text_of}
 use Rattle.hq_status.specs.Reports.{Said, with_feed}
 use Rattle.hq_status.specs.declared.status.Status.{Status}
 use Rattle.hq_status.specs.declared.status.Status.TheVariants.{Done, Stuck, Conflict, Memory}

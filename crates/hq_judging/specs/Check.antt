@@ -7,11 +7,11 @@ use Rattle.hq_job.specs.Value.{JobValue}
 use Rattle.hq_model.specs.Certificate.{Certificate, CertHolds}
 use Rattle.hq_model.specs.Machine.{bound}
 use Rattle.hq_model.specs.Theorems.{Headline}
-use Rattle.hq_cert.specs.Grammar.{CertText}
-use Rattle.hq_cert.specs.TextFaults.{FirstFault}
-use Rattle.hq_cert.specs.declared.fault.CertFault.{CertFault}
-use Rattle.hq_cert.specs.declared.fault.CertReason.{CertReason}
-use Rattle.hq_cert.specs.declared.fault.CertReason.TheVariants as reason
+use Rattle.hq_certtext.specs.Grammar.{CertText}
+use Rattle.hq_certread.specs.TextFaults.{FirstFault}
+use Rattle.hq_certread.specs.declared.fault.CertFault.{CertFault}
+use Rattle.hq_certread.specs.declared.fault.CertReason.{CertReason}
+use Rattle.hq_certread.specs.declared.fault.CertReason.TheVariants as reason
 use Rattle.hq_certcheck.specs.Refusals.{IsRefused}
 use Rattle.hq_certcheck.specs.View.{AcceptedJob}
 use Rattle.hq_certcheck.specs.declared.fault.CheckNo.{CheckNo}

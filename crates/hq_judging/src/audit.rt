@@ -1,7 +1,7 @@
 //! `hsaq audit`: from a job's bytes to a certificate's bytes.
 
 ghost use Rattle.std.specs.Prelude.{◌⊎◌, codes};
-ghost use Rattle.hq_cert.specs.Printed.{text_of};
+ghost use Rattle.hq_certtext.specs.Printed.{text_of};
 ghost use Rattle.hq_job.specs.Plan.{plan};
 ghost use Rattle.hq_judging.specs.Audit.{JobReport, NoSaid, conflict_text};
 ghost use Rattle.hq_status.specs.Reports.{JobTextReport, ReaderReport, Reported, Said, with_feed};
@@ -9,7 +9,8 @@ ghost use Rattle.hq_status.specs.Reports.{JobTextReport, ReaderReport, Reported,
 use crate::laws::stuck_exactly;
 use crate::stuck::say_stuck;
 use hq_audit::{AuditNo, audit};
-use hq_cert::{Certificate, PrintFault, print};
+use hq_cert::Certificate;
+use hq_certtext::{PrintFault, print};
 use hq_finding::{Kind, Why};
 use hq_job::Job;
 use hq_status::{Status, let_go, say, say_memory, take_job};

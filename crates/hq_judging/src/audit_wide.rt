@@ -1,7 +1,7 @@
 //! `hsaq audit` in many threads.
 
 ghost use Rattle.std.specs.Prelude.{◌⊎◌, codes};
-ghost use Rattle.hq_cert.specs.Printed.{text_of};
+ghost use Rattle.hq_certtext.specs.Printed.{text_of};
 ghost use Rattle.hq_job.specs.Plan.{plan};
 ghost use Rattle.hq_judging.specs.Audit.{JobReport};
 ghost use Rattle.hq_status.specs.Reports.{JobTextReport, ReaderReport, Reported, Said, with_feed};
@@ -9,7 +9,8 @@ ghost use Rattle.hq_status.specs.Reports.{JobTextReport, ReaderReport, Reported,
 use crate::audit::say_no_certificate;
 use crate::laws::stuck_exactly;
 use hq_audit::audit_wide;
-use hq_cert::{Certificate, PrintFault, print_wide};
+use hq_cert::Certificate;
+use hq_certtext::{PrintFault, print_wide};
 use hq_job::Job;
 use hq_status::{Status, say_memory, take_job};
 use std::alloc::Global;

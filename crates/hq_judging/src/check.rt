@@ -4,14 +4,15 @@ ghost use Rattle.std.specs.Prelude.{◌≡◌, Some, IfOk, IfErr, OnOk, length};
 ghost use Rattle.hq_text.specs.Lines.{lines_of};
 ghost use Rattle.hq_job.specs.Plan.{plan};
 ghost use Rattle.hq_model.specs.Machine.{bound};
-ghost use Rattle.hq_cert.specs.Grammar.{CertText};
+ghost use Rattle.hq_certtext.specs.Grammar.{CertText};
 ghost use Rattle.hq_judging.specs.Check.{NoCertificate, SaysNoCertificate, Checked, CheckedReport, CertReport};
 ghost use Rattle.hq_judging.specs.Check.{NoSaid, accepted_text, cert_refusal, bad_line_text, pair_missing_text};
 ghost use Rattle.hq_judging.specs.Check.{bad_pair_text};
 ghost use Rattle.hq_status.specs.Reports.{JobTextReport, OfReader, ReaderReport, Reported, Said, with_feed};
 
-use hq_cert::{CertFault, CertReason, Certificate, ReadFault, read};
+use hq_cert::Certificate;
 use hq_certcheck::{Accepted, CheckNo, check_wide};
+use hq_certread::{CertFault, CertReason, ReadFault, read};
 use hq_job::Job;
 use hq_status::{CheckFault, Status, let_go, say, say_file, say_memory, take_job};
 use std::alloc::Global;

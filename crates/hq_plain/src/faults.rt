@@ -1,6 +1,6 @@
 //! Faults of certificates, timelines and runs in plain words, for standard error.
 
-use hq_cert::{CertFault, CertReason};
+use hq_certread::{CertFault, CertReason};
 use hq_status::{CheckFault, RunFailure, TimelineFault, TimelineReason};
 use std::fmt;
 

@@ -3,7 +3,7 @@
 ghost use Rattle.std.specs.Prelude.{◌≡◌};
 ghost use Rattle.hq_status.specs.Statuses.{code_of, code_of_found};
 
-use hq_cert::CertFault;
+use hq_certread::CertFault;
 use hq_finding::{Found, Kind, Why};
 use hq_job::JobFault;
 use hq_packet::PacketFault;

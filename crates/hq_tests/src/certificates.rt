@@ -1,5 +1,7 @@
 use crate::readers::Pieces;
-use hq_cert::{CertFault, CertReason, Citation, ReadFault, parse, print, read};
+use hq_cert::Citation;
+use hq_certread::{CertFault, CertReason, ReadFault, parse, read};
+use hq_certtext::print;
 use std::alloc::Global;
 use std::process::Abort;
 use std::test::*;

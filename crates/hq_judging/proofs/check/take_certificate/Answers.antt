@@ -1,5 +1,5 @@
 use Rattle.std.proofs.Common.{codes}
-use Rattle.hq_cert.specs.Grammar.{CertText}
+use Rattle.hq_certtext.specs.Grammar.{CertText}
 use Rattle.hq_text.specs.Lines.{lines_of}
 use Rattle.hq_status.specs.Reports.{with_feed}
 use Rattle.hq_status.specs.Reports.ReaderReport.{no_text}

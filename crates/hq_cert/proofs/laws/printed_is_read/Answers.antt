@@ -1,5 +1,0 @@
-use Rattle.hq_cert.proofs.laws.printed_is_read.Goals as goal
-use Rattle.hq_cert.proofs.Holds as laws
-
-pub returns : goal.returns
-returns c = laws.printed_is_read

@@ -1,5 +1,0 @@
-use Rattle.hq_cert.proofs.Split.{printed_is_text}
-use Rattle.hq_cert.proofs.laws.read_back.Goals as goal
-
-pub returns : goal.returns
-returns c = printed_is_text

@@ -1,0 +1,12 @@
+pub mod Each
+pub mod Turns
+pub mod Parts
+pub mod LinesRead
+pub mod PairsRead
+pub mod States
+pub mod Wholes
+pub mod Reasons
+pub mod Spelled
+pub mod Nine
+pub mod OnePass
+pub mod Taking

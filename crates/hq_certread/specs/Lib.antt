@@ -1,0 +1,9 @@
+pub mod LineTests
+pub mod TextFaults
+pub mod Gives
+pub mod DraftView
+pub mod Cited
+pub mod LineForms
+pub mod Bytes
+pub mod OnePass
+pub mod SoFar

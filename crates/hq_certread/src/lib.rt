@@ -1,0 +1,23 @@
+//! Certificates from their texts.
+//!
+//! `parse` takes a text and `read` what a reader gives: each answers the certificate that the text spells, or the
+//! first faulty line and what is wrong with it. Whether the certificate holds is for a checker to say.
+#![tactic(auto)]
+
+mod draft;
+mod fault;
+mod forms;
+pub mod laws;
+mod one_pass;
+mod operands;
+mod pairs;
+mod progress;
+mod reader;
+mod reading;
+mod rules;
+mod threes;
+
+pub use fault::{CertFault, CertReason};
+pub use hq_text::ReadFault;
+pub use reader::read;
+pub use reading::parse;

@@ -1,0 +1,5 @@
+pub mod Puts
+pub mod Split
+pub mod Holds
+pub mod Placed
+pub mod Parting

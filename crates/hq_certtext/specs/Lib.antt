@@ -1,0 +1,5 @@
+pub mod Grammar
+pub mod Printed
+pub mod Rows
+pub mod Gains
+pub mod Parted

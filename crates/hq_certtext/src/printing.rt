@@ -1,0 +1,314 @@
+//! Certificates to texts.
+
+ghost use Rattle.std.specs.Prelude.{◌≡◌, ◌+◌, ◌^◌, ◌<◌, ◌≤◌, ◌∷◌, [], ◌++◌, map, IfOk, OnOk, Err, length, codes};
+ghost use Rattle.std.specs.Fmt.{decimal};
+ghost use Rattle.std.specs.List.{list_any};
+ghost use Rattle.std.specs.Io.KnownBytes.{Appends};
+ghost use Rattle.hq_certtext.specs.Grammar.{CertText, CertificateFits, citation_word, rule_words, head_words};
+ghost use Rattle.hq_certtext.specs.Grammar.{order_words, lines_words, pair_words};
+ghost use Rattle.hq_text.specs.Lines.{lines_of};
+ghost use Rattle.hq_text.specs.Printed.{spaced, line_text, lines_text};
+ghost use Rattle.hq_certtext.specs.Printed.{is_chain, has_chain, text_of};
+ghost use Rattle.hq_certtext.specs.Gains.{Gains};
+ghost use Rattle.hq_cert.specs.View.{cited, fences_of, rule_of, line_of, pair_of};
+
+use crate::placing::{
+    put, put_citation, put_head, put_line, put_named, put_number, put_pair, put_through,
+};
+use crate::rows::Rows;
+use hq_cert::{Certificate, Citation, Fences, Line, Pair, Rule};
+use std::alloc::{AllocError, Global};
+use std::io::Write;
+use thiserror::Error;
+
+/// How many bytes are gathered before they are written.
+const ROOM: usize = 32_768;
+
+/// How many bytes a line takes at most, apart from an order and from branches.
+const LINE: usize = 256;
+
+fn is_chain(fences: &Fences) -> bool
+    ensures { result ≡ is_chain (fences_of fences.now) }
+{
+    match fences {
+        Fences::WriteWriteChained(_) | Fences::WriteReadChained(_) => true,
+        Fences::ReadWrite(_) | Fences::WriteWrite { .. } | Fences::WriteRead { .. } => false,
+    }
+}
+
+/// Whether a chained pair line is there.
+pub fn has_chain(pairs: &[Pair]) -> bool
+    ensures { result ≡ list_any (λ pair. is_chain (pair_of pair).fences) pairs.now }
+{
+    pairs.iter().any(|pair| is_chain(&pair.fences))
+}
+
+/// The writer failed.
+#[derive(Clone, Copy)]
+pub struct WriterFailed;
+
+/// Writes what was put. Answers where the next text goes.
+#[cold]
+#[inline(never)]
+pub fn spill<W: Write>(bytes: &[u8], at: usize, writer: &mut W) -> Result<usize, WriterFailed>
+    requires { at ≤ length bytes.now }
+    ensures written { IfOk result
+        (λ next. Gains (W.contents writer.old) bytes.now at (W.contents writer.new) bytes.now next []) }
+    ensures front { IfOk result (λ next. next ≡ 0) }
+{
+    match writer.write_all(&bytes[..at]) {
+        Ok(()) => Ok(0),
+        Err(_) => Err(WriterFailed),
+    }
+}
+
+/// Writes what was put, where there is no room for a line. Answers where the next text goes.
+#[inline(always)]
+fn make_room<W: Write>(bytes: &[u8], at: usize, writer: &mut W) -> Result<usize, WriterFailed>
+    requires within { at ≤ length bytes.now }
+    requires long { 256 ≤ length bytes.now }
+    ensures written { IfOk result
+        (λ next. Gains (W.contents writer.old) bytes.now at (W.contents writer.new) bytes.now next []) }
+    ensures room { IfOk result (λ next. next + 256 ≤ length bytes.now) }
+{
+    if at + LINE <= bytes.len() {
+        Ok(at)
+    } else {
+        spill(bytes, at, writer)
+    }
+}
+
+/// Numbers, each behind a space.
+fn write_numbers<W: Write>(
+    bytes: &mut [u8],
+    start: usize,
+    rows: &Rows,
+    numbers: &[u32],
+    writer: &mut W,
+) -> Result<usize, WriterFailed>
+    requires within { start ≤ length bytes.old }
+    requires long { 256 ≤ length bytes.old }
+    ensures written { IfOk result
+        (λ end. Gains (W.contents writer.old) bytes.old start (W.contents writer.new) bytes.new end
+        (spaced (map decimal numbers.now))) }
+    ensures within { IfOk result (λ end. end ≤ length bytes.new) }
+{
+    let mut at = start;
+    for number in numbers {
+        at = make_room(bytes, at, writer)?;
+        at = put_number(bytes, at, rows, *number as u64);
+    }
+    Ok(at)
+}
+
+/// Citations, each behind a space.
+#[inline(never)]
+fn write_citations<W: Write>(
+    bytes: &mut [u8],
+    start: usize,
+    rows: &Rows,
+    citations: &[Citation],
+    writer: &mut W,
+) -> Result<usize, WriterFailed>
+    requires within { start ≤ length bytes.old }
+    requires long { 256 ≤ length bytes.old }
+    ensures written { IfOk result
+        (λ end. Gains (W.contents writer.old) bytes.old start (W.contents writer.new) bytes.new end
+        (spaced (map citation_word (map cited citations.now)))) }
+    ensures within { IfOk result (λ end. end ≤ length bytes.new) }
+{
+    let mut at = start;
+    for citation in citations {
+        at = make_room(bytes, at, writer)?;
+        at = put_citation(bytes, at, rows, *citation);
+    }
+    Ok(at)
+}
+
+/// The rule of a barrier-OR, which is followed by room for a line feed.
+#[inline(never)]
+fn write_or<W: Write>(
+    bytes: &mut [u8],
+    at: usize,
+    rows: &Rows,
+    citations: &[Citation],
+    writer: &mut W,
+) -> Result<usize, WriterFailed>
+    requires room { at + 128 ≤ length bytes.old }
+    requires long { 256 ≤ length bytes.old }
+    ensures written { IfOk result
+        (λ end. Gains (W.contents writer.old) bytes.old at (W.contents writer.new) bytes.new end
+        (spaced (codes "or" ∷ map citation_word (map cited citations.now)))) }
+    ensures room { IfOk result (λ end. end + 1 ≤ length bytes.new) }
+{
+    let at = put(bytes, at, b" or");
+    let at = write_citations(bytes, at, rows, citations, writer)?;
+    make_room(bytes, at, writer)
+}
+
+/// A rule, which is followed by room for a line feed.
+#[inline(always)]
+fn write_rule<W: Write>(
+    bytes: &mut [u8],
+    at: usize,
+    rows: &Rows,
+    rule: &Rule,
+    writer: &mut W,
+) -> Result<usize, WriterFailed>
+    requires room { at + 128 ≤ length bytes.old }
+    requires long { 256 ≤ length bytes.old }
+    ensures written { IfOk result
+        (λ end. Gains (W.contents writer.old) bytes.old at (W.contents writer.new) bytes.new end
+        (spaced (rule_words (rule_of rule.now)))) }
+    ensures room { IfOk result (λ end. end + 1 ≤ length bytes.new) }
+{
+    match rule {
+        Rule::Bit(packet) => Ok(put_named(bytes, at, rows, b" bit", *packet)),
+        Rule::Queue => Ok(put(bytes, at, b" queue")),
+        Rule::And(slot) => Ok(put_named(bytes, at, rows, b" and", *slot)),
+        Rule::Or(branches) => write_or(bytes, at, rows, &branches.citations, writer),
+        Rule::Through(first, second) => Ok(put_through(bytes, at, rows, *first, *second)),
+    }
+}
+
+/// Lines, of which the first has this number.
+pub fn write_lines<W: Write>(
+    bytes: &mut [u8],
+    start: usize,
+    rows: &Rows,
+    first: usize,
+    lines: &[Line],
+    writer: &mut W,
+) -> Result<usize, WriterFailed>
+    requires within { start ≤ length bytes.old }
+    requires long { 256 ≤ length bytes.old }
+    requires few { first + length lines.now < 2 ^ 64 }
+    ensures written { IfOk result
+        (λ end. Gains (W.contents writer.old) bytes.old start (W.contents writer.new) bytes.new end
+        (lines_text (lines_words first (map line_of lines.now)))) }
+    ensures within { IfOk result (λ end. end ≤ length bytes.new) }
+{
+    let mut at = start;
+    for (k, line) in lines.iter().enumerate() {
+        at = make_room(bytes, at, writer)?;
+        at = put_line(bytes, at, rows, first + k, line);
+        at = write_rule(bytes, at, rows, &line.rule, writer)?;
+        at = put(bytes, at, b"\n");
+    }
+    Ok(at)
+}
+
+/// Pair lines.
+pub fn write_pairs<W: Write>(
+    bytes: &mut [u8],
+    start: usize,
+    rows: &Rows,
+    pairs: &[Pair],
+    writer: &mut W,
+) -> Result<usize, WriterFailed>
+    requires within { start ≤ length bytes.old }
+    requires long { 256 ≤ length bytes.old }
+    ensures written { IfOk result
+        (λ end. Gains (W.contents writer.old) bytes.old start (W.contents writer.new) bytes.new end
+        (lines_text (map pair_words (map pair_of pairs.now)))) }
+    ensures within { IfOk result (λ end. end ≤ length bytes.new) }
+{
+    let mut at = start;
+    for pair in pairs {
+        at = make_room(bytes, at, writer)?;
+        at = put_pair(bytes, at, rows, pair);
+    }
+    Ok(at)
+}
+
+/// The first line and the order.
+pub fn write_order<W: Write>(
+    bytes: &mut [u8],
+    rows: &Rows,
+    chained: bool,
+    order: &[u32],
+    writer: &mut W,
+) -> Result<usize, WriterFailed>
+    requires { 256 ≤ length bytes.old }
+    ensures written { IfOk result
+        (λ end. Gains (W.contents writer.old) bytes.old 0 (W.contents writer.new) bytes.new end
+        (line_text (head_words chained) ++ line_text (order_words order.now))) }
+    ensures within { IfOk result (λ end. end ≤ length bytes.new) }
+{
+    let at = put_head(bytes, 0, chained);
+    let at = put(bytes, at, b"order");
+    let at = write_numbers(bytes, at, rows, order, writer)?;
+    let at = make_room(bytes, at, writer)?;
+    Ok(put(bytes, at, b"\n"))
+}
+
+/// Writes the text of a certificate, by way of a buffer.
+fn write_text<W: Write>(
+    bytes: &mut [u8],
+    rows: &Rows,
+    certificate: &Certificate,
+    writer: &mut W,
+) -> Result<(), WriterFailed>
+    requires { 256 ≤ length bytes.old }
+    ensures { OnOk result (Appends (W.contents writer.old) (W.contents writer.new) (text_of certificate.now)) }
+{
+    let chained = has_chain(certificate.pairs());
+    let at = write_order(bytes, rows, chained, certificate.order(), writer)?;
+    let at = write_lines(bytes, at, rows, 0, certificate.lines(), writer)?;
+    let at = write_pairs(bytes, at, rows, certificate.pairs(), writer)?;
+    let at = make_room(bytes, at, writer)?;
+    let at = put(bytes, at, b"end\n");
+    match writer.write_all(&bytes[..at]) {
+        Ok(()) => Ok(()),
+        Err(_) => Err(WriterFailed),
+    }
+}
+
+/// Why a certificate wasn't printed: there was no memory, and nothing was written; or the writer failed.
+#[derive(Clone, Copy, Debug, PartialEq, Eq, Error)]
+pub enum PrintFault {
+    #[error("out of memory")]
+    Memory,
+    #[error("the writer failed")]
+    Writer,
+}
+
+/// A buffer for texts.
+pub fn buffer(alloc: Global) -> Result<Vec<u8>, AllocError>
+    ensures { IfOk result (λ bytes. length bytes.items ≡ 32768) }
+{
+    vec![in alloc; 0; ROOM]
+}
+
+/// All memory that printing takes: a buffer, and the texts of small numbers.
+pub fn taken(alloc: Global) -> Result<(Vec<u8>, Rows), AllocError>
+    ensures { IfOk result (λ t. length t.0.items ≡ 32768) }
+{
+    let bytes = buffer(alloc)?;
+    Ok((bytes, Rows::new(alloc)?))
+}
+
+/// Writes the text of a certificate, which begins `hsac 2` exactly where a chained pair line is there. Where the
+/// certificate has a text, as each one that an audit gives or a text was read as, what was written is that, and so
+/// is read as the same certificate. All memory is taken before the first byte is written. The writer is not
+/// flushed; where it fails a part of the text may be written.
+pub fn print<W: Write>(
+    alloc: Global,
+    certificate: &Certificate,
+    writer: &mut W,
+) -> Result<(), PrintFault>
+    ensures written { OnOk result (Appends (W.contents writer.old) (W.contents writer.new) (text_of certificate.now)) }
+    ensures read_back { OnOk result
+        (CertificateFits (has_chain certificate.now) certificate.now
+        → CertText (lines_of (text_of certificate.now)) certificate.now) }
+    ensures unwritten { result ≡ Err PrintFault.Memory → writer.new ≡ writer.old }
+{
+    let (mut bytes, rows) = match taken(alloc) {
+        Ok(taken) => taken,
+        Err(_) => return Err(PrintFault::Memory),
+    };
+    match write_text(&mut bytes, &rows, certificate, writer) {
+        Ok(()) => Ok(()),
+        Err(WriterFailed) => Err(PrintFault::Writer),
+    }
+}
