@@ -15,11 +15,11 @@ use Rattle.hq_model.specs.Job.{Job, IsPacket}
 use Rattle.hq_model.specs.Fence.{Conflict}
 use Rattle.hq_model.specs.Certificate as model
 use Rattle.hq_model.specs.Certificate.{FencesHold, kind_of}
-use Rattle.hq_audit.specs.declared.lines.Lines.{Lines}
-use Rattle.hq_audit.specs.Kept.{lines_of, Kept, Goes}
+use Rattle.hq_derive.specs.declared.lines.Lines.{Lines}
+use Rattle.hq_derive.specs.Kept.{lines_of, Kept, Goes}
 use Rattle.hq_audit.specs.Drafted.{Drafted, AllDrafted}
 use Rattle.hq_audit.specs.Paired.{Fenced, AllHold, HasPairIn, HasAll, AllPaired, IsSameHead, SameHeads}
-use Rattle.hq_audit.proofs.Adding.{goes_same, goes_more}
+use Rattle.hq_derive.proofs.Adding.{goes_same, goes_more}
 use Rattle.hq_audit.proofs.Fencing.{fences_more}
 use Rattle.hq_audit.proofs.Pairing.{pair_by}
 

@@ -15,10 +15,10 @@ use Rattle.hq_model.specs.Certificate as model
 use Rattle.hq_model.specs.Certificate.{FencesHold}
 use Rattle.hq_audit.specs.Paired.{pairs_of, Fenced, Longer, HasPairIn, HasAll, AllHold, RowPaired, RowsPaired, AllPaired, SameHeads}
 use Rattle.hq_cert.specs.declared.certificate.Fences.{Fences}
-use Rattle.hq_audit.specs.declared.lines.Lines.{Lines}
-use Rattle.hq_audit.specs.Kept.{lines_of, Goes, Kept}
+use Rattle.hq_derive.specs.declared.lines.Lines.{Lines}
+use Rattle.hq_derive.specs.Kept.{lines_of, Goes, Kept}
 use Rattle.hq_audit.specs.Rowed.{RowsBetween, DraftsRows, IsWhole, CitesRows, AllMayCite, Holds}
-use Rattle.hq_audit.proofs.Adding.{goes_same}
+use Rattle.hq_derive.proofs.Adding.{goes_same}
 use Rattle.hq_audit.proofs.Pairing.{one_later}
 use Rattle.hq_audit.proofs.Numbering.{all_cited}
 

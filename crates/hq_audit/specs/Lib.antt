@@ -1,6 +1,3 @@
-pub mod Rests
-pub mod Derived
-pub mod Kept
 pub mod Paired
 pub mod Drafted
 pub mod Rowed

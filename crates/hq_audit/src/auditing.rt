@@ -13,9 +13,9 @@ ghost use Rattle.hq_audit.specs.declared.fault.AuditNo.TheVariants.{Memory};
 
 use crate::drafting::{Drafts, draft_all};
 use crate::fault::AuditNo;
-use crate::gathering::lines_for;
 use crate::pairs::cite_all;
 use hq_cert::Certificate;
+use hq_derive::lines_for;
 use hq_job::Job;
 use hq_order::{Before, schedule};
 use hq_parts::Parts;

@@ -8,14 +8,14 @@ ghost use Rattle.hq_cert.specs.View.{cited, fences_of, pair_of};
 ghost use Rattle.hq_fence.specs.Judgement.{IsRelease, IsAcquire, ReleasesBefore, ReleasesToAcquire};
 ghost use Rattle.hq_fence.specs.declared.shown.Release.TheVariants as release;
 ghost use Rattle.hq_packet.specs.declared.packet.Scope.TheVariants as scope;
-ghost use Rattle.hq_audit.specs.Kept.{lines_of, Kept};
+ghost use Rattle.hq_derive.specs.Kept.{lines_of, Kept};
 ghost use Rattle.hq_audit.specs.Drafted.{acquire_by, release_by, Drafted, AllDrafted};
 ghost use Rattle.hq_audit.specs.Paired.{pairs_of, ReleaseCited, AcquireCited, AllHold, SameHeads};
 ghost use Rattle.hq_audit.specs.Rowed.{Holds, AllMayDraft, AllMayCite, CitesPart, CitesRows, DraftsRows};
 
 use crate::drafting::Drafts;
-use crate::lines::Lines;
 use hq_cert::{Citation, Fences, Pair, ReadChain, WriteChain};
+use hq_derive::Lines;
 use hq_order::Before;
 use std::alloc::Global;
 use std::thread;

@@ -17,8 +17,8 @@ ghost use Rattle.hq_audit.specs.Refused.{ShownOneWay, RowShown, PairRefused, Row
 use crate::directed::{Directed, direct_at_once, direct_kinds};
 use crate::fault::AuditNo;
 use crate::marking::need_shown;
-use crate::needs::Needs;
 use hq_cert::{Citation, Fences, Pair, ReadChain, WriteChain};
+use hq_derive::Needs;
 use hq_fence::{Acquire, Release, Shown};
 use hq_footprint::Kinds;
 use hq_order::Before;

@@ -3,7 +3,7 @@
 ghost use Rattle.std.specs.Prelude.{◌≡◌};
 ghost use Rattle.hq_fence.specs.Judgement.{end_of, first_of};
 
-use crate::needs::Needs;
+use hq_derive::Needs;
 use hq_fence::{Acquire, Release, Shown};
 
 /// A line that p is before x is needed, unless p is x.

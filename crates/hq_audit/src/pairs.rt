@@ -3,13 +3,13 @@
 ghost use Rattle.std.specs.Prelude.{IfOk, OnOk, map};
 ghost use Rattle.hq_model.specs.Certificate.{kind_of};
 ghost use Rattle.hq_cert.specs.View.{fences_of, pair_of};
-ghost use Rattle.hq_audit.specs.Kept.{lines_of, Goes, Kept};
+ghost use Rattle.hq_derive.specs.Kept.{lines_of, Goes, Kept};
 ghost use Rattle.hq_audit.specs.Drafted.{Drafted, AllDrafted};
 ghost use Rattle.hq_audit.specs.Paired.{Fenced, AllHold, SameHeads};
 
 use crate::citing::cite_fences;
-use crate::lines::Lines;
 use hq_cert::{Fences, Pair};
+use hq_derive::Lines;
 use hq_order::Before;
 use std::alloc::{AllocError, Global};
 
@@ -28,7 +28,7 @@ fn named(p: usize, r: usize, fences: &Fences) -> [usize; 6] {
 }
 
 /// Adds the line that p is before r, where that is so and it isn't there yet.
-#[tactic(auto, using(crate::proofs::Adding::goes_same))]
+#[tactic(auto, using(hq_derive::proofs::Adding::goes_same))]
 fn add_line(
     lines: &mut Lines,
     alloc: Global,
@@ -46,7 +46,7 @@ fn add_line(
 }
 
 /// Adds the lines that p is before others of these packets.
-#[tactic(auto, using(crate::proofs::Adding::goes_same, crate::proofs::Adding::goes_more))]
+#[tactic(auto, using(hq_derive::proofs::Adding::goes_same, hq_derive::proofs::Adding::goes_more))]
 fn add_from(
     lines: &mut Lines,
     alloc: Global,
@@ -64,7 +64,7 @@ fn add_from(
 }
 
 /// Adds the lines by which some of these packets are before others of them.
-#[tactic(auto, using(crate::proofs::Adding::goes_same, crate::proofs::Adding::goes_more))]
+#[tactic(auto, using(hq_derive::proofs::Adding::goes_same, hq_derive::proofs::Adding::goes_more))]
 fn add_between(
     lines: &mut Lines,
     alloc: Global,

@@ -6,7 +6,7 @@ ghost use Rattle.hq_audit.specs.Rowed.{DraftsRows, MayDraft, AllMayDraft, IsWhol
 
 use crate::drafting::Drafts;
 use crate::fault::AuditNo;
-use crate::needs::Needs;
+use hq_derive::Needs;
 use hq_order::Before;
 use hq_parts::Parts;
 use std::alloc::Global;

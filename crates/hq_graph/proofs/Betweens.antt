@@ -5,7 +5,7 @@ use Rattle.hq_model.specs.Job.{Job}
 use Rattle.hq_model.specs.Order.{Before}
 use Rattle.hq_model.specs.Order.Before.{through}
 use Rattle.hq_bits.specs.Bits.{has}
-use Rattle.hq_audit.proofs.Founded.{before_second}
+use Rattle.hq_derive.proofs.Founded.{before_second}
 use Rattle.hq_graph.specs.Order.{IsStep}
 
 -- ---- a test that is one and not another

@@ -1,4 +1,4 @@
-use Rattle.hq_audit.proofs.Founded.{within_first, within_second}
+use Rattle.hq_derive.proofs.Founded.{within_first, within_second}
 use Rattle.hq_explain.proofs.Saying.{alone_rule, first_half, joined_on, second_half}
 use Rattle.hq_explain.proofs.paths.+write_steps.Goals as goal
 

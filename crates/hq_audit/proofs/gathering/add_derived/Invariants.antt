@@ -1,5 +1,0 @@
-use Rattle.hq_audit.specs.Kept.{Kept}
-use Rattle.hq_audit.proofs.gathering.add_derived.Given as goal
-
-abbrev pub invariant-loop-line : goal.invariant-loop-line
-invariant-loop-line l = Kept l.before l.lines

@@ -1,5 +1,0 @@
-use Rattle.hq_audit.specs.Kept.{Kept}
-use Rattle.hq_audit.proofs.gathering.add_row.Given as goal
-
-abbrev pub invariant-loop-place : goal.invariant-loop-place
-invariant-loop-place l = Kept l.before l.lines

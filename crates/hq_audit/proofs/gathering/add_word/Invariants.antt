@@ -1,8 +1,0 @@
-use Rattle.hq_audit.specs.Kept.{Kept}
-use Rattle.hq_audit.proofs.gathering.add_word.Given as goal
-
-abbrev pub invariant-each : goal.invariant-each
-invariant-each l = Kept l.before l.lines
-
-abbrev pub decreases-each : goal.decreases-each
-decreases-each l = l.rest

@@ -1,0 +1,55 @@
+-- Lines that hold go on holding as lines are added.
+use Rattle.std.proofs.Common.{ℕ, ◌<◌, ◌≤◌, List, [], ◌∷◌, ◌++◌, length, ◌∙◌, arith, Option, Some, None, length-append}
+use Rattle.std.specs.List.{AllZip}
+use Rattle.std.proofs.lemmas.Option.{slice_get_within}
+use Rattle.hq_job.proofs.Grouped.{get_before}
+use Rattle.hq_model.specs.Job.{Job, packet, Decrements}
+use Rattle.hq_model.specs.Certificate.{Line, Rule, Says, Cites, Follows, signals}
+use Rattle.hq_model.specs.Certificate.Rule.{Bit, Queue, And, Or, Through}
+use Rattle.hq_derive.specs.Kept.{Grown}
+
+pub grown_same : (lines : List Line) → Grown lines lines
+grown_same lines = record { len = omega arith; lines = λ k line e. e }
+
+pub grown_more : (a b c : List Line) → Grown a b → Grown b c → Grown a c
+grown_more a b c g h = record {
+  len = let x = g.len in let y = h.len in omega arith;
+  lines = λ k line e. h.lines k line (g.lines k line e);
+}
+
+pub grown_by : (lines more : List Line) → Grown lines (lines ++ more)
+grown_by lines more = record {
+  len = omega (arith, length-append lines more);
+  lines = λ k line e. let low : k < length lines = slice_get_within lines k line e in get_before lines more k low ∙ e;
+}
+
+pub says_more : (old new : List Line) (a b k p r : ℕ) → Grown old new → a ≤ b → Says old a k p r → Says new b k p r
+says_more old new a b k p r g l s = record {
+  lower = let x : k < a = s.lower in omega arith;
+  line = s.line;
+  there = g.lines k s.line s.there;
+  first = s.first;
+  second = s.second;
+}
+
+pub cites_more : (old new : List Line) (a b : ℕ) (c : Option ℕ) (p r : ℕ) → Grown old new → a ≤ b → Cites old a c p r → Cites new b c p r
+cites_more old new a b None p r g l s = s
+cites_more old new a b (Some k) p r g l s = says_more old new a b k p r g l s
+
+pub zip_more : {A B : Type 0} (R S : A → B → Type 0) (xs : List A) (ys : List B) → ((x : A) (y : B) → R x y → S x y) → AllZip R xs ys → AllZip S xs ys
+zip_more R S [] [] f h = h
+zip_more R S [] (y ∷ ys) f h = h
+zip_more R S (x ∷ xs) [] f h = h
+zip_more R S (x ∷ xs) (y ∷ ys) f h = (f x y h.0, zip_more R S xs ys f h.1)
+
+pub follows_more : (job : Job) (old new : List Line) (a b p r : ℕ) (rule : Rule) → Grown old new → a ≤ b → Follows job old a p r rule → Follows job new b p r rule
+follows_more job old new a b p r (Bit j) g l f = f
+follows_more job old new a b p r Queue g l f = f
+follows_more job old new a b p r (And slot) g l f = f
+follows_more job old new a b p r (Or branches) g l f = (
+  f.0,
+  f.1,
+  zip_more (λ s branch. (d : ℕ) × Decrements job d s × Cites old a branch p d) (λ s branch. (d : ℕ) × Decrements job d s × Cites new b branch p d) (signals (packet job r).deps) branches
+      (λ s branch h. (h.0, h.1, cites_more old new a b branch p h.0 g l h.2)) f.2,
+)
+follows_more job old new a b p r (Through first second) g l f = (f.0, says_more old new a b first p f.0 g l f.1, says_more old new a b second f.0 r g l f.2)

@@ -1,0 +1,4 @@
+pub mod Founded
+pub mod Growing
+pub mod Adding
+pub mod Branching

@@ -1,0 +1,65 @@
+-- What is known of lines as they are gathered.
+use Rattle.std.specs.Prelude.{◌≡◌, ℕ, ◌+◌, ◌^◌, ◌<◌, ◌≤◌, List, length, map, Some, slice_get}
+use Rattle.std.specs.List.{AllZip}
+use Rattle.hq_cert.specs.declared.certificate.Line.{Line}
+use Rattle.hq_cert.specs.declared.certificate.Rule.{Rule}
+use Rattle.hq_cert.specs.declared.citation.Citation.{Citation}
+use Rattle.hq_cert.specs.View.{cited, rule_of, line_of}
+use Rattle.hq_model.specs.Job.{Job, Decrements}
+use Rattle.hq_model.specs.Certificate as model
+use Rattle.hq_model.specs.Certificate.{Says, Cites, Follows, signals}
+use Rattle.hq_derive.specs.declared.lines.Lines.{Lines}
+
+-- the lines so far
+abbrev pub items_of : Lines → List Line
+items_of l = l.lines.items
+
+-- and as the model has them
+abbrev pub lines_of : Lines → List model.Line
+lines_of l = map line_of (items_of l)
+
+-- Each line follows by its rule from lines of lower number.
+abbrev pub AllFollow : Job → List model.Line → Type 0
+AllFollow job lines = (k : ℕ) (line : model.Line) → slice_get lines k ≡ Some line
+    → Follows job lines k line.p line.r line.rule
+
+-- Each line follows from lines of lower number; and there are as few packets as a job may have.
+pub record Kept (job : Job) (l : Lines) : Type 0 where
+  pub few : length job.packets ≤ 1024
+  pub follow : AllFollow job (lines_of l)
+
+-- No line was lost.
+pub record Grown (old new : List model.Line) : Type 0 where
+  pub len : length old ≤ length new
+  pub lines : (k : ℕ) (line : model.Line) → slice_get old k ≡ Some line → slice_get new k ≡ Some line
+
+-- what one more step of the gathering keeps
+pub record Goes (job : Job) (old new : Lines) : Type 0 where
+  pub kept : Kept job new
+  pub grown : Grown (lines_of old) (lines_of new)
+
+-- the line of this number concludes that p is before r
+pub record Numbered (job : Job) (old new : Lines) (p r k : ℕ) : Type 0 where
+  pub goes : Goes job old new
+  pub says : Says (lines_of new) (length (lines_of new)) k p r
+  pub small : k + 1 < 2 ^ 32
+
+-- p is before r by the rule, from the lines so far
+pub record Ruled (job : Job) (old new : Lines) (p r : ℕ) (rule : Rule) : Type 0 where
+  pub goes : Goes job old new
+  pub follows : Follows job (lines_of new) (length (lines_of new)) p r (rule_of rule)
+
+-- the citation says that p is, or is before, a packet that completes on the signal
+abbrev pub CitesBranch : Job → List model.Line → ℕ → ℕ → Citation → Type 0
+CitesBranch job lines p s citation = (d : ℕ) × Decrements job d s × Cites lines (length lines) (cited citation) p d
+
+-- so, from the lines so far
+pub record Branched (job : Job) (old new : Lines) (p s : ℕ) (citation : Citation) : Type 0 where
+  pub goes : Goes job old new
+  pub cites : CitesBranch job (lines_of new) p s citation
+
+-- so do the citations, one for each of the signals
+pub record AllBranched (job : Job) (old new : Lines) (p : ℕ) (signals : List ℕ)
+    (citations : List Citation) : Type 0 where
+  pub goes : Goes job old new
+  pub cite : AllZip (CitesBranch job (lines_of new) p) signals citations

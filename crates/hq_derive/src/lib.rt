@@ -1,0 +1,18 @@
+//! The lines of a certificate: that one packet is before another, each by a rule, and from which lines ahead of it.
+//!
+//! `Needs` notes which packets a certificate has to say of that one is before the other. `lines_for` then gives a line
+//! for each of these, and one for each that such lines rest on, behind those that it cites: by what is known of the
+//! order alone, whatever the lines are needed for. `Lines` is the table of them: it answers the number of a line that is
+//! there, and adds one that is wanted later.
+#![tactic(auto)]
+
+mod gathering;
+mod grounds;
+mod lines;
+mod needs;
+mod resting;
+mod slots;
+
+pub use gathering::lines_for;
+pub use lines::Lines;
+pub use needs::Needs;

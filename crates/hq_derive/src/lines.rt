@@ -1,0 +1,358 @@
+//! The lines of a certificate, gathered.
+
+ghost use Rattle.std.specs.Prelude.{◌≡◌, ℕ, ◌+◌, ◌*◌, ◌^◌, ◌<◌, ◌++◌, ◌∷◌, [], IfOk, IfSome, MatchOption, Some, length};
+ghost use Rattle.std.specs.Prelude.{slice_get};
+ghost use Rattle.hq_cert.specs.View.{rule_of};
+ghost use Rattle.hq_model.specs.Job.{packet};
+ghost use Rattle.hq_model.specs.Job.{IsPacket};
+ghost use Rattle.hq_model.specs.Certificate.{Says, signals};
+ghost use Rattle.hq_model.specs.Order as order;
+ghost use Rattle.hq_order.specs.Rounds.{IsFirstWithin, Reaches, ByOr};
+ghost use Rattle.hq_derive.specs.Rests.{Below, ByMiddle};
+ghost use Rattle.hq_derive.specs.Kept.{items_of, lines_of, Kept, Numbered, Ruled, Branched, AllBranched};
+
+use crate::grounds::{Ground, branch_of, ground_of};
+use crate::needs::Needs;
+use crate::slots::Slots;
+use hq_cert::{Branches, Citation, Line, Rule};
+use hq_order::Before;
+use std::alloc::{AllocError, Global};
+
+/// More lines than there can be.
+const LIMIT: usize = 1_048_577;
+
+/// The lines so far.
+#[derive(Drop)]
+pub struct Lines {
+    slots: Slots,
+    /// At a line's slot, one more than its number, or 0 where it isn't there yet.
+    numbers: Vec<u32>,
+    lines: Vec<Line>,
+}
+
+/// The first round in which p is before r.
+pub fn round_of(before: &Before, p: usize, r: usize) -> usize
+    requires { order.Before before.now p r }
+    ensures { IsFirstWithin before.now result p r }
+{
+    before.round(p, r).unwrap()
+}
+
+impl Lines {
+    /// No lines, with room for those that are needed.
+    pub(crate) fn new(alloc: Global, before: &Before, needs: Needs) -> Result<Lines, AllocError>
+        ensures { IfOk result (λ l. Kept before.now l) }
+    {
+        before.job().valid();
+        let slots = Slots::new(alloc, needs)?;
+        let room = slots.count();
+        let numbers = vec![in alloc; 0; room]?;
+        let lines = Vec::with_capacity(alloc, room)?;
+        Ok(Lines {
+            slots,
+            numbers,
+            lines,
+        })
+    }
+
+    /// The bits of the needed lines at a place.
+    pub(crate) fn word(&self, place: usize) -> u64 {
+        self.slots.word(place)
+    }
+
+    /// The lines, by number.
+    pub fn into_lines(self) -> Vec<Line>
+        ensures { result.items ≡ items_of self }
+    {
+        self.lines
+    }
+
+    /// The number, if its line is that p is before r.
+    #[inline(always)]
+    fn confirmed(&self, number: u32, p: usize, r: usize) -> Option<u32>
+        requires { number + 1 < 2 ^ 32 }
+        ensures { MatchOption result (Unit {0})
+            (λ k. Says (lines_of self.now) (length (lines_of self.now)) k p r × (k + 1 < 2 ^ 32)) }
+    {
+        let line = self.lines.get(number as usize)?;
+        if line.p as usize == p && line.r as usize == r {
+            Some(number)
+        } else {
+            None
+        }
+    }
+
+    /// The number of the line that p is before r, if there is one.
+    #[inline(always)]
+    pub fn known(&self, p: usize, r: usize) -> Option<u32>
+        ensures { MatchOption result (Unit {0})
+            (λ k. Says (lines_of self.now) (length (lines_of self.now)) k p r × (k + 1 < 2 ^ 32)) }
+    {
+        let slot = self.slots.slot(p, r)?;
+        match *self.numbers.get(slot)? {
+            0 => None,
+            next => self.confirmed(next - 1, p, r),
+        }
+    }
+
+    /// Notes the number of the line that p is before r.
+    #[inline(always)]
+    fn remember(&mut self, p: usize, r: usize, number: u32)
+        requires { number + 1 < 2 ^ 32 }
+        ensures { self.new.lines ≡ self.old.lines }
+    {
+        if let Some(slot) = self.slots.slot(p, r) {
+            if let Some(next) = self.numbers.get_mut(slot) {
+                *next = number + 1;
+            }
+        }
+    }
+
+    /// Adds a line, and answers its number.
+    #[inline(always)]
+    fn add(&mut self, p: usize, r: usize, rule: Rule) -> Result<u32, AllocError>
+        requires p_is { p < 1024 }
+        requires r_is { r < 1024 }
+        ensures lines { IfOk result
+            (λ _. lines_of self.new ≡ lines_of self.old ++ record { p = p; r = r; rule = rule_of rule } ∷ []) }
+        ensures number { IfOk result (λ k. k ≡ length (lines_of self.old)) }
+        ensures small { IfOk result (λ k. k + 1 < 2 ^ 32) }
+    {
+        let number = self.lines.len();
+        if number >= LIMIT {
+            return Err(AllocError);
+        }
+        let line = Line {
+            p: p as u32,
+            r: r as u32,
+            rule,
+        };
+        self.lines.push(line)?;
+        let number = number as u32;
+        self.remember(p, r, number);
+        Ok(number)
+    }
+
+    /// The number of the line that p is before r. Where there is none yet, it goes in, behind those that it cites.
+    #[inline(always)]
+    pub fn number(
+        &mut self,
+        alloc: Global,
+        before: &Before,
+        p: usize,
+        r: usize,
+    ) -> Result<u32, AllocError>
+        requires kept { Kept before.now self.old }
+        requires before { order.Before before.now p r }
+        ensures { IfOk result (λ k. Numbered before.now self.old self.new p r k) }
+    {
+        if let Some(number) = self.known(p, r) {
+            return Ok(number);
+        }
+        self.numbered(alloc, before, round_of(before, p, r), p, r)
+    }
+
+    /// Adds the line that p is before r, which comes first in this round, behind those that it cites; answers its
+    /// number.
+    #[cycle(number)]
+    pub(crate) fn numbered(
+        &mut self,
+        alloc: Global,
+        before: &Before,
+        round: usize,
+        p: usize,
+        r: usize,
+    ) -> Result<u32, AllocError>
+        requires kept { Kept before.now self.old }
+        requires first { IsFirstWithin before.now round p r }
+        ensures { IfOk result (λ k. Numbered before.now self.old self.new p r k) }
+    {
+        let rule = self.rule(alloc, before, round, p, r)?;
+        self.add(p, r, rule)
+    }
+
+    /// The numbers of the lines that p is before m, and m before r, if both are there.
+    #[inline(always)]
+    fn both_known(&self, p: usize, m: usize, r: usize) -> Option<(u32, u32)>
+        ensures { IfSome result
+            (λ n. Says (lines_of self.now) (length (lines_of self.now)) n.0 p m
+            × Says (lines_of self.now) (length (lines_of self.now)) n.1 m r) }
+    {
+        let first = self.known(p, m)?;
+        let second = self.known(m, r)?;
+        Some((first, second))
+    }
+
+    /// The rule that p is before m, and m before r, mostly by lines that are there.
+    #[inline(always)]
+    fn joined(
+        &mut self,
+        alloc: Global,
+        before: &Before,
+        round: usize,
+        p: usize,
+        m: usize,
+        r: usize,
+    ) -> Result<Rule, AllocError>
+        requires kept { Kept before.now self.old }
+        requires middle { ByMiddle before.now round p r m }
+        ensures { IfOk result (λ rule. Ruled before.now self.old self.new p r rule) }
+    {
+        if let Some((first, second)) = self.both_known(p, m, r) {
+            return Ok(Rule::Through(first, second));
+        }
+        self.through(alloc, before, round, p, m, r)
+    }
+
+    /// Adds the line that p is before r through m, by lower rounds, behind those that it cites; answers its number.
+    #[inline(always)]
+    pub(crate) fn between(
+        &mut self,
+        alloc: Global,
+        before: &Before,
+        round: usize,
+        p: usize,
+        m: usize,
+        r: usize,
+    ) -> Result<u32, AllocError>
+        requires kept { Kept before.now self.old }
+        requires middle { ByMiddle before.now round p r m }
+        ensures { IfOk result (λ k. Numbered before.now self.old self.new p r k) }
+    {
+        let rule = self.joined(alloc, before, round, p, m, r)?;
+        self.add(p, r, rule)
+    }
+
+    /// The number of the line that p is before r by lower rounds. Where there is none yet, it goes in.
+    #[cycle(number)]
+    fn cited(
+        &mut self,
+        alloc: Global,
+        before: &Before,
+        round: usize,
+        p: usize,
+        r: usize,
+    ) -> Result<u32, AllocError>
+        requires kept { Kept before.now self.old }
+        requires below { Below before.now round p r }
+        ensures { IfOk result (λ k. Numbered before.now self.old self.new p r k) }
+    {
+        if let Some(number) = self.known(p, r) {
+            return Ok(number);
+        }
+        self.numbered(alloc, before, round_of(before, p, r), p, r)
+    }
+
+    /// The rule by which p is before r, with the lines that it cites.
+    #[cycle(number)]
+    #[tactic(auto, using(crate::proofs::Founded::within_first))]
+    fn rule(
+        &mut self,
+        alloc: Global,
+        before: &Before,
+        round: usize,
+        p: usize,
+        r: usize,
+    ) -> Result<Rule, AllocError>
+        requires kept { Kept before.now self.old }
+        requires first { IsFirstWithin before.now round p r }
+        ensures { IfOk result (λ rule. Ruled before.now self.old self.new p r rule) }
+    {
+        match ground_of(before, round, p, r) {
+            Ground::Bit(j) => Ok(Rule::Bit(j as u32)),
+            Ground::Queue => Ok(Rule::Queue),
+            Ground::And(slot) => Ok(Rule::And(slot as u32)),
+            Ground::Or => self.either(alloc, before, round, p, r),
+            Ground::Through(m) => self.through(alloc, before, round, p, m, r),
+        }
+    }
+
+    /// The rule that p is before m, and m before r.
+    #[cycle(number)]
+    fn through(
+        &mut self,
+        alloc: Global,
+        before: &Before,
+        round: usize,
+        p: usize,
+        m: usize,
+        r: usize,
+    ) -> Result<Rule, AllocError>
+        requires kept { Kept before.now self.old }
+        requires middle { ByMiddle before.now round p r m }
+        ensures { IfOk result (λ rule. Ruled before.now self.old self.new p r rule) }
+    {
+        let first = self.cited(alloc, before, round, p, m)?;
+        let second = self.cited(alloc, before, round, m, r)?;
+        Ok(Rule::Through(first, second))
+    }
+
+    /// The rule that p is complete whichever dependency of r is over.
+    #[cycle(number)]
+    fn either(
+        &mut self,
+        alloc: Global,
+        before: &Before,
+        round: usize,
+        p: usize,
+        r: usize,
+    ) -> Result<Rule, AllocError>
+        requires kept { Kept before.now self.old }
+        requires p_is { IsPacket before.now p }
+        requires either { ByOr before.now (Below before.now round) p r }
+        ensures { IfOk result (λ rule. Ruled before.now self.old self.new p r rule) }
+    {
+        let waiting = before.job().packet(r);
+        let citations = self.branches(alloc, before, round, p, &waiting.slots)?;
+        Ok(Rule::Or(Box::new(alloc, Branches { citations })?))
+    }
+
+    /// What is cited for each of the signals.
+    #[cycle(number)]
+    fn branches(
+        &mut self,
+        alloc: Global,
+        before: &Before,
+        round: usize,
+        p: usize,
+        slots: &[Option<u16>],
+    ) -> Result<Vec<Citation>, AllocError>
+        requires kept { Kept before.now self.old }
+        requires p_is { IsPacket before.now p }
+        requires each { (slot s : ℕ) → slice_get slots.now slot ≡ Some (Some s)
+            → Reaches before.now (Below before.now round) p s }
+        ensures { IfOk result
+            (λ citations. AllBranched before.now self.old self.new p (signals slots.now) citations.items) }
+    {
+        let mut citations = Vec::new(alloc);
+        for slot in slots {
+            if let Some(signal) = slot {
+                citations.push(self.branch(alloc, before, round, p, *signal)?)?;
+            }
+        }
+        Ok(citations)
+    }
+
+    /// What is cited for a signal.
+    #[cycle(number)]
+    fn branch(
+        &mut self,
+        alloc: Global,
+        before: &Before,
+        round: usize,
+        p: usize,
+        signal: u16,
+    ) -> Result<Citation, AllocError>
+        requires kept { Kept before.now self.old }
+        requires p_is { IsPacket before.now p }
+        requires reaches { Reaches before.now (Below before.now round) p signal }
+        ensures { IfOk result (λ citation. Branched before.now self.old self.new p signal citation) }
+    {
+        let d = branch_of(before, round, p, signal).unwrap();
+        if d == p {
+            return Ok(Citation::same());
+        }
+        let number = self.cited(alloc, before, round, p, d)?;
+        Ok(Citation::line(number))
+    }
+}
