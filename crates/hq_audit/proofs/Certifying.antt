@@ -2,9 +2,9 @@
 use Rattle.std.proofs.Common.{◌≡◌, ℕ, ◌<◌, ◌⊎◌, inl, inr, List, refl, sym, subst, Result, Ok, Err}
 use Rattle.std.specs.Prelude.{IfErr}
 use Rattle.std.specs.Result.{IsErrAnd}
-use Rattle.hq_order.specs.Faults.{StuckWhereSo}
-use Rattle.hq_order.specs.declared.fault.OrderFault.{OrderFault}
-use Rattle.hq_order.specs.declared.fault.OrderFault.TheVariants as order
+use Rattle.hq_schedule.specs.Faults.{StuckWhereSo}
+use Rattle.hq_waits.specs.declared.fault.OrderFault.{OrderFault}
+use Rattle.hq_waits.specs.declared.fault.OrderFault.TheVariants as order
 use Rattle.hq_fence.specs.Judgement.{conflict_of}
 use Rattle.hq_model.specs.Job.{Job, IsPacket}
 use Rattle.hq_model.specs.Order.{OrderList}

@@ -3,9 +3,9 @@ use Rattle.std.specs.Prelude.{◌≡◌, ℕ, ◌<◌, ◌⊎◌, List}
 use Rattle.hq_fence.specs.Judgement.{Shows, IsNotShown}
 use Rattle.hq_model.specs.Job.{Job, IsPacket}
 use Rattle.hq_model.specs.Order.{Before, OrderList}
-use Rattle.hq_order.specs.Placing.{AreStuck}
-use Rattle.hq_order.specs.declared.fault.OrderFault.{OrderFault}
-use Rattle.hq_order.specs.declared.fault.OrderFault.TheVariants as order
+use Rattle.hq_schedule.specs.Placing.{AreStuck}
+use Rattle.hq_waits.specs.declared.fault.OrderFault.{OrderFault}
+use Rattle.hq_waits.specs.declared.fault.OrderFault.TheVariants as order
 use Rattle.hq_audit.specs.declared.fault.AuditNo.{AuditNo}
 use Rattle.hq_audit.specs.declared.fault.AuditNo.TheVariants as audit
 use Rattle.hq_model.specs.Fence.{Shown}

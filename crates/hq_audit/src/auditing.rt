@@ -17,7 +17,8 @@ use crate::pairs::cite_all;
 use hq_cert::Certificate;
 use hq_derive::lines_for;
 use hq_job::Job;
-use hq_order::{Before, schedule};
+use hq_order::Before;
+use hq_schedule::schedule;
 use hq_parts::Parts;
 use std::alloc::{AllocError, Global};
 

@@ -6,7 +6,7 @@ ghost use Rattle.hq_audit.specs.declared.fault.AuditNo.TheVariants.{Memory};
 
 use crate::directed::Unshown;
 use hq_finding::{Kind, Why};
-use hq_order::OrderFault;
+use hq_waits::OrderFault;
 use std::alloc::{AllocError, AllocFailed};
 use thiserror::Error;
 

@@ -11,7 +11,8 @@ ghost use Rattle.hq_audit.specs.Refused.{ShownOneWay};
 use crate::directed::{Unshown, direct};
 use crate::fault::AuditNo;
 use hq_job::Job;
-use hq_order::{Before, schedule};
+use hq_order::Before;
+use hq_schedule::schedule;
 use hq_parts::Parts;
 use std::alloc::Global;
 

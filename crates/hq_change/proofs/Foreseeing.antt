@@ -12,7 +12,7 @@ use Rattle.hq_model.proofs.Fences.{shown_is_before}
 use Rattle.hq_model.proofs.SettingsKept.{heads_leave_conflicts, heads_leave_lists, same_length, packets_same}
 use Rattle.hq_model.proofs.SettingsSteps.{heads_are_set, raises_on, same_by_heads}
 use Rattle.hq_bits.specs.Bits.{has}
-use Rattle.hq_order.specs.Matrix.{Marks, IsSquare, row, words_for}
+use Rattle.hq_rows.specs.Matrix.{Marks, IsSquare, row, words_for}
 use Rattle.hq_bits.proofs.Walked.{mark_bit}
 use Rattle.hq_parts.specs.Parts.{NeverConflict}
 use Rattle.hq_audit.specs.Refused.{AllShown}

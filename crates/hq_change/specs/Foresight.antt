@@ -7,7 +7,7 @@ use Rattle.hq_model.specs.Fence.{Ordered}
 use Rattle.hq_fence.specs.Judgement.{HaveConflict}
 use Rattle.hq_model.specs.Settings.{Raises, head_at}
 use Rattle.hq_model.specs.Settings.Part.{Bit}
-use Rattle.hq_order.specs.Matrix.{Marks, IsSquare}
+use Rattle.hq_rows.specs.Matrix.{Marks, IsSquare}
 use Rattle.hq_change.specs.declared.level.Level.TheVariants as level
 use Rattle.hq_change.specs.Levels.{IsAt}
 use Rattle.hq_change.specs.Minimal.{AtOrAbove, Settled, SettledFrom}

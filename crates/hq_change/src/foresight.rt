@@ -5,7 +5,7 @@ ghost use Rattle.hq_job.specs.Plan.{plan};
 ghost use Rattle.hq_model.specs.Fence.{Ordered};
 ghost use Rattle.hq_model.specs.Job.{IsPacket};
 ghost use Rattle.hq_bits.specs.Bits.{has};
-ghost use Rattle.hq_order.specs.Matrix.{IsSquare, Marks, row, words_for};
+ghost use Rattle.hq_rows.specs.Matrix.{IsSquare, Marks, row, words_for};
 ghost use Rattle.hq_order.specs.View.{AreOf};
 ghost use Rattle.hq_parts.specs.Parts.{AreParts};
 ghost use Rattle.hq_fence.specs.Judgement.{HaveConflict};
@@ -14,7 +14,8 @@ ghost use Rattle.hq_change.specs.Foresight.{AreConflicts, HaveConflicts};
 use hq_bits::{covers, empty, first_from, insert, take_out};
 use hq_fence::have_conflict;
 use hq_job::Job;
-use hq_order::{Before, Rounds, marks, sweep};
+use hq_order::{Before, Rounds, sweep};
+use hq_rows::marks;
 use hq_parts::Parts;
 use std::alloc::{AllocError, Global};
 

@@ -12,7 +12,7 @@ use Rattle.hq_model.proofs.SettingsSteps.{heads_are_set, same_by_heads}
 use Rattle.hq_job.specs.Plan.{plan}
 use Rattle.hq_job.specs.Value.{JobValue}
 use Rattle.hq_bits.specs.Bits.{has}
-use Rattle.hq_order.proofs.Filling.{packets_count}
+use Rattle.hq_waits.proofs.Packets.{packets_count}
 use Rattle.hq_bits.proofs.Words.{or_cases, and_both, eq_test}
 use Rattle.hq_audit.specs.Refused.{ShownOneWay}
 use Rattle.hq_explain.specs.declared.change.Change.TheVariants as change

@@ -15,7 +15,7 @@ use Rattle.hq_job.specs.Plan.{plan}
 use Rattle.hq_job.specs.Value.{JobValue}
 use Rattle.hq_order.specs.View.{AreOf, SameButScopes}
 use Rattle.hq_order.specs.declared.before.Rounds.{Rounds}
-use Rattle.hq_order.proofs.Filling.{packets_count}
+use Rattle.hq_waits.proofs.Packets.{packets_count}
 use Rattle.hq_order.proofs.Scopes.{scopes_leave_rounds}
 use Rattle.hq_audit.specs.declared.directed.Directed.{Directed}
 use Rattle.hq_audit.specs.declared.directed.Unshown.{Unshown}

@@ -5,8 +5,8 @@ use Rattle.hq_model.specs.Job.{Job, IsPacket, Dependency, Decrements, Frees}
 use Rattle.hq_model.specs.Order as order
 use Rattle.hq_model.specs.Order.{OrderList, place}
 use Rattle.hq_bits.specs.Bits.{has}
-use Rattle.hq_order.specs.Matrix.{Marks, row}
-use Rattle.hq_order.specs.Placing.{AllAre}
+use Rattle.hq_rows.specs.Matrix.{Marks, row}
+use Rattle.hq_rows.specs.Lists.{AllAre}
 use Rattle.hq_parts.specs.Parts.{AreParts}
 use Rattle.hq_graph.specs.Order.{IsStep}
 use Rattle.hq_graph.specs.declared.stuck.Stuck.{Stuck}

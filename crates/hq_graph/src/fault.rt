@@ -3,7 +3,7 @@
 ghost use Rattle.std.specs.Prelude.{◌≡◌};
 ghost use Rattle.hq_graph.specs.declared.fault.GraphFault.TheVariants.{Memory, Writer};
 
-use hq_order::OrderFault;
+use hq_waits::OrderFault;
 use std::alloc::AllocError;
 use std::io;
 use thiserror::Error;

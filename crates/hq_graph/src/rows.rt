@@ -4,7 +4,7 @@ ghost use Rattle.std.specs.Prelude.{◌≡◌, ◌↔◌, ℕ, ◌<◌, ◌≤�
 ghost use Rattle.hq_model.specs.Job.{IsPacket};
 ghost use Rattle.hq_model.specs.Order as order;
 ghost use Rattle.hq_bits.specs.Bits.{has};
-ghost use Rattle.hq_order.specs.Matrix.{words_for};
+ghost use Rattle.hq_rows.specs.Matrix.{words_for};
 ghost use Rattle.hq_graph.specs.Known.{AreSteps, Sees};
 ghost use Rattle.hq_graph.specs.Order.{IsStep};
 

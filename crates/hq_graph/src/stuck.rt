@@ -3,7 +3,7 @@
 ghost use Rattle.std.specs.Prelude.{◌≡◌, [], IfOk, IfErr, length};
 ghost use Rattle.hq_job.specs.Plan.{plan};
 ghost use Rattle.hq_model.specs.Order.{OrderList};
-ghost use Rattle.hq_order.specs.Placing.{AreStuck, HasCome};
+ghost use Rattle.hq_schedule.specs.Placing.{AreStuck, HasCome};
 ghost use Rattle.hq_graph.specs.Known.{TellsStuck};
 ghost use Rattle.hq_graph.specs.declared.fault.GraphFault.TheVariants.{Memory};
 
@@ -12,7 +12,8 @@ use crate::turns::{first_barred, turns_of};
 use hq_bits::{empty, insert};
 use hq_job::Job;
 use hq_order::laws::none_where_stuck;
-use hq_order::{OrderFault, schedule};
+use hq_schedule::schedule;
+use hq_waits::OrderFault;
 use std::alloc::{AllocError, Global};
 
 /// The packets that can never complete, as a set, and whether there are such. If so, also when each packet is

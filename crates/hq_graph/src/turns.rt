@@ -5,12 +5,12 @@ ghost use Rattle.std.specs.Prelude.{◌≡◌, ◌↔◌, ℕ, ◌<◌, ◌≤�
 ghost use Rattle.hq_job.specs.Plan.{plan};
 ghost use Rattle.hq_model.specs.Job.{Frees, IsPacket, place_in_queue};
 ghost use Rattle.hq_model.specs.Order.{place};
-ghost use Rattle.hq_order.specs.Placing.{AllAre};
+ghost use Rattle.hq_rows.specs.Lists.{AllAre};
 ghost use Rattle.hq_graph.specs.Known.{HasNoSlot};
 
 use hq_bits::has;
 use hq_job::Job;
-use hq_order::turn;
+use hq_schedule::turn;
 use std::alloc::{AllocError, Global};
 
 /// How many packets of its queue stand before a packet.

@@ -3,7 +3,7 @@ use Rattle.std.proofs.Common.{◌⊎◌, ℕ, inl, inr, List, Option, codes}
 use Rattle.hq_model.specs.Job.{Job}
 use Rattle.hq_model.specs.Certificate.{Certificate, CertHolds}
 use Rattle.hq_model.specs.Theorems.{Valid}
-use Rattle.hq_order.specs.Placing.{AreStuck}
+use Rattle.hq_schedule.specs.Placing.{AreStuck}
 use Rattle.hq_certtext.specs.Printed.{text_of}
 use Rattle.hq_audit.specs.Refused.{IsRefused}
 use Rattle.hq_audit.specs.declared.fault.AuditNo.{AuditNo}

@@ -7,7 +7,7 @@ use Rattle.hq_model.specs.Machine.{Event, State, Run, NoWorkLeft}
 use Rattle.hq_model.specs.Machine.Phase.{Complete}
 use Rattle.hq_model.specs.Finishing.{StandstillLaw, StuckExact}
 use Rattle.hq_model.specs.Certificate.{Certificate, CertHolds}
-use Rattle.hq_order.specs.Placing.{AreStuck}
+use Rattle.hq_schedule.specs.Placing.{AreStuck}
 use Rattle.hq_finding.specs.Names.{kind_name, why_name}
 use Rattle.hq_finding.specs.declared.kind.Kind.{Kind}
 use Rattle.hq_finding.specs.declared.why.Why.{Why}

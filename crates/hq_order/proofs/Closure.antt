@@ -1,30 +1,19 @@
 -- Round after round, until one adds nothing: then all of the order is there.
-use Rattle.std.proofs.Common.{◌≡◌, ◌↔◌, ℕ, zero, suc, ◌+◌, ◌-◌, ◌<◌, inl, inr, List, [], ◌∷◌, ◌++◌, length, refl, sym, ◌∙◌, ap, subst, arith, slice_index_or, map, length-append}
+use Rattle.std.proofs.Common.{◌≡◌, ◌↔◌, ℕ, zero, suc, ◌+◌, ◌-◌, ◌<◌, inl, inr, List, [], ◌∷◌, ◌++◌, length, refl, sym, subst, arith, length-append}
 use Rattle.std.specs.Global.{Vec}
 use Rattle.std.proofs.lemmas.Bool.{cases_lt}
 use Rattle.hq_model.specs.Job.{Job, Decrements}
 use Rattle.hq_model.specs.Order.{Before, Branch}
 use Rattle.hq_model.specs.Order.Before.{by_bit, by_queue, by_and, by_or, through}
 use Rattle.hq_model.specs.Order.Branch.{itself, after}
-use Rattle.hq_order.specs.Matrix.{row, Marks, IsSquare, AreRounds, IsClosed, matrix, last, IsMarkedNowhere, IsMarkedFirst}
-use Rattle.hq_bits.specs.Bits.{Grown}
+use Rattle.hq_rows.specs.Matrix.{Marks, IsSquare, matrix, last, IsMarkedNowhere, IsMarkedFirst}
+use Rattle.hq_order.specs.Rounds.{AreRounds, IsClosed, Direct, Reaches, Next, Within, IsFirstWithin}
 use Rattle.std.specs.Prelude.{Option, Some, None, MatchOption}
-use Rattle.hq_order.specs.Rounds.{Direct, Reaches, Next, Within, IsFirstWithin}
 use Rattle.hq_order.specs.Rounds.Precedes.{by_bit as bit_behind, by_queue as queued}
 use Rattle.hq_order.specs.Rounds.Awaits.{by_and as waits_one, by_or as waits_each}
 use Rattle.hq_order.specs.Rounds.Next.{by_known, by_either, through as joining}
-use Rattle.hq_order.proofs.Rows.{marked_below}
-
--- ---- lists of rows
-
-pub below_pushed : {X Y : Type 0} (f : X → List Y) (xs : List X) (x : X) (k : ℕ) → k < length xs → slice_index_or (map f (xs ++ x ∷ [])) k [] ≡ slice_index_or (map f xs) k []
-below_pushed f [] x k l = absurd (omega arith)
-below_pushed f (y ∷ ys) x zero l = refl
-below_pushed f (y ∷ ys) x (suc k) l = below_pushed f ys x k (omega arith)
-
-pub at_pushed : {X Y : Type 0} (f : X → List Y) (xs : List X) (x : X) → slice_index_or (map f (xs ++ x ∷ [])) (length xs) [] ≡ f x
-at_pushed f [] x = refl
-at_pushed f (y ∷ ys) x = at_pushed f ys x
+use Rattle.hq_rows.proofs.Rows.{marked_below}
+use Rattle.hq_rows.proofs.Pushed.{below_pushed, at_pushed}
 
 -- ---- one round from another
 
@@ -83,12 +72,6 @@ more_rounds job rounds x a sq h =
       ];
     }
 
-pub last_pushed : (rounds : List (Vec (Vec ℕ))) (x : Vec (Vec ℕ)) → last (rounds ++ x ∷ []) ≡ x.items
-last_pushed rounds x =
-    let more : length (rounds ++ x ∷ []) ≡ length rounds + 1 = length-append rounds (x ∷ []) in
-    let e : length (rounds ++ x ∷ []) - 1 ≡ length rounds = omega arith in
-    ap (matrix (rounds ++ x ∷ [])) e ∙ at_pushed (λ v. v.items) rounds x
-
 -- ---- what is within a round is before
 
 direct_before : (job : Job) (p r : ℕ) → Direct job p r → Before job p r
@@ -139,31 +122,6 @@ last_exact job rounds a c p r =
       λ m. within_before job k p r ((a.exact k p r low).0 m),
       λ b. before_known job (Marks (last rounds)) (record { direct = λ q s d. (a.exact k q s low).1 (direct_within job k q s d); next = c }) b,
     )
-
--- what holds of each row below, and of the one that is pushed
-pub pushed : (P : ℕ → List ℕ → Type 0) (rows : List (Vec ℕ)) (x : Vec ℕ) (new : List (Vec ℕ)) (n : ℕ) → length rows ≡ n → new ≡ rows ++ x ∷ [] → ((r : ℕ) → r < n → P r (row rows r)) → P n x.items → (r : ℕ) → r < n + 1 → P r (row new r)
-pushed P rows x new n len e h here r l = subst (λ ys. P r (row ys r)) (sym e) (elim (cases_lt r n) [
-  | inl low ↦ subst (P r) (sym (below_pushed (λ v. v.items) rows x r (omega arith))) (h r low)
-  | inr high ↦
-      let is : n ≡ r = omega arith in
-      subst (λ k. P k (row (rows ++ x ∷ []) k)) is (subst (P n) (sym (ap (row (rows ++ x ∷ [])) (sym len) ∙ at_pushed (λ v. v.items) rows x)) here)
-])
-
-pub square_grown : (n : ℕ) (old new : List (Vec ℕ)) → IsSquare n old → length new ≡ length old → ((r : ℕ) → r < length old → Grown (row old r) (row new r)) → IsSquare n new
-square_grown n old new sq e g = record {
-  height = e ∙ sq.height;
-  width = λ r l. (g r (let h = sq.height in omega arith)).len ∙ sq.width r l;
-  room = sq.room;
-  few = sq.few;
-}
-
-pub matrix_is : (rounds : List (Vec (Vec ℕ))) (k : ℕ) (x : Vec (Vec ℕ)) → k < length rounds → x ≡ slice_index_or rounds k x → matrix rounds k ≡ x.items
-matrix_is [] k x l is = absurd (omega arith)
-matrix_is (y ∷ ys) zero x l is = ap (λ v. v.items) (sym is)
-matrix_is (y ∷ ys) (suc k) x l is = matrix_is ys k x (omega arith) is
-
-pub last_is : (rounds : List (Vec (Vec ℕ))) (n : ℕ) (x : Vec (Vec ℕ)) → 0 < length rounds → n ≡ length rounds → x ≡ slice_index_or rounds (n - 1) x → last rounds ≡ x.items
-last_is rounds n x some e is = matrix_is rounds (length rounds - 1) x (omega arith) (is ∙ ap (λ k. slice_index_or rounds (k - 1) x) e)
 
 pub round_exact : (job : Job) (rounds : List (Vec (Vec ℕ))) (p r : ℕ) (o : Option ℕ) → AreRounds job rounds → IsClosed job rounds → MatchOption o (IsMarkedNowhere rounds p r) (λ k. IsMarkedFirst rounds p r k) → MatchOption o (Before job p r → ⊥) (λ k. IsFirstWithin job k p r)
 round_exact job rounds p r None a c h = λ b. let some = a.some in h (length rounds - 1) (omega arith) ((last_exact job rounds a c p r).1 b)

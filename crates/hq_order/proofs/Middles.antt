@@ -4,11 +4,11 @@ use Rattle.std.specs.Prelude.{MatchOption, IfSome}
 use Rattle.std.specs.Global.{Vec}
 use Rattle.std.proofs.lemmas.Bool.{cases_lt}
 use Rattle.hq_model.specs.Job.{Job}
-use Rattle.hq_order.specs.Matrix.{row, Marks, AreRounds, IsClosed, matrix, IsMarkedBetween, IsMarkedNowhere}
-use Rattle.hq_order.specs.Rounds.{Within, IsFirstWithin, Between, IsMiddle}
+use Rattle.hq_rows.specs.Matrix.{row, Marks, matrix, IsMarkedBetween, IsMarkedNowhere}
+use Rattle.hq_order.specs.Rounds.{AreRounds, IsClosed, Within, IsFirstWithin, Between, IsMiddle}
 use Rattle.hq_order.specs.Rounds.Next.{by_known}
 use Rattle.hq_order.proofs.Closure.{within_before, last_exact}
-use Rattle.hq_order.proofs.Rows.{marked_below}
+use Rattle.hq_rows.proofs.Rows.{marked_below}
 use Rattle.hq_bits.proofs.Words.{within}
 
 -- what is within a round is within those above it

@@ -7,7 +7,7 @@ use Rattle.hq_order.specs.Rounds.{Precedes, Awaits, Direct, Reaches, Next, Withi
 use Rattle.hq_order.specs.Rounds.Precedes.{by_bit, by_queue}
 use Rattle.hq_order.specs.Rounds.Awaits.{by_and, by_or}
 use Rattle.hq_order.specs.Rounds.Next.{by_known, by_either, through}
-use Rattle.hq_order.specs.Matrix.{IsSquare, Marks, matrix, last}
+use Rattle.hq_rows.specs.Matrix.{IsSquare, Marks, matrix, last}
 use Rattle.hq_order.specs.View.{AreOf, ScopesLeaveRounds}
 
 -- each packet has the bit in both or in neither

@@ -8,7 +8,8 @@ use Rattle.hq_job.specs.Plan.{plan, planned, kind_of}
 use Rattle.hq_model.specs.Job.{Job, packet, IsPacket, Earlier, Dependency, Decrements, IsBarrier}
 use Rattle.hq_model.specs.Job.Kind.{BarrierAnd, BarrierOr}
 use Rattle.hq_job.specs.Access.{AreOfQueue}
-use Rattle.hq_order.specs.Placing.{OfDependencies}
+use Rattle.hq_waits.specs.Waits.{OfDependencies}
+use Rattle.hq_waits.proofs.Packets.{earlier_range}
 use Rattle.hq_order.specs.Rounds.{Precedes, Awaits, Direct}
 use Rattle.hq_model.specs.Order.{AwaitsAny, Whichever}
 use Rattle.hq_model.proofs.Orders.{bit_packet, earlier_packet}
@@ -122,19 +123,6 @@ direct_packet_r job p r (inr (by_and by)) = by.dependency.is_packet
 direct_packet_r job p r (inr (by_or any c)) = any.some.2.is_packet
 
 -- ---- the packets of a queue
-
--- those earlier than r are all from the first on
-pub earlier_range : (job : Job) (queue start stop p r : ℕ) → AreOfQueue job queue start stop → (packet job r).queue ≡ queue → IsPacket job r → Earlier job p r ↔ ((p < r) × (start ≤ p))
-earlier_range job queue start stop p r q e l = (
-  λ f.
-      let ahead : p < r = f.ahead in
-      let packets : r < length job.packets = l in
-      let there : p < length job.packets = omega arith in
-      (ahead, (q.within p there (f.same_queue ∙ e)).0),
-  λ h.
-      let inside : r < stop = (q.within r l e).1 in
-      record { ahead = h.0; is_packet = l; same_queue = (q.of_queue p h.1 (let ahead : p < r = h.0 in omega arith)).1 ∙ sym e },
-)
 
 -- what stays ahead of r stands ahead of it in its queue, so that nothing does where r is the first
 pub precedes_earlier : (job : Job) (p r : ℕ) → Precedes job p r → Earlier job p r

@@ -12,8 +12,8 @@ use Rattle.hq_model.specs.Order.{ByBit, ByQueue, Before, Branch}
 use Rattle.hq_model.specs.Order.Before.{by_bit, by_queue, by_and, by_or, through}
 use Rattle.hq_model.specs.Order.Branch.{itself, after}
 use Rattle.hq_bits.specs.Bits.{has, Covers}
-use Rattle.hq_order.specs.Matrix.{Marks, IsSquare, row, words_for}
-use Rattle.hq_order.specs.Uniting.{CanUnite}
+use Rattle.hq_rows.specs.Matrix.{Marks, IsSquare, row, words_for}
+use Rattle.hq_rows.specs.Uniting.{CanUnite}
 use Rattle.hq_order.specs.Rounds.{Reaches, ByOr}
 use Rattle.hq_order.specs.Sweeping.{Asked, StandsTogether, HasAsked, HaveAsked, HaveOrder}
 use Rattle.hq_order.specs.Sweeping.Asked.{by_ahead as asked_ahead, by_queue as asked_queue, by_bit as asked_bit, by_and as asked_and, by_or as asked_or}

@@ -7,12 +7,15 @@ use Rattle.hq_model.specs.Job.{Job, Decrements}
 use Rattle.hq_model.specs.Job.Kind.{BarrierOr}
 use Rattle.hq_model.specs.Theorems.{Valid}
 use Rattle.hq_bits.specs.Bits.{has}
-use Rattle.hq_order.specs.Matrix.{row, Marks, Square}
-use Rattle.hq_order.specs.Placing.{AllAre, Completing}
+use Rattle.hq_rows.specs.Matrix.{row, Marks, Square}
+use Rattle.hq_rows.specs.Lists.{AllAre}
+use Rattle.hq_waits.specs.Waits.{Completing}
 use Rattle.hq_order.specs.Rounds.{Reaches, ByOr, Next, Awaits}
 use Rattle.hq_order.specs.Rounds.Next.{by_known, by_either, through}
 use Rattle.hq_order.proofs.Single.{Shows, slot_of, dependency, kind_is, awaits_or}
-use Rattle.hq_order.proofs.Lists.{all_rows}
+use Rattle.hq_rows.proofs.Lists.{all_rows}
+use Rattle.hq_rows.proofs.Rows.{marked_below}
+use Rattle.hq_rows.specs.Uniting.{Through, Stepped}
 use Rattle.hq_bits.proofs.Words.{within}
 
 pub reach_within : (job : Job) (rows : List (Vec ℕ)) (words p s : ℕ) → Square (length job.packets) words rows → Reaches job (Marks rows) p s → p / 64 < words
@@ -80,3 +83,11 @@ awaits_shared job completing words p r placed Full Shared w v k room all low f h
         λ slot s there. ((set slot s there).are p).1 (e.1 a slot s (dependency job r slot s placed w there)),
       ),
     )
+
+-- a round notes those whose rows have more than two of the rows before give
+pub stepped_next : (job : Job) (rows new : List (Vec ℕ)) (renewed : List ℕ) → ((p r : ℕ) → Marks new p r ↔ Next job (Marks rows) p r) → ((p m : ℕ) → m < length new → Marks new p m → IsTrue (has renewed m) ⊎ Through rows p m) → Stepped rows new renewed
+stepped_next job rows new renewed exact rests = record {
+  known = λ p r k. (exact p r).1 (by_known k);
+  joined = λ p m r k l. (exact p r).1 (through {m = m} k l);
+  rests = λ p m k. rests p m (marked_below new p m k) k;
+}

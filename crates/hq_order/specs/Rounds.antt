@@ -1,7 +1,9 @@
 -- The order of a job's packets, round by round.
-use Rattle.std.specs.Prelude.{◌≡◌, ℕ, zero, suc, ◌<◌, ◌⊎◌}
+use Rattle.std.specs.Prelude.{◌≡◌, ℕ, zero, suc, ◌<◌, ◌⊎◌, ◌↔◌, List, length}
+use Rattle.std.specs.Global.{Vec}
 use Rattle.hq_model.specs.Job.{Job, Decrements}
 use Rattle.hq_model.specs.Order.{ByBit, ByQueue, ByAnd, AwaitsAny, Whichever}
+use Rattle.hq_rows.specs.Matrix.{Marks, IsSquare, matrix, last}
 
 -- p stands before r in a queue, and r waits for it as it is launched.
 pub data Precedes (job : Job) (p r : ℕ) : Type 0 where
@@ -55,3 +57,15 @@ pub record Between (job : Job) (round p r m : ℕ) : Type 0 where
 pub record IsMiddle (job : Job) (round p r m : ℕ) : Type 0 where
   pub between : Between job round p r m
   pub least : (i : ℕ) → i < m → Between job round p r i → ⊥
+
+-- ---- the rounds as rows of bits
+
+-- Round after round, each pair that is within it.
+pub record AreRounds (job : Job) (rounds : List (Vec (Vec ℕ))) : Type 0 where
+  pub some : 0 < length rounds
+  pub square : (k : ℕ) → k < length rounds → IsSquare (length job.packets) (matrix rounds k)
+  pub exact : (k p r : ℕ) → k < length rounds → Marks (matrix rounds k) p r ↔ Within job k p r
+
+-- One more round would add nothing.
+abbrev pub IsClosed : Job → List (Vec (Vec ℕ)) → Type 0
+IsClosed job rounds = (p r : ℕ) → Next job (Marks (last rounds)) p r → Marks (last rounds) p r

@@ -3,7 +3,7 @@ use Rattle.std.specs.Prelude.{◌≡◌, ℕ, suc, ◌<◌, ◌⊎◌, List, len
 use Rattle.std.specs.Global.{Vec}
 use Rattle.hq_model.specs.Job.{Job, IsPacket, Earlier}
 use Rattle.hq_model.specs.Order.{ByBit, ByQueue, ByAnd, Before}
-use Rattle.hq_order.specs.Matrix.{Marks, IsSquare}
+use Rattle.hq_rows.specs.Matrix.{Marks, IsSquare}
 use Rattle.hq_order.specs.Rounds.{ByOr}
 
 -- By what is known, p is before r: it is before the packet right ahead of r in its queue, or is that packet, and a

@@ -5,7 +5,8 @@ use Rattle.hq_model.specs.Job.{Job}
 use Rattle.hq_model.specs.Settings.{SameButHeads, head_at}
 use Rattle.hq_order.specs.declared.before.Before.TheInside.{Inside}
 use Rattle.hq_order.specs.declared.before.Rounds.{Rounds}
-use Rattle.hq_order.specs.Matrix.{AreRounds, IsClosed, AreTurned}
+use Rattle.hq_order.specs.Rounds.{AreRounds, IsClosed}
+use Rattle.hq_rows.specs.Matrix.{AreTurned}
 
 -- the plan of its job
 abbrev pub order_of : Inside → Job

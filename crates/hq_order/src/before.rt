@@ -1,24 +1,25 @@
 //! The order of a job's packets, worked out.
 
-ghost use Rattle.std.specs.Prelude.{◌≡◌, ℕ, ◌+◌, ◌-◌, ◌<◌, ◌≤◌, ◌↔◌, [], true, false, IsTrue, IfOk, IfErr};
+ghost use Rattle.std.specs.Prelude.{◌≡◌, ℕ, ◌+◌, ◌-◌, ◌<◌, ◌≤◌, ◌↔◌, true, false, IsTrue, IfOk, IfErr};
 ghost use Rattle.std.specs.Prelude.{MatchOption, IfSome, length, ◌*◌};
 ghost use Rattle.hq_job.specs.Plan.{plan};
 ghost use Rattle.hq_model.specs.Order as order;
-ghost use Rattle.hq_order.specs.Rounds.{Direct, Next, IsFirstWithin, Between, IsMiddle};
-ghost use Rattle.hq_order.specs.Placing.{AllAre, Completing};
-ghost use Rattle.hq_order.specs.Matrix.{row, words_for, Marks, IsSquare, AreRounds, IsClosed, matrix, last};
 ghost use Rattle.hq_bits.specs.Bits.{Grown, has};
-ghost use Rattle.hq_order.specs.Matrix.{earlier, lag, AreTurned, Differ, IsMarkedNowhere, IsMarkedFirst};
-ghost use Rattle.hq_order.specs.Uniting.{CanUnite, Stepped};
+ghost use Rattle.hq_rows.specs.Lists.{AllAre};
+ghost use Rattle.hq_rows.specs.Matrix.{row, words_for, Marks, IsSquare, last, earlier, lag};
+ghost use Rattle.hq_rows.specs.Uniting.{CanUnite, Stepped};
+ghost use Rattle.hq_waits.specs.Waits.{Completing};
+ghost use Rattle.hq_order.specs.Rounds.{Direct, Next, IsFirstWithin, Between, IsMiddle, AreRounds, IsClosed};
 ghost use Rattle.hq_order.specs.View.{AreOf};
 
-use crate::columns::{all_turned, between, row_of};
-use crate::completing::completing;
 use crate::direct::{direct_row, go_on};
-use crate::fault::OrderFault;
-use crate::gathering::{Known, unions_if_many};
 use crate::rounds::next_row;
 use hq_job::Job;
+use hq_rows::{
+    Known, all_turned, are_same, between, earlier_rows, first_turned, last_rows, marks, row_of,
+    unions_if_many,
+};
+use hq_waits::{OrderFault, completing};
 use std::alloc::{AllocError, Global};
 use std::marker::Model;
 
@@ -83,48 +84,6 @@ fn next_rows(
         new.push(next_row(alloc, job, completing, known, renewed, r)?)?;
     }
     Ok(new)
-}
-
-/// Whether all rows are the same.
-fn are_same(left: &[Vec<u64>], right: &[Vec<u64>]) -> bool
-    requires { length left.now ≡ length right.now }
-    ensures same { IsTrue result → (r : ℕ) → row left.now r ≡ row right.now r }
-    ensures other { result ≡ false → Differ left.now right.now }
-{
-    for (r, row) in left.iter().enumerate() {
-        if !hq_bits::is_same(row, &right[r]) {
-            return false;
-        }
-    }
-    true
-}
-
-/// The rows of a round; none where there is none.
-fn rows_of(rounds: &[Vec<Vec<u64>>], k: usize) -> &[Vec<u64>]
-    ensures { result.now ≡ matrix rounds.now k }
-{
-    match rounds.get(k) {
-        Some(rows) => rows,
-        None => &[],
-    }
-}
-
-/// The rows of the last round.
-fn last_rows(rounds: &[Vec<Vec<u64>>]) -> &[Vec<u64>]
-    requires { 0 < length rounds.now }
-    ensures { result.now ≡ last rounds.now }
-{
-    rows_of(rounds, rounds.len() - 1)
-}
-
-/// The rows of the round before the last; none where there is none.
-fn earlier_rows(rounds: &[Vec<Vec<u64>>]) -> &[Vec<u64>]
-    ensures { result.now ≡ earlier rounds.now }
-{
-    if rounds.len() < 2 {
-        return &[];
-    }
-    rows_of(rounds, rounds.len() - 2)
 }
 
 /// The rows of the round after these. `renewed` has the packets whose rows in the last round have more than two of
@@ -213,35 +172,6 @@ fn all_rounds(
     let mut renewed = hq_bits::full(alloc, hq_bits::WORDS)?;
     'rounds: while add_round(alloc, job, completing, &mut rounds, &mut renewed)? {}
     Ok(rounds)
-}
-
-/// Whether the row of r has p.
-pub fn marks(rows: &[Vec<u64>], p: usize, r: usize) -> bool
-    ensures { IsTrue result ↔ Marks rows.now p r }
-{
-    match rows.get(r) {
-        Some(row) => hq_bits::has(row, p),
-        None => false,
-    }
-}
-
-/// The first of the rounds that marks the pair, by the rows turned round.
-#[inline(always)]
-fn first_turned(rounds: &[Vec<Vec<u64>>], tables: &[Vec<u64>], p: usize, r: usize) -> Option<usize>
-    requires turned { AreTurned rounds.now tables.now }
-    requires p { p < 1024 }
-    requires r { r < 1024 }
-    ensures { MatchOption result (IsMarkedNowhere rounds.now p r) (λ k. IsMarkedFirst rounds.now p r k) }
-{
-    for (k, table) in tables.iter().enumerate() {
-        if hq_bits::has(table, p * hq_bits::WIDTH + r) {
-            return Some(k);
-        }
-    }
-    if marks(last_rows(rounds), p, r) {
-        return Some(tables.len());
-    }
-    None
 }
 
 /// The order of a job's packets: which is complete before which becomes active, in every run. Contracts see it as

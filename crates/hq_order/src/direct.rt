@@ -1,17 +1,19 @@
 //! What comes before a packet by a rule that rests on no other pair.
 
-ghost use Rattle.std.specs.Prelude.{◌≡◌, ℕ, ◌-◌, ◌<◌, ◌↔◌, ◌⊎◌, ◌*◌, ◌≤◌, IsTrue, IfOk, OnOk, Some, length, slice_get};
+ghost use Rattle.std.specs.Prelude.{◌≡◌, ℕ, ◌-◌, ◌<◌, ◌↔◌, ◌⊎◌, ◌*◌, ◌≤◌, IsTrue, IfOk, OnOk, length};
 ghost use Rattle.hq_job.specs.Plan.{plan};
 ghost use Rattle.hq_model.specs.Job.{IsPacket};
 ghost use Rattle.hq_bits.specs.Bits.{has};
-ghost use Rattle.hq_order.specs.Matrix.{row, Marks};
-ghost use Rattle.hq_order.specs.Placing.{AllAre, Completing};
+ghost use Rattle.hq_rows.specs.Matrix.{row};
+ghost use Rattle.hq_rows.specs.Lists.{AllAre};
+ghost use Rattle.hq_waits.specs.Waits.{Completing};
 ghost use Rattle.hq_order.specs.Rounds.{Precedes, Awaits, Direct};
 
-use crate::needs::unite_dependencies;
-use hq_bits::{clear, full, insert, insert_all, meet, unite};
+use hq_bits::{clear, full, insert, insert_all, unite};
 use hq_job::Job;
 use hq_packet::Packet;
+use hq_rows::meet_each;
+use hq_waits::unite_dependencies;
 use std::alloc::{AllocError, Global};
 
 /// Goes on from the packets that r - 1 stays behind as it is launched to those that r does.
@@ -30,30 +32,6 @@ pub fn go_on(ahead: &mut [u64], job: &Job, r: usize)
         insert_all(ahead, start, r);
     } else if job.is_barrier(r - 1) {
         insert(ahead, r - 1);
-    }
-}
-
-/// Leaves only the packets that complete on the signal.
-fn meet_one(shared: &mut [u64], completing: &[Vec<u64>], signal: usize)
-    requires low { signal < length completing.now }
-    requires width { (s : ℕ) → s < length completing.now → length (row completing.now s) ≡ length shared.old }
-    ensures { (p : ℕ) → IsTrue (has shared.new p) ↔ (IsTrue (has shared.old p) × Marks completing.now p signal) }
-{
-    meet(shared, &completing[signal]);
-}
-
-/// Leaves only the packets that complete on each of the signals.
-fn meet_each(shared: &mut [u64], completing: &[Vec<u64>], slots: &[Option<u16>])
-    requires low { (slot s : ℕ) → slice_get slots.now slot ≡ Some (Some s) → s < length completing.now }
-    requires width { (s : ℕ) → s < length completing.now → length (row completing.now s) ≡ length shared.old }
-    ensures { (p : ℕ) → IsTrue (has shared.new p)
-        ↔ (IsTrue (has shared.old p)
-        × ((slot s : ℕ) → slice_get slots.now slot ≡ Some (Some s) → Marks completing.now p s)) }
-{
-    for slot in slots {
-        if let Some(signal) = slot {
-            meet_one(shared, completing, *signal as usize);
-        }
     }
 }
 

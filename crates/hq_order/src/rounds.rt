@@ -1,56 +1,20 @@
 //! One round: what follows by one rule from what is known.
 
-ghost use Rattle.std.specs.Prelude.{OnOk, Some, slice_get, ◌≡◌, ℕ, ◌/◌, ◌<◌, ◌↔◌, ◌⊎◌, ◌*◌, ◌≤◌, ◌||◌, IsTrue};
+ghost use Rattle.std.specs.Prelude.{OnOk, Some, slice_get, ◌≡◌, ℕ, ◌/◌, ◌<◌, ◌↔◌, ◌⊎◌, ◌*◌, ◌≤◌, IsTrue};
 ghost use Rattle.std.specs.Prelude.{IfOk, false, length};
 ghost use Rattle.hq_job.specs.Plan.{plan};
 ghost use Rattle.hq_model.specs.Job.{IsPacket};
 ghost use Rattle.hq_bits.specs.Bits.{has, Grown};
 ghost use Rattle.hq_order.specs.Rounds.{Next, Reaches, ByOr};
-ghost use Rattle.hq_order.specs.Matrix.{row, Marks, Square};
-ghost use Rattle.hq_order.specs.Placing.{AllAre, Completing};
-ghost use Rattle.hq_order.specs.Uniting.{CanUnite, Stepped, Through};
+ghost use Rattle.hq_rows.specs.Matrix.{row, Marks, Square};
+ghost use Rattle.hq_rows.specs.Lists.{AllAre};
+ghost use Rattle.hq_waits.specs.Waits.{Completing};
+ghost use Rattle.hq_rows.specs.Uniting.{CanUnite, Stepped, Through};
 
-use crate::columns::row_of;
-use crate::gathering::{Known, unite_fresh};
 use hq_job::Job;
 use hq_packet::Packet;
+use hq_rows::{Known, note, reached, through_row, unite_more};
 use std::alloc::{AllocError, Global};
-
-/// The packets of a set, and all that are before them.
-pub fn reached(alloc: Global, set: &[u64], known: &Known) -> Result<Vec<u64>, AllocError>
-    requires unions { CanUnite known.now.rows.now (length set.now) known.now.unions.now }
-    requires few { length set.now ≤ 16 }
-    ensures len { IfOk result (λ reached. length reached.items ≡ length set.now) }
-    ensures exact { IfOk result
-        (λ reached. (p : ℕ) → IsTrue (has reached.items p)
-        ↔ (IsTrue (has set.now p) ⊎ ((m : ℕ) × Marks known.now.rows.now p m × IsTrue (has set.now m)))) }
-{
-    let mut reached = set.to_vec(alloc)?;
-    unite_fresh(&mut reached, known, set, &[], &[]);
-    Ok(reached)
-}
-
-/// The packets that are before r by what is known, or before one of those. Only those that are fresh in its row, or are
-/// renewed, bring anything new.
-fn through_row(alloc: Global, known: &Known, r: usize) -> Result<Vec<u64>, AllocError>
-    requires unions { CanUnite known.now.rows.now (length (row known.now.rows.now r)) known.now.unions.now }
-    requires stepped { Stepped known.now.earlier.now known.now.rows.now known.now.renewed.now }
-    requires r_is { r < length known.now.rows.now }
-    requires few { length (row known.now.rows.now r) ≤ 16 }
-    ensures grown { IfOk result (λ new. Grown (row known.now.rows.now r) new.items) }
-    ensures exact { IfOk result (λ new. (p : ℕ) → IsTrue (has new.items p) ↔ Through known.now.rows.now p r) }
-{
-    let row = row_of(known.rows, r);
-    let mut new = row.to_vec(alloc)?;
-    unite_fresh(
-        &mut new,
-        known,
-        row,
-        row_of(known.earlier, r),
-        known.renewed,
-    );
-    Ok(new)
-}
 
 /// Leaves only the packets that are complete once the signal is over: its decrementers, and those before them.
 fn meet_branch(
@@ -136,29 +100,6 @@ pub fn unite_shared(
         return Ok(unite_more(new, &shared));
     }
     Ok(false)
-}
-
-/// Takes in all that the other set has. Whether any of it is new.
-fn unite_more(row: &mut [u64], other: &[u64]) -> bool
-    requires { length row.old ≡ length other.now }
-    ensures grown { Grown row.old row.new }
-    ensures exact { (p : ℕ) → has row.new p ≡ (has row.old p || has other.now p) }
-    ensures more { result ≡ false → (p : ℕ) → IsTrue (has row.new p) → IsTrue (has row.old p) }
-{
-    let more = !hq_bits::covers(row, other);
-    hq_bits::unite(row, other);
-    more
-}
-
-/// Notes r as renewed where there is more.
-fn note(renewed: &mut [u64], r: usize, more: bool)
-    requires room { r / 64 < length renewed.old }
-    ensures kept { (m : ℕ) → IsTrue (has renewed.old m) → IsTrue (has renewed.new m) }
-    ensures noted { IsTrue more → IsTrue (has renewed.new r) }
-{
-    if more {
-        hq_bits::insert(renewed, r);
-    }
 }
 
 /// The packets before r by what is known, or by one rule from that. Notes r as renewed where an either gives more

@@ -6,19 +6,19 @@ ghost use Rattle.hq_job.specs.Plan.{plan};
 ghost use Rattle.hq_model.specs.Job.{Dependency, Earlier, IsBarrier, IsPacket, packet};
 ghost use Rattle.hq_model.specs.Job.Kind.{BarrierAnd};
 ghost use Rattle.hq_bits.specs.Bits.{has};
-ghost use Rattle.hq_order.specs.Matrix.{Marks, IsSquare, words_for};
-ghost use Rattle.hq_order.specs.Placing.{AllAre, Completing};
+ghost use Rattle.hq_rows.specs.Matrix.{Marks, IsSquare, words_for};
+ghost use Rattle.hq_rows.specs.Lists.{AllAre};
+ghost use Rattle.hq_waits.specs.Waits.{Completing};
 ghost use Rattle.hq_order.specs.Rounds.{ByOr, Reaches};
 ghost use Rattle.hq_order.specs.Sweeping.{Asked, HaveAsked, HaveOrder, StandsTogether};
 
 use crate::before::words_of;
-use crate::columns::row_of;
-use crate::completing::completing;
-use crate::gathering::Known;
-use crate::rounds::{reached, unite_shared};
+use crate::rounds::unite_shared;
 use hq_bits::{covers, empty, insert, insert_all, unite};
 use hq_job::Job;
 use hq_packet::Packet;
+use hq_rows::{Known, reached, row_of};
+use hq_waits::completing;
 use std::alloc::{AllocError, Global};
 
 /// After so many sweeps the rows are given up.

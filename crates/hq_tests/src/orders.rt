@@ -1,5 +1,7 @@
 use hq_job::read_text;
-use hq_order::{Before, OrderFault, schedule};
+use hq_order::Before;
+use hq_schedule::schedule;
+use hq_waits::OrderFault;
 use std::test::*;
 
 #[test]

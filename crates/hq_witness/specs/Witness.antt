@@ -14,7 +14,7 @@ use Rattle.hq_model.specs.Machine as machine
 use Rattle.hq_model.specs.Machine.{State, NoWorkLeft}
 use Rattle.hq_model.specs.Machine.Phase.{Complete}
 use Rattle.hq_model.specs.Origins.{Origins, OriginsOf}
-use Rattle.hq_order.specs.Placing.{AreStuck}
+use Rattle.hq_schedule.specs.Placing.{AreStuck}
 use Rattle.hq_witness.specs.declared.fault.WitnessNo.{WitnessNo}
 use Rattle.hq_witness.specs.declared.fault.WitnessNo.TheVariants as no
 use Rattle.hq_witness.specs.declared.origin.Origin.{Origin}

@@ -18,7 +18,8 @@ use hq_audit::laws::ordered_is_not_refused;
 use hq_audit::{AuditNo, direct, verdict};
 use hq_finding::{Kind, Why};
 use hq_job::Job;
-use hq_order::{Before, schedule};
+use hq_order::Before;
+use hq_schedule::schedule;
 use std::alloc::{AllocError, Global};
 
 /// At most so many attempts are made in all and of one pair; the second numbers are of large jobs.

@@ -2,7 +2,7 @@ use Rattle.std.proofs.Common.{ℕ, ◌+◌, ◌<◌, ◌≤◌, length, sym, ◌
 use Rattle.std.proofs.lemmas.Bool.{true≢false}
 use Rattle.hq_parts.specs.Parts.{NeverConflict}
 use Rattle.hq_bits.specs.Bits.{has}
-use Rattle.hq_order.proofs.Rows.{given_back}
+use Rattle.hq_rows.proofs.Rows.{given_back}
 use Rattle.hq_change.proofs.Foreseeing.{all_first, all_kept, all_more, conflict_more}
 use Rattle.hq_change.proofs.foresight.conflict_row.Goals.{then-have_conflict, else-have_conflict}
 use Rattle.hq_change.proofs.foresight.conflict_row.Goals as goal

@@ -1,6 +1,6 @@
 use Rattle.std.proofs.Common.{◌-◌, ◌≡◌, ◌≤◌, ◌<◌, ℕ, IsTrue, length}
 use Rattle.hq_bits.specs.Bits.{has}
-use Rattle.hq_order.specs.Matrix.{words_for}
+use Rattle.hq_rows.specs.Matrix.{words_for}
 use Rattle.hq_fence.specs.Judgement.{HaveConflict}
 use Rattle.hq_change.proofs.foresight.conflict_row.Given as goal
 

@@ -1,8 +1,8 @@
 use Rattle.std.proofs.Common.{ℕ, ◌≡◌, ◌+◌, ◌<◌, ◌∷◌, [], length, length-append, ◌∙◌, ap, arith, IsTrue}
 use Rattle.hq_bits.specs.Bits.{has}
-use Rattle.hq_order.specs.Matrix.{words_for}
-use Rattle.hq_order.proofs.Closure.{pushed}
-use Rattle.hq_order.proofs.Rows.{marked_below}
+use Rattle.hq_rows.specs.Matrix.{words_for}
+use Rattle.hq_rows.proofs.Pushed.{pushed}
+use Rattle.hq_rows.proofs.Rows.{marked_below}
 use Rattle.hq_fence.specs.Judgement.{HaveConflict}
 use Rattle.hq_change.proofs.foresight.conflict_rows.Goals as goal
 

@@ -1,5 +1,5 @@
 use Rattle.std.proofs.Common.{◌≡◌, ◌<◌, ℕ, length}
-use Rattle.hq_order.specs.Matrix.{Marks, row, words_for}
+use Rattle.hq_rows.specs.Matrix.{Marks, row, words_for}
 use Rattle.hq_fence.specs.Judgement.{HaveConflict}
 use Rattle.hq_change.proofs.foresight.conflict_rows.Given as goal
 

@@ -1,6 +1,6 @@
 use Rattle.std.proofs.Common.{◌-◌, ◌≡◌, ℕ, IsTrue, length}
 use Rattle.hq_bits.specs.Bits.{has}
-use Rattle.hq_order.specs.Matrix.{Marks}
+use Rattle.hq_rows.specs.Matrix.{Marks}
 use Rattle.hq_change.proofs.foresight.has_apart.Given as goal
 
 abbrev pub invariant-each : goal.invariant-each

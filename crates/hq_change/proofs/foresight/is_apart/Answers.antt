@@ -2,9 +2,9 @@ use Rattle.std.proofs.Common.{◌<◌, length, sym, ◌∙◌, ap, subst, arith,
 use Rattle.std.specs.Prelude.{IfSome}
 use Rattle.hq_job.specs.Plan.{plan}
 use Rattle.hq_bits.specs.Bits.{has}
-use Rattle.hq_order.specs.Matrix.{Marks, row}
+use Rattle.hq_rows.specs.Matrix.{Marks, row}
 use Rattle.hq_order.specs.Sweeping.{HaveOrder}
-use Rattle.hq_order.proofs.Rows.{row_is}
+use Rattle.hq_rows.proofs.Rows.{row_is}
 use Rattle.hq_change.proofs.Foreseeing.{apart_refuses}
 use Rattle.hq_change.proofs.foresight.is_apart.Goals as goal
 

@@ -1,7 +1,7 @@
 use Rattle.std.proofs.Common.{◌≡◌, ◌∙◌, ◌+◌, ◌∷◌, [], ◌++◌, ℕ, List, length, slice_get, Some, ap, sym, subst, arith}
 use Rattle.std.proofs.lemmas.List.{length_push}
 use Rattle.hq_job.specs.Plan.{plan}
-use Rattle.hq_order.proofs.Filling.{packets_count}
+use Rattle.hq_waits.proofs.Packets.{packets_count}
 use Rattle.hq_explain.specs.declared.advice.Advice.{Advice}
 use Rattle.hq_explain.specs.Advised.{IsAdvice}
 use Rattle.hq_explain.proofs.Lists.{each_push}

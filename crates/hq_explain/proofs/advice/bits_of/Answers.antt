@@ -1,8 +1,8 @@
 use Rattle.std.proofs.Common.{◌≡◌, ◌↔◌, ◌∙◌, ℕ, IsTrue, length, ap, sym, subst}
 use Rattle.hq_job.specs.Plan.{plan}
 use Rattle.hq_bits.specs.Bits.{has}
-use Rattle.hq_order.proofs.Filling.{packets_count}
-use Rattle.hq_order.proofs.Lists.{lent}
+use Rattle.hq_waits.proofs.Packets.{packets_count}
+use Rattle.hq_rows.proofs.Lists.{lent}
 use Rattle.hq_explain.specs.Changes.{Orders}
 use Rattle.hq_explain.specs.declared.change.Change.TheVariants as change
 use Rattle.hq_explain.proofs.Noting.{noted_all}

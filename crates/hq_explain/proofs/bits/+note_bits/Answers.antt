@@ -1,7 +1,7 @@
 use Rattle.std.proofs.Common.{◌+◌, ◌-◌, ◌/◌, arith}
 use Rattle.hq_job.specs.Plan.{plan}
 use Rattle.hq_model.specs.Job.{IsPacket}
-use Rattle.hq_order.proofs.Filling.{packets_count}
+use Rattle.hq_waits.proofs.Packets.{packets_count}
 use Rattle.hq_audit.specs.Refused.{ShownOneWay}
 use Rattle.hq_explain.proofs.Noting.{none_in, noted_none, noted_one, noted_both_on}
 use Rattle.hq_explain.proofs.Trying.{not_when}

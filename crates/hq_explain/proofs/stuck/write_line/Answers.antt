@@ -1,6 +1,6 @@
 use Rattle.std.proofs.Common.{◌<◌, inr, length, refl, arith}
 use Rattle.hq_job.specs.Plan.{plan}
-use Rattle.hq_order.proofs.Filling.{packets_count}
+use Rattle.hq_waits.proofs.Packets.{packets_count}
 use Rattle.hq_graph.proofs.Joining.{so_on}
 use Rattle.hq_explain.specs.Explained.{StuckLine}
 use Rattle.hq_explain.specs.Texts.{stuck_line}

@@ -1,7 +1,7 @@
 use Rattle.std.proofs.Common.{◌≡◌, ℕ, ◌<◌, ◌≤◌, ◌∙◌, false, true, ap, sym, subst, arith, length, IsTrue}
 use Rattle.std.specs.Global.{Vec}
 use Rattle.hq_bits.specs.Bits.{has}
-use Rattle.hq_order.proofs.Rows.{row_is}
+use Rattle.hq_rows.proofs.Rows.{row_is}
 use Rattle.hq_graph.proofs.rows.next_step.Goals as goal
 
 pub next_in-requires-clause-few : goal.next_in-requires-clause-few

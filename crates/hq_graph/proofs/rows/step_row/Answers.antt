@@ -1,6 +1,6 @@
 use Rattle.std.proofs.Common.{◌≡◌, ◌∙◌, ◌↔◌, IsTrue, ap, sym, subst, length}
 use Rattle.hq_bits.specs.Bits.{has}
-use Rattle.hq_order.proofs.Lists.{lent}
+use Rattle.hq_rows.proofs.Lists.{lent}
 use Rattle.hq_graph.specs.Order.{IsStep}
 use Rattle.hq_graph.proofs.Betweens.{steps_are}
 use Rattle.hq_graph.proofs.rows.step_row.Goals as goal

@@ -1,6 +1,6 @@
 use Rattle.std.proofs.Common.{◌+◌, ◌∷◌, [], ◌↔◌, ◌≤◌, IsTrue, ◌∙◌, ap, length, length-append}
 use Rattle.hq_bits.specs.Bits.{has}
-use Rattle.hq_order.proofs.Closure.{pushed}
+use Rattle.hq_rows.proofs.Pushed.{pushed}
 use Rattle.hq_graph.specs.Order.{IsStep}
 use Rattle.hq_graph.proofs.rows.steps_of.Goals as goal
 

@@ -1,5 +1,5 @@
 use Rattle.std.proofs.Common.{◌≡◌, ◌↔◌, ◌≤◌, ◌<◌, ℕ, length}
-use Rattle.hq_order.specs.Matrix.{Marks, row}
+use Rattle.hq_rows.specs.Matrix.{Marks, row}
 use Rattle.hq_graph.specs.Order.{IsStep}
 use Rattle.hq_graph.proofs.rows.steps_of.Given as goal
 

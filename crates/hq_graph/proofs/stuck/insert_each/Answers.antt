@@ -1,7 +1,7 @@
 use Rattle.std.proofs.Common.{sym, subst, take}
 use Rattle.std.proofs.lemmas.List.{take_more}
-use Rattle.hq_order.specs.Placing.{HasCome}
-use Rattle.hq_order.proofs.Settling.{come_push}
+use Rattle.hq_schedule.specs.Placing.{HasCome}
+use Rattle.hq_schedule.proofs.Settling.{come_push}
 use Rattle.hq_graph.proofs.stuck.insert_each.Goals as goal
 
 pub loop-number-preserved : goal.loop-number-preserved

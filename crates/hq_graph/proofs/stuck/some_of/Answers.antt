@@ -1,6 +1,6 @@
 use Rattle.std.proofs.Common.{sym, subst, ◌∙◌}
 use Rattle.hq_job.specs.Plan.{plan}
-use Rattle.hq_order.proofs.Filling.{packets_count}
+use Rattle.hq_waits.proofs.Packets.{packets_count}
 use Rattle.hq_graph.specs.Known.{AreTurns}
 use Rattle.hq_graph.proofs.Reasons.{some_in}
 use Rattle.hq_graph.proofs.stuck.some_of.Goals as goal

@@ -1,6 +1,6 @@
 use Rattle.std.proofs.Common.{◌≡◌, length}
 use Rattle.hq_model.specs.Order.{place}
-use Rattle.hq_order.specs.Placing.{AllAre}
+use Rattle.hq_rows.specs.Lists.{AllAre}
 use Rattle.hq_graph.proofs.turns.turns_of.Given as goal
 
 abbrev pub invariant-loop-number : goal.invariant-loop-number

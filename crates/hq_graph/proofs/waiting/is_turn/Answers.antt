@@ -1,7 +1,7 @@
 use Rattle.std.proofs.Common.{◌≡◌, ◌<◌, arith, length}
 use Rattle.hq_job.specs.Plan.{plan}
 use Rattle.hq_model.specs.Order.{place}
-use Rattle.hq_order.proofs.Lists.{one_is}
+use Rattle.hq_rows.proofs.Lists.{one_is}
 use Rattle.hq_graph.proofs.Reasons.{no_turn, turn_is}
 use Rattle.hq_graph.proofs.waiting.is_turn.Goals as goal
 

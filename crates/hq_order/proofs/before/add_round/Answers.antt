@@ -1,14 +1,15 @@
 use Rattle.std.proofs.Common.{ℕ, ◌-◌, ◌<◌, ◌↔◌, ◌++◌, ◌∷◌, [], sym, ◌∙◌, arith, length, ap, subst}
 use Rattle.hq_job.specs.Plan.{plan}
-use Rattle.hq_order.specs.Matrix.{row, Marks, AreRounds, last, earlier, lag, lag_of_rows, IsSquare, Differ}
+use Rattle.hq_rows.specs.Matrix.{row, Marks, last, earlier, lag, lag_of_rows, IsSquare, Differ}
+use Rattle.hq_order.specs.Rounds.{AreRounds, Next}
 use Rattle.hq_bits.specs.Bits.{Grown}
-use Rattle.hq_order.specs.Rounds.{Next}
-use Rattle.hq_order.specs.Uniting.{Stepped}
+use Rattle.hq_rows.specs.Uniting.{Stepped}
 use Rattle.hq_order.proofs.Single.{count}
-use Rattle.hq_order.proofs.Growth.{lag_falls}
-use Rattle.hq_order.proofs.Rows.{given_back}
-use Rattle.hq_order.proofs.Gathered.{earlier_pushed}
-use Rattle.hq_order.proofs.Closure.{more_rounds, last_pushed}
+use Rattle.hq_rows.proofs.Growth.{lag_falls}
+use Rattle.hq_rows.proofs.Rows.{given_back}
+use Rattle.hq_rows.proofs.Gathered.{earlier_pushed}
+use Rattle.hq_order.proofs.Closure.{more_rounds}
+use Rattle.hq_rows.proofs.Pushed.{last_pushed}
 use Rattle.hq_order.proofs.before.add_round.Goals as goal
 
 pub are_same-requires : goal.are_same-requires

@@ -1,10 +1,11 @@
 use Rattle.std.proofs.Common.{[], ◌∷◌, ◌++◌, ◌≤◌, length, sym, ◌∙◌, ap, subst, arith}
 use Rattle.hq_job.specs.Plan.{plan}
-use Rattle.hq_order.specs.Matrix.{AreRounds, IsSquare, last, earlier}
-use Rattle.hq_order.specs.Uniting.{Stepped}
+use Rattle.hq_order.specs.Rounds.{AreRounds}
+use Rattle.hq_rows.specs.Matrix.{IsSquare, last, earlier}
+use Rattle.hq_rows.specs.Uniting.{Stepped}
 use Rattle.hq_order.proofs.Single.{count}
 use Rattle.hq_order.proofs.Closure.{first_round}
-use Rattle.hq_order.proofs.Gathered.{stepped_first}
+use Rattle.hq_rows.proofs.Gathered.{stepped_first}
 use Rattle.hq_order.proofs.before.all_rounds.Goals as goal
 
 pub rounds-init : goal.rounds-init

@@ -1,6 +1,7 @@
 use Rattle.hq_job.specs.Plan.{plan}
-use Rattle.hq_order.specs.Matrix.{AreRounds, last, earlier, lag}
-use Rattle.hq_order.specs.Uniting.{Stepped}
+use Rattle.hq_order.specs.Rounds.{AreRounds}
+use Rattle.hq_rows.specs.Matrix.{last, earlier, lag}
+use Rattle.hq_rows.specs.Uniting.{Stepped}
 use Rattle.hq_order.proofs.before.all_rounds.Given as goal
 
 abbrev pub invariant-rounds : goal.invariant-rounds

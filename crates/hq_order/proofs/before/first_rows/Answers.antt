@@ -1,11 +1,11 @@
 use Rattle.std.proofs.Common.{◌≡◌, ◌+◌, ◌-◌, ◌<◌, ◌↔◌, ◌∷◌, [], sym, ◌∙◌, arith, length, ap, subst, IsTrue, length-append}
 use Rattle.hq_job.specs.Plan.{plan}
 use Rattle.hq_bits.specs.Bits.{has}
-use Rattle.hq_order.specs.Matrix.{words_for}
+use Rattle.hq_rows.specs.Matrix.{words_for}
 use Rattle.hq_order.specs.Rounds.{Direct, Precedes}
 use Rattle.hq_order.proofs.Single.{direct_packet_r, few}
-use Rattle.hq_order.proofs.Rows.{marked_below, given_back}
-use Rattle.hq_order.proofs.Closure.{pushed}
+use Rattle.hq_rows.proofs.Rows.{marked_below, given_back}
+use Rattle.hq_rows.proofs.Pushed.{pushed}
 use Rattle.hq_order.proofs.before.first_rows.Goals as goal
 
 pub go_on-requires-clause-ahead : goal.go_on-requires-clause-ahead

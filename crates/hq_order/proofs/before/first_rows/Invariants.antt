@@ -1,7 +1,7 @@
 use Rattle.std.proofs.Common.{◌≡◌, ◌↔◌, ◌-◌, ℕ, ◌<◌, IsTrue, length}
 use Rattle.hq_job.specs.Plan.{plan}
 use Rattle.hq_bits.specs.Bits.{has}
-use Rattle.hq_order.specs.Matrix.{row, words_for, Marks}
+use Rattle.hq_rows.specs.Matrix.{row, words_for, Marks}
 use Rattle.hq_order.specs.Rounds.{Direct, Precedes}
 use Rattle.hq_order.proofs.before.first_rows.Given as goal
 

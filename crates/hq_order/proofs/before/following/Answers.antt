@@ -1,8 +1,8 @@
 use Rattle.std.proofs.Common.{◌-◌, ◌↔◌, ℕ, IfOk, length, sym, ◌∙◌, subst, arith}
-use Rattle.hq_order.specs.Matrix.{words_for, Marks, IsSquare, last, earlier}
+use Rattle.hq_rows.specs.Matrix.{words_for, Marks, IsSquare, last, earlier}
 use Rattle.hq_job.specs.Plan.{plan}
 use Rattle.hq_order.specs.Rounds.{Next}
-use Rattle.hq_order.specs.Uniting.{CanUnite, Stepped}
+use Rattle.hq_rows.specs.Uniting.{CanUnite, Stepped}
 use Rattle.hq_order.proofs.Single.{count}
 use Rattle.hq_order.proofs.before.following.Goals as goal
 

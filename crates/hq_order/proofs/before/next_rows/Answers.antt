@@ -2,13 +2,14 @@ use Rattle.std.proofs.Common.{◌+◌, ◌↔◌, ◌⊎◌, ◌∷◌, [], sym,
 use Rattle.std.proofs.lemmas.Bool.{cases_lt}
 use Rattle.hq_job.specs.Plan.{plan}
 use Rattle.hq_bits.specs.Bits.{has, Grown}
-use Rattle.hq_order.specs.Matrix.{row, Marks}
-use Rattle.hq_order.specs.Uniting.{CanUnite, Through}
+use Rattle.hq_rows.specs.Matrix.{row, Marks}
+use Rattle.hq_rows.specs.Uniting.{CanUnite, Through}
 use Rattle.hq_order.specs.Rounds.{Next}
 use Rattle.hq_order.proofs.Single.{count}
-use Rattle.hq_order.proofs.Rows.{marked_below, grown_beyond}
-use Rattle.hq_order.proofs.Gathered.{stepped_next}
-use Rattle.hq_order.proofs.Closure.{pushed, next_within, square_grown}
+use Rattle.hq_rows.proofs.Rows.{marked_below, grown_beyond}
+use Rattle.hq_order.proofs.Turns.{stepped_next}
+use Rattle.hq_rows.proofs.Pushed.{pushed, square_grown}
+use Rattle.hq_order.proofs.Closure.{next_within}
 use Rattle.hq_order.proofs.before.next_rows.Goals as goal
 
 pub loop-r-init : goal.loop-r-init

@@ -1,8 +1,8 @@
 use Rattle.std.proofs.Common.{◌≡◌, ◌↔◌, ◌⊎◌, ℕ, ◌<◌, IsTrue, length}
 use Rattle.hq_job.specs.Plan.{plan}
 use Rattle.hq_bits.specs.Bits.{has, Grown}
-use Rattle.hq_order.specs.Matrix.{row, Marks}
-use Rattle.hq_order.specs.Uniting.{Through}
+use Rattle.hq_rows.specs.Matrix.{row, Marks}
+use Rattle.hq_rows.specs.Uniting.{Through}
 use Rattle.hq_order.specs.Rounds.{Next}
 use Rattle.hq_order.proofs.before.next_rows.Given as goal
 

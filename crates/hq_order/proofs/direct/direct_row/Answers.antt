@@ -2,7 +2,7 @@ use Rattle.std.proofs.Common.{◌≡◌, ◌↔◌, inl, inr, length, sym, ◌�
 use Rattle.hq_job.specs.Plan.{plan}
 use Rattle.hq_bits.specs.Bits.{has}
 use Rattle.hq_order.specs.Rounds.{Direct}
-use Rattle.hq_order.proofs.Rows.{given_back}
+use Rattle.hq_rows.proofs.Rows.{given_back}
 use Rattle.hq_order.proofs.direct.direct_row.Goals as goal
 
 pub returns-clause-exact : goal.returns-clause-exact

@@ -4,7 +4,8 @@ use Rattle.hq_model.specs.Job.{IsBarrier}
 use Rattle.hq_bits.specs.Bits.{has}
 use Rattle.hq_bits.proofs.Walked.{mark_bit}
 use Rattle.hq_order.specs.Rounds.Precedes.{by_bit}
-use Rattle.hq_order.proofs.Single.{earlier_range, next_of_queue, none_precedes, precedes_earlier, precedes_further, precedes_next}
+use Rattle.hq_waits.proofs.Packets.{earlier_range}
+use Rattle.hq_order.proofs.Single.{next_of_queue, none_precedes, precedes_earlier, precedes_further, precedes_next}
 use Rattle.hq_order.proofs.direct.go_on.Goals as goal
 
 pub returns-then-r-start : goal.returns-then-r-start

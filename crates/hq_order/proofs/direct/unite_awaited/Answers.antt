@@ -2,13 +2,13 @@ use Rattle.std.proofs.Common.{◌≡◌, ◌↔◌, ◌/◌, ◌<◌, inl, inr, 
 use Rattle.std.proofs.lemmas.Option.{get_or_from_slice_get}
 use Rattle.hq_job.specs.Plan.{plan, kind_of}
 use Rattle.hq_bits.specs.Bits.{has}
-use Rattle.hq_order.specs.Placing.{Completing}
+use Rattle.hq_waits.specs.Waits.{Completing}
 use Rattle.hq_order.specs.Rounds.{Awaits}
-use Rattle.hq_order.proofs.Lists.{all_rows}
-use Rattle.hq_order.proofs.Rows.{given_back}
+use Rattle.hq_rows.proofs.Lists.{all_rows}
+use Rattle.hq_rows.proofs.Rows.{given_back}
 use Rattle.hq_bits.proofs.Words.{joined}
 use Rattle.hq_order.proofs.Single.{few, count, awaits_and}
-use Rattle.hq_order.proofs.Slots.{signal_there}
+use Rattle.hq_waits.proofs.Slots.{signal_there}
 use Rattle.hq_order.proofs.Turns.{awaits_shared}
 use Rattle.hq_order.proofs.direct.unite_awaited.Goals as goal
 

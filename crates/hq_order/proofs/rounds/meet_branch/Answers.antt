@@ -1,10 +1,10 @@
 use Rattle.std.proofs.Common.{◌≡◌, ◌↔◌, length, sym, subst, IsTrue}
 use Rattle.hq_job.specs.Plan.{plan}
 use Rattle.hq_bits.specs.Bits.{has}
-use Rattle.hq_order.specs.Matrix.{Marks}
-use Rattle.hq_order.specs.Placing.{Completing}
+use Rattle.hq_rows.specs.Matrix.{Marks}
+use Rattle.hq_waits.specs.Waits.{Completing}
 use Rattle.hq_order.specs.Rounds.{Reaches}
-use Rattle.hq_order.proofs.Lists.{one_is}
+use Rattle.hq_rows.proofs.Lists.{one_is}
 use Rattle.hq_bits.proofs.Words.{met}
 use Rattle.hq_order.proofs.Turns.{reaches_set}
 use Rattle.hq_order.proofs.rounds.meet_branch.Goals as goal

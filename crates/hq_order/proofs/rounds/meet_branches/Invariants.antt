@@ -2,7 +2,7 @@ use Rattle.std.proofs.Common.{◌≡◌, ℕ, ◌<◌, ◌↔◌, IsTrue, slice_
 use Rattle.hq_job.specs.Plan.{plan}
 use Rattle.hq_bits.specs.Bits.{has}
 use Rattle.hq_order.specs.Rounds.{Reaches}
-use Rattle.hq_order.specs.Matrix.{Marks}
+use Rattle.hq_rows.specs.Matrix.{Marks}
 use Rattle.hq_order.proofs.rounds.meet_branches.Given as goal
 
 abbrev pub invariant-loop-slot : goal.invariant-loop-slot

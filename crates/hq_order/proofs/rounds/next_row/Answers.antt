@@ -1,12 +1,12 @@
 use Rattle.std.proofs.Common.{◌↔◌, ◌⊎◌, length, refl, sym, ◌∙◌, ap, subst, IsTrue}
 use Rattle.hq_job.specs.Plan.{plan}
 use Rattle.hq_bits.specs.Bits.{has}
-use Rattle.hq_order.specs.Matrix.{row, Marks}
+use Rattle.hq_rows.specs.Matrix.{row, Marks}
 use Rattle.hq_order.specs.Rounds.{Next, ByOr}
-use Rattle.hq_order.specs.Uniting.{Through}
-use Rattle.hq_order.proofs.Rows.{given_back}
+use Rattle.hq_rows.specs.Uniting.{Through}
+use Rattle.hq_rows.proofs.Rows.{given_back}
 use Rattle.hq_order.proofs.Turns.{next_exact}
-use Rattle.hq_order.proofs.Gathered.{one_or}
+use Rattle.hq_rows.proofs.Gathered.{one_or}
 use Rattle.hq_order.proofs.rounds.next_row.Goals as goal
 
 pub returns-clause-exact : goal.returns-clause-exact

@@ -2,12 +2,12 @@ use Rattle.std.proofs.Common.{◌↔◌, ◌/◌, ◌<◌, length, sym, ◌∙�
 use Rattle.std.proofs.lemmas.Option.{get_or_from_slice_get}
 use Rattle.hq_job.specs.Plan.{plan, kind_of}
 use Rattle.hq_bits.specs.Bits.{has}
-use Rattle.hq_order.specs.Matrix.{Marks, Square}
+use Rattle.hq_rows.specs.Matrix.{Marks, Square}
 use Rattle.hq_order.specs.Rounds.{ByOr}
-use Rattle.hq_order.proofs.Rows.{given_back}
+use Rattle.hq_rows.proofs.Rows.{given_back}
 use Rattle.hq_bits.proofs.Words.{joined}
 use Rattle.hq_order.proofs.Single.{count, few}
-use Rattle.hq_order.proofs.Slots.{signal_there}
+use Rattle.hq_waits.proofs.Slots.{signal_there}
 use Rattle.hq_order.proofs.Turns.{either_exact}
 use Rattle.hq_order.proofs.rounds.unite_shared.Goals as goal
 

@@ -1,6 +1,6 @@
 use Rattle.std.proofs.Common.{length, sym, ◌∙◌, ap}
 use Rattle.hq_job.specs.Plan.{plan}
-use Rattle.hq_order.proofs.Rows.{given_back}
+use Rattle.hq_rows.proofs.Rows.{given_back}
 use Rattle.hq_order.proofs.Swept.{all_asked}
 use Rattle.hq_order.proofs.sweeping.asked_row.Goals as goal
 

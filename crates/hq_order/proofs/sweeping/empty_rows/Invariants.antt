@@ -1,5 +1,5 @@
 use Rattle.std.proofs.Common.{◌≡◌, ℕ, ◌<◌, length}
-use Rattle.hq_order.specs.Matrix.{row, words_for}
+use Rattle.hq_rows.specs.Matrix.{row, words_for}
 use Rattle.hq_order.proofs.sweeping.empty_rows.Given as goal
 
 abbrev pub invariant-loop : goal.invariant-loop

@@ -1,6 +1,6 @@
 use Rattle.std.proofs.Common.{sym, subst}
 use Rattle.hq_job.specs.Plan.{plan}
-use Rattle.hq_order.specs.Matrix.{IsSquare}
+use Rattle.hq_rows.specs.Matrix.{IsSquare}
 use Rattle.hq_order.specs.Sweeping.{HaveAsked}
 use Rattle.hq_order.proofs.Single.{count}
 use Rattle.hq_order.proofs.Swept.{asked_have_order}

@@ -1,5 +1,5 @@
 use Rattle.std.proofs.Common.{length}
-use Rattle.hq_order.specs.Matrix.{IsSquare}
+use Rattle.hq_rows.specs.Matrix.{IsSquare}
 use Rattle.hq_order.proofs.sweeping.sweep.Given as goal
 
 abbrev pub invariant-loop : goal.invariant-loop

@@ -1,10 +1,10 @@
 use Rattle.std.proofs.Common.{inl, inr, subst, arith}
 use Rattle.std.proofs.lemmas.Bool.{cases_lt}
 use Rattle.hq_job.specs.Plan.{plan}
-use Rattle.hq_order.specs.Matrix.{Marks}
+use Rattle.hq_rows.specs.Matrix.{Marks}
 use Rattle.hq_order.specs.Rounds.{Reaches}
 use Rattle.hq_order.proofs.Single.{few}
-use Rattle.hq_order.proofs.Slots.{slot_low, signal_there}
+use Rattle.hq_waits.proofs.Slots.{slot_low, signal_there}
 use Rattle.hq_order.proofs.Swept.{get_is, get_there, got}
 use Rattle.hq_order.proofs.sweeping.unite_branches.Goals.{in-Some+in_ok-unite_branch, in_default}
 use Rattle.hq_order.proofs.sweeping.unite_branches.Goals as goal

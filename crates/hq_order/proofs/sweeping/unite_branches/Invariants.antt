@@ -1,7 +1,7 @@
 use Rattle.std.proofs.Common.{◌≡◌, ℕ, ◌<◌, IsTrue, Some, slice_get}
 use Rattle.hq_job.specs.Plan.{plan}
 use Rattle.hq_bits.specs.Bits.{has}
-use Rattle.hq_order.specs.Matrix.{Marks}
+use Rattle.hq_rows.specs.Matrix.{Marks}
 use Rattle.hq_order.specs.Rounds.{Reaches}
 use Rattle.hq_order.proofs.sweeping.unite_branches.Given as goal
 

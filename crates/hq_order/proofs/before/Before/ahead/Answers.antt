@@ -2,9 +2,10 @@ use Rattle.std.proofs.Common.{◌≡◌, ◌-◌, ◌<◌, ◌↔◌, length, sy
 use Rattle.hq_model.specs.Job.{Job}
 use Rattle.hq_model.specs.Order as order
 use Rattle.hq_bits.specs.Bits.{has}
-use Rattle.hq_order.specs.Matrix.{row, last, words_for}
+use Rattle.hq_rows.specs.Matrix.{row, last, words_for}
 use Rattle.hq_order.specs.View.{order_of}
-use Rattle.hq_order.proofs.Closure.{last_is, last_exact}
+use Rattle.hq_rows.proofs.Pushed.{last_is}
+use Rattle.hq_order.proofs.Closure.{last_exact}
 use Rattle.hq_order.proofs.before.Before.ahead.Goals as goal
 
 pub returns-clause-has : goal.returns-clause-has

@@ -1,11 +1,11 @@
 use Rattle.std.proofs.Common.{◌≡◌, ◌-◌, ◌<◌, ◌≤◌, ℕ, length, sym, ◌∙◌, subst, arith, IfSome}
 use Rattle.std.specs.Prelude.{MatchOption}
 use Rattle.hq_model.specs.Job.{Job}
-use Rattle.hq_order.specs.Matrix.{Marks, Turned, matrix, IsMarkedBetween}
+use Rattle.hq_rows.specs.Matrix.{Marks, Turned, matrix, IsMarkedBetween}
 use Rattle.hq_order.specs.Rounds.{Between}
 use Rattle.hq_order.specs.View.{order_of}
-use Rattle.hq_order.proofs.Closure.{matrix_is}
-use Rattle.hq_order.proofs.Rows.{row_is}
+use Rattle.hq_rows.proofs.Pushed.{matrix_is}
+use Rattle.hq_rows.proofs.Rows.{row_is}
 use Rattle.hq_order.proofs.Single.{count}
 use Rattle.hq_order.proofs.Middles.{few_rows, found_between, found_low}
 use Rattle.hq_order.proofs.before.Before.between.Goals as goal

@@ -1,6 +1,6 @@
 use Rattle.std.proofs.Common.{◌≤◌, length, sym, subst, arith}
 use Rattle.hq_job.specs.Plan.{plan}
-use Rattle.hq_order.specs.Matrix.{AreRounds}
+use Rattle.hq_order.specs.Rounds.{AreRounds}
 use Rattle.hq_order.proofs.Middles.{few_rows, rounds_grow}
 use Rattle.hq_order.proofs.Single.{count}
 use Rattle.hq_order.proofs.before.Before.build.Goals as goal

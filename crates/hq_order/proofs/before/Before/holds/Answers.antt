@@ -1,8 +1,9 @@
 use Rattle.std.proofs.Common.{◌≡◌, ◌↔◌, sym, ◌∙◌, subst, IsTrue}
 use Rattle.hq_model.specs.Order as order
-use Rattle.hq_order.specs.Matrix.{Marks}
+use Rattle.hq_rows.specs.Matrix.{Marks}
 use Rattle.hq_order.specs.View.{order_of}
-use Rattle.hq_order.proofs.Closure.{last_is, last_exact}
+use Rattle.hq_rows.proofs.Pushed.{last_is}
+use Rattle.hq_order.proofs.Closure.{last_exact}
 use Rattle.hq_order.proofs.before.Before.holds.Goals as goal
 
 pub returns : goal.returns

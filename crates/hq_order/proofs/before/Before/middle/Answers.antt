@@ -1,10 +1,10 @@
 use Rattle.std.proofs.Common.{◌≡◌, ◌-◌, ◌<◌, ◌≤◌, ℕ, length, sym, ◌∙◌, subst, arith}
 use Rattle.std.specs.Prelude.{MatchOption}
-use Rattle.hq_order.specs.Matrix.{Marks, Turned, matrix, IsMarkedBetween}
+use Rattle.hq_rows.specs.Matrix.{Marks, Turned, matrix, IsMarkedBetween}
 use Rattle.hq_order.specs.Rounds.{Between, IsMiddle, IsFirstWithin}
 use Rattle.hq_order.specs.View.{order_of}
-use Rattle.hq_order.proofs.Closure.{matrix_is}
-use Rattle.hq_order.proofs.Rows.{row_is}
+use Rattle.hq_rows.proofs.Pushed.{matrix_is}
+use Rattle.hq_rows.proofs.Rows.{row_is}
 use Rattle.hq_order.proofs.Single.{count}
 use Rattle.hq_order.proofs.Middles.{first_low, few_rows, middle_found}
 use Rattle.hq_order.proofs.before.Before.middle.Goals as goal

@@ -1,7 +1,7 @@
 use Rattle.std.proofs.Common.{◌≡◌, sym, subst, inl, inr, None}
 use Rattle.std.specs.Prelude.{MatchOption}
 use Rattle.hq_model.specs.Order as order
-use Rattle.hq_order.specs.Matrix.{IsMarkedNowhere, IsMarkedFirst, AreTurned}
+use Rattle.hq_rows.specs.Matrix.{IsMarkedNowhere, IsMarkedFirst, AreTurned}
 use Rattle.hq_order.specs.Rounds.{IsFirstWithin}
 use Rattle.hq_order.specs.View.{order_of}
 use Rattle.hq_order.proofs.Closure.{round_exact}

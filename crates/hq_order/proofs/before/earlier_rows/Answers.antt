@@ -1,6 +1,0 @@
-use Rattle.std.proofs.Common.{sym, ◌∙◌, arith}
-use Rattle.hq_order.proofs.Gathered.{earlier_is}
-use Rattle.hq_order.proofs.before.earlier_rows.Goals as goal
-
-pub returns : goal.returns
-returns c = c.rows_of.ensures ∙ sym (earlier_is c.args.rounds.now (omega arith))

@@ -1,0 +1,9 @@
+pub mod Rows
+pub mod Pushed
+pub mod Lists
+pub mod Filling
+pub mod Present
+pub mod Crossing
+pub mod Quartets
+pub mod Gathered
+pub mod Growth

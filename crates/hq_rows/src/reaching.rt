@@ -1,0 +1,46 @@
+//! What comes before the packets of a set, or of a row.
+
+ghost use Rattle.std.specs.Prelude.{◌≡◌, ◌<◌, ◌≤◌, ◌↔◌, ◌⊎◌, ℕ, IsTrue, IfOk, length};
+ghost use Rattle.hq_bits.specs.Bits.{has, Grown};
+ghost use Rattle.hq_rows.specs.Matrix.{row, Marks};
+ghost use Rattle.hq_rows.specs.Uniting.{CanUnite, Stepped, Through};
+
+use crate::columns::row_of;
+use crate::gathering::{Known, unite_fresh};
+use std::alloc::{AllocError, Global};
+
+/// The packets of a set, and all that are before them.
+pub fn reached(alloc: Global, set: &[u64], known: &Known) -> Result<Vec<u64>, AllocError>
+    requires unions { CanUnite known.now.rows.now (length set.now) known.now.unions.now }
+    requires few { length set.now ≤ 16 }
+    ensures len { IfOk result (λ reached. length reached.items ≡ length set.now) }
+    ensures exact { IfOk result
+        (λ reached. (p : ℕ) → IsTrue (has reached.items p)
+        ↔ (IsTrue (has set.now p) ⊎ ((m : ℕ) × Marks known.now.rows.now p m × IsTrue (has set.now m)))) }
+{
+    let mut reached = set.to_vec(alloc)?;
+    unite_fresh(&mut reached, known, set, &[], &[]);
+    Ok(reached)
+}
+
+/// The packets that are before r by what is known, or before one of those. Only those that are fresh in its row, or are
+/// renewed, bring anything new.
+pub fn through_row(alloc: Global, known: &Known, r: usize) -> Result<Vec<u64>, AllocError>
+    requires unions { CanUnite known.now.rows.now (length (row known.now.rows.now r)) known.now.unions.now }
+    requires stepped { Stepped known.now.earlier.now known.now.rows.now known.now.renewed.now }
+    requires r_is { r < length known.now.rows.now }
+    requires few { length (row known.now.rows.now r) ≤ 16 }
+    ensures grown { IfOk result (λ new. Grown (row known.now.rows.now r) new.items) }
+    ensures exact { IfOk result (λ new. (p : ℕ) → IsTrue (has new.items p) ↔ Through known.now.rows.now p r) }
+{
+    let row = row_of(known.rows, r);
+    let mut new = row.to_vec(alloc)?;
+    unite_fresh(
+        &mut new,
+        known,
+        row,
+        row_of(known.earlier, r),
+        known.renewed,
+    );
+    Ok(new)
+}

@@ -1,0 +1,3 @@
+pub mod Submitting
+pub mod Behind
+pub mod Settling

@@ -1,0 +1,178 @@
+//! Lists of packets one by one.
+
+ghost use Rattle.std.specs.Prelude.{◌≡◌, ◌↔◌, IsTrue, not, ◌+◌, ◌*◌, ◌<◌, ◌≤◌, ℕ, length, filter, IfOk, IfErr};
+ghost use Rattle.std.specs.Prelude.{MatchOption};
+ghost use Rattle.hq_job.specs.Plan.{plan};
+ghost use Rattle.hq_model.specs.Job.{Earlier};
+ghost use Rattle.hq_model.specs.Machine.{listed};
+ghost use Rattle.hq_model.specs.Order.{OrderList};
+ghost use Rattle.hq_bits.specs.Bits.{has};
+ghost use Rattle.hq_rows.specs.Lists.{AllAre};
+ghost use Rattle.hq_waits.specs.Waits.{Completing};
+ghost use Rattle.hq_schedule.specs.Placing.{Needed, OneIsOver, MayFollow};
+ghost use Rattle.hq_schedule.specs.Least.{LeastFirst};
+ghost use Rattle.hq_schedule.specs.Faults.{StuckWhereSo};
+
+use crate::freeing::freeing;
+use crate::needs::needs;
+use hq_bits::{covers, has, insert};
+use hq_job::Job;
+use hq_packet::Packet;
+use hq_rows::beyond;
+use hq_waits::{OrderFault, completing};
+use std::alloc::{AllocError, Global};
+
+/// Whether all that complete on one of a packet's dependencies have come.
+fn one_is_over(job: &Job, completing: &[Vec<u64>], come: &[u64], number: usize) -> bool
+    requires number { number < length job.now.packets }
+    requires completing { AllAre
+        (λ s set. Completing (plan job.now) s set.items × (length set.items ≡ length come.now)) completing.now }
+    requires count { length completing.now ≡ length job.now.signals }
+    ensures { IsTrue result ↔ OneIsOver (plan job.now) come.now number }
+{
+    job.valid();
+    for slot in job.slots(number) {
+        if let Some(signal) = slot {
+            if covers(come, &completing[*signal as usize]) {
+                return true;
+            }
+        }
+    }
+    false
+}
+
+/// Whether a packet may come next.
+fn may_follow(
+    job: &Job,
+    completing: &[Vec<u64>],
+    needs: &[Vec<u64>],
+    come: &[u64],
+    number: usize,
+) -> bool
+    requires number { number < length job.now.packets }
+    requires completing { AllAre
+        (λ s set. Completing (plan job.now) s set.items × (length set.items ≡ length come.now)) completing.now }
+    requires signals { length completing.now ≡ length job.now.signals }
+    requires needs { AllAre
+        (λ p set. Needed (plan job.now) p set.items × (length set.items ≡ length come.now)) needs.now }
+    requires count { length needs.now ≡ length job.now.packets }
+    ensures { IsTrue result ↔ MayFollow (plan job.now) come.now number }
+{
+    if has(come, number) || !covers(come, &needs[number]) {
+        return false;
+    }
+    match job.packet(number).packet {
+        Packet::Or(_) => one_is_over(job, completing, come, number),
+        _ => true,
+    }
+}
+
+/// The end of a packet's queue: all from the packet up to there stay behind it.
+fn end_of_queue(job: &Job, number: usize) -> usize
+    requires { number < length job.now.packets }
+    ensures beyond { number < result }
+    ensures behind { (r : ℕ) → number < r → r < result → Earlier (plan job.now) number r }
+{
+    job.valid();
+    job.of_queue(job.packet(number).queue as usize).end
+}
+
+/// The packet to look at behind one that may not come next: none between them may.
+fn following(job: &Job, come: &[u64], number: usize) -> usize
+    requires { number < length job.now.packets }
+    ensures beyond { number < result }
+    ensures none { (r : ℕ) → number < r → r < result → MayFollow (plan job.now) come.now r → ⊥ }
+{
+    job.valid();
+    if has(come, number) {
+        beyond(come, number)
+    } else {
+        end_of_queue(job, number)
+    }
+}
+
+/// The least packet that may come next, where all below the first have come.
+fn next(
+    job: &Job,
+    completing: &[Vec<u64>],
+    needs: &[Vec<u64>],
+    come: &[u64],
+    first: usize,
+) -> Option<usize>
+    requires completing { AllAre
+        (λ s set. Completing (plan job.now) s set.items × (length set.items ≡ length come.now)) completing.now }
+    requires signals { length completing.now ≡ length job.now.signals }
+    requires needs { AllAre
+        (λ p set. Needed (plan job.now) p set.items × (length set.items ≡ length come.now)) needs.now }
+    requires count { length needs.now ≡ length job.now.packets }
+    requires first { (r : ℕ) → r < first → IsTrue (has come.now r) }
+    ensures { MatchOption result ((p : ℕ) → MayFollow (plan job.now) come.now p → ⊥)
+        (λ p. MayFollow (plan job.now) come.now p × ((r : ℕ) → r < p → MayFollow (plan job.now) come.now r → ⊥)) }
+{
+    let mut number = first;
+    while number < job.packets().len() {
+        if may_follow(job, completing, needs, come, number) {
+            return Some(number);
+        }
+        number = following(job, come, number);
+    }
+    None
+}
+
+/// The first number that hasn't come, at or behind one below which all have, or the count.
+fn first_left(come: &[u64], first: usize, count: usize) -> usize
+    requires { (r : ℕ) → r < first → IsTrue (has come.now r) }
+    ensures { (r : ℕ) → r < result → IsTrue (has come.now r) }
+{
+    let mut first = first;
+    while first < count && has(come, first) {
+        first += 1;
+    }
+    first
+}
+
+/// The packets that haven't come, rising.
+fn left(alloc: Global, come: &[u64], count: usize) -> Result<Vec<u16>, AllocError>
+    requires { count ≤ 1024 }
+    ensures { IfOk result (λ left. left.items ≡ filter (λ p. not (has come.now p)) (listed count (λ p. p))) }
+{
+    let mut left = Vec::new(alloc);
+    for number in 0..count {
+        if !has(come, number) {
+            left.push(number as u16)?;
+        }
+    }
+    Ok(left)
+}
+
+/// An order list of the job: each time the least packet that may come next.
+///
+/// # Errors
+///
+/// `Stuck` with the packets that can never complete, rising, exactly where no list is an order list; `Memory`.
+pub fn schedule(alloc: Global, job: &Job) -> Result<Vec<u16>, OrderFault>
+    ensures ok { IfOk result (λ list. OrderList (plan job.now) list.items) }
+    ensures least { IfOk result (λ list. LeastFirst (plan job.now) list.items) }
+    ensures stuck { IfErr result (λ e. StuckWhereSo (plan job.now) e) }
+{
+    job.valid();
+    let count = job.packets().len();
+    let words = count / 64 + 1;
+    let completing = completing(alloc, job, words)?;
+    let freeing = freeing(alloc, job, words)?;
+    let needs = needs(alloc, job, &completing, &freeing, words)?;
+    let mut come = vec![in alloc; 0; words]?;
+    let mut list = Vec::with_capacity(alloc, count)?;
+    let mut first = 0;
+    while let Some(number) = next(job, &completing, &needs, &come, first) {
+        list.push(number as u16)?;
+        insert(&mut come, number);
+        first = first_left(&come, first, count);
+    }
+    let left = left(alloc, &come, count)?;
+    if left.is_empty() {
+        Ok(list)
+    } else {
+        Err(OrderFault::Stuck(left))
+    }
+}

@@ -1,0 +1,3 @@
+pub mod Packets
+pub mod Completions
+pub mod Slots
