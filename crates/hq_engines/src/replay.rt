@@ -12,7 +12,7 @@ use hq_job::Job;
 use hq_judging::{
     Status, TimelineFault, TimelineReason, let_go, say, say_file, say_memory, take_job,
 };
-use hq_machine::Journal;
+use hq_events::Journal;
 use hq_timeline::{ReadFault, ReplayFault, TimeFault, TimeReason, read, replay};
 use std::alloc::Global;
 use std::fmt;
