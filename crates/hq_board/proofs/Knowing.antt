@@ -12,9 +12,9 @@ use Rattle.std.proofs.lemmas.Option.{slice_get-get_or, get_or_from_slice_get}
 use Rattle.hq_model.specs.Machine as machine
 use Rattle.hq_model.specs.Machine.{MayLaunch, is_launched, is_complete}
 use Rattle.hq_model.specs.Machine.Phase.{Waiting, InQueue, Launched, Active, Complete}
-use Rattle.hq_machine.specs.State.{named}
-use Rattle.hq_machine.specs.declared.phase.Phase.{Phase}
-use Rattle.hq_machine.specs.declared.phase.Phase.TheVariants as own
+use Rattle.hq_events.specs.Phases.{named}
+use Rattle.hq_events.specs.declared.phase.Phase.{Phase}
+use Rattle.hq_events.specs.declared.phase.Phase.TheVariants as own
 use Rattle.hq_job.specs.Access.{AreOfQueue}
 use Rattle.hq_board.specs.declared.entry.View.{View}
 use Rattle.hq_board.specs.Rule.{newcomer}
@@ -280,4 +280,4 @@ pub queue_near : (job : JobValue) (q : ℕ) → q < length job.queues → q < le
 queue_near job q l = omega (arith, l, length-map job.queues (λ q. q.agent))
 
 pub phase_same : (x y : Phase) → named x ≡ named y → x ≡ y
-phase_same x y e = Rattle.hq_machine.proofs.Moves.named_same x y e
+phase_same x y e = Rattle.hq_events.proofs.Phases.named_same x y e

@@ -9,7 +9,7 @@ use Rattle.hq_job.specs.declared.rows.Placed.{Placed}
 use Rattle.hq_model.specs.Job as model
 use Rattle.hq_model.specs.Job.{Dependency, Decrements, IsPacket, no_packet, packet}
 use Rattle.hq_model.specs.Theorems.{Valid}
-use Rattle.hq_machine.proofs.Jobs.{done_within}
+use Rattle.hq_events.proofs.Jobs.{done_within}
 use mathlib.Core.Option.{some, some-injective, some-ne-none}
 use lib.ListN.{get_elem?}
 use Rattle.hq_board.specs.declared.entry.View.{View}

@@ -8,9 +8,9 @@ use Rattle.hq_model.specs.Machine.{MayLaunch, is_launched, is_complete, put, put
 use Rattle.hq_model.specs.Machine.Phase.{Waiting, InQueue, Launched, Active, Complete}
 use Rattle.hq_model.proofs.Sums.{put_same, put_other, put2_same, put2_other}
 use Rattle.hq_job.specs.Access.{AreOfQueue}
-use Rattle.hq_machine.specs.State.{named}
-use Rattle.hq_machine.specs.declared.phase.Phase.{Phase}
-use Rattle.hq_machine.specs.declared.phase.Phase.TheVariants as own
+use Rattle.hq_events.specs.Phases.{named}
+use Rattle.hq_events.specs.declared.phase.Phase.{Phase}
+use Rattle.hq_events.specs.declared.phase.Phase.TheVariants as own
 use Rattle.hq_board.specs.declared.entry.Entry.{Entry}
 use Rattle.hq_board.specs.declared.entry.Entry.TheVariants.{DidLaunch, DidObserve, DidEnter, DidComplete, Looked}
 use Rattle.hq_board.specs.declared.entry.View.{View}

@@ -5,9 +5,9 @@ use Rattle.hq_model.specs.Job.{Job, Kind, packet, IsPacket, IsBarrier}
 use Rattle.hq_model.specs.Job.Kind.{Work, BarrierAnd, BarrierOr}
 use Rattle.hq_model.specs.Machine as machine
 use Rattle.hq_job.specs.Access.{AreOfQueue}
-use Rattle.hq_machine.specs.State.{named}
-use Rattle.hq_machine.specs.declared.phase.Phase.{Phase}
-use Rattle.hq_machine.specs.declared.phase.Phase.TheVariants.{InQueue}
+use Rattle.hq_events.specs.Phases.{named}
+use Rattle.hq_events.specs.declared.phase.Phase.{Phase}
+use Rattle.hq_events.specs.declared.phase.Phase.TheVariants.{InQueue}
 use Rattle.hq_board.specs.declared.entry.Entry.{Entry}
 use Rattle.hq_board.specs.declared.known.Known.{Known}
 use Rattle.hq_board.specs.History.{after}

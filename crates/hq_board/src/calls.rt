@@ -12,7 +12,7 @@ ghost use Rattle.hq_board.specs.Known.{Tied, log_of};
 use crate::fault::BoardFault;
 use crate::known::{Known, may_complete, may_enter, may_look, next_launch};
 use crate::words::Words;
-use hq_machine::Phase;
+use hq_events::Phase;
 use std::marker::Brand;
 
 impl<'a> Words<'a> {

@@ -8,15 +8,16 @@ ghost use Rattle.hq_model.specs.Machine.{MayLaunch};
 ghost use Rattle.hq_board.specs.History.{after, May, MayLook};
 ghost use Rattle.hq_board.specs.Known.{AllObserved, BitLets, IsHeld, IsOpen, IsOwn, IsReady, OneObserved, Over};
 ghost use Rattle.hq_board.specs.Known.{Tied, log_of, phase_at};
-ghost use Rattle.hq_machine.specs.State.{named};
-ghost use Rattle.hq_machine.specs.declared.phase.Phase.TheVariants as phase;
+ghost use Rattle.hq_events.specs.Phases.{named};
+ghost use Rattle.hq_events.specs.declared.phase.Phase.TheVariants as phase;
 ghost use Rattle.hq_board.specs.Rule.{newcomer};
 ghost use Rattle.hq_board.specs.declared.entry.Entry.TheVariants.{DidEnter, DidComplete};
 
 use crate::words::Token;
 use hq_job::{Job, Placed};
-use hq_machine::packets::dependency;
-use hq_machine::{Phase, nothing_observed};
+use hq_events::Phase;
+use hq_events::packets::dependency;
+use hq_events::starts::nothing_observed;
 use hq_packet::Packet;
 use std::alloc::{AllocError, Global};
 

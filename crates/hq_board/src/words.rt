@@ -15,8 +15,8 @@ use crate::laws::histories_run;
 use crate::rule::{Adds, Asked, ByJob, NextQueue};
 use atomic_table::{Closed, Table};
 use hq_job::Job;
-use hq_machine::packets::done_of;
-use hq_machine::signal_values;
+use hq_events::packets::done_of;
+use hq_events::starts::signal_values;
 use std::alloc::{AllocError, Global};
 use std::marker::Brand;
 

@@ -2,7 +2,7 @@
 use Rattle.std.proofs.Common.{◌≡◌, ◌<◌, ◌+◌, ℕ, zero, suc, Bool, List, [], ◌∷◌, ◌++◌, Option, None, Some, length, take, slice_index_or, ap, refl, sym, subst, ◌∙◌, arith, append_assoc, append-nil, add-one, Result, Ok, Err, OnOk}
 use Rattle.std.specs.Io.KnownBytes.{Appends}
 use Rattle.hq_job.specs.Value.{JobValue}
-use Rattle.hq_machine.specs.declared.event.Event.{Event}
+use Rattle.hq_events.specs.declared.event.Event.{Event}
 use Rattle.hq_chart.specs.declared.rows.Row.{Row}
 use Rattle.hq_chart.specs.Rows.{moved, rows_after, shape_of}
 use Rattle.hq_chart.specs.Chart.{events_text, part_text}

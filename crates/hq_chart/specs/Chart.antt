@@ -5,7 +5,7 @@ use Rattle.std.specs.Fmt.{decimal}
 use Rattle.hq_job.specs.Value.{JobValue}
 use Rattle.hq_job.specs.declared.rows.Placed.{Placed}
 use Rattle.hq_job.specs.declared.rows.Queue.{Queue}
-use Rattle.hq_machine.specs.declared.event.Event.{Event}
+use Rattle.hq_events.specs.declared.event.Event.{Event}
 use Rattle.hq_report.specs.Shown.{packet_text}
 use Rattle.hq_chart.specs.declared.rows.Row.{Row}
 use Rattle.hq_chart.specs.declared.shape.Shape.{Shape}

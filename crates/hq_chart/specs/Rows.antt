@@ -3,8 +3,8 @@ use Rattle.std.specs.Prelude.{ℕ, ◌+◌, Bool, true, false, ◌&&◌, ◌==�
 use Rattle.std.specs.Prelude.{None, map, slice_get, slice_set}
 use Rattle.std.specs.List.{position}
 use Rattle.hq_job.specs.declared.rows.Placed.{Placed}
-use Rattle.hq_machine.specs.declared.event.Event.{Event}
-use Rattle.hq_machine.specs.declared.event.Event.TheVariants as event
+use Rattle.hq_events.specs.declared.event.Event.{Event}
+use Rattle.hq_events.specs.declared.event.Event.TheVariants as event
 use Rattle.hq_chart.specs.declared.rows.Row.{Row}
 use Rattle.hq_chart.specs.declared.rows.Stage.{Stage}
 use Rattle.hq_chart.specs.declared.rows.Stage.TheVariants as stage

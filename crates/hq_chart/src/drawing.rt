@@ -12,7 +12,7 @@ use crate::writing::{
     write_agents, write_closing, write_end, write_events, write_head, write_open, write_rows,
 };
 use hq_job::Job;
-use hq_machine::Event;
+use hq_events::Event;
 use std::alloc::Global;
 use std::io;
 use std::io::Write;

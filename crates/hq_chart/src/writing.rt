@@ -13,7 +13,7 @@ use crate::rows::{Row, advance, bar_of, shape_of};
 use crate::shape::{Mark, Phase, Shape};
 use crate::spots::{Spot, agent_line, agents_drawn, height_of, spot_of};
 use hq_job::Job;
-use hq_machine::Event;
+use hq_events::Event;
 use hq_report::ShownPacket;
 use hq_text::Name;
 use std::io::Write;

@@ -2,7 +2,7 @@
 use Rattle.std.proofs.Common.{◌⊎◌, ℕ, Bool, true, false, inl, inr, List, Option, take, codes}
 use Rattle.hq_job.specs.Plan.{plan}
 use Rattle.hq_job.specs.Value.{JobValue}
-use Rattle.hq_machine.specs.declared.event.Event.{Event}
+use Rattle.hq_events.specs.declared.event.Event.{Event}
 use Rattle.hq_timeline.specs.Replays.{Replayed, StopsAt}
 use Rattle.hq_chart.specs.Chart.{chart_text}
 use Rattle.hq_engines.specs.Chart.{ChartReport}

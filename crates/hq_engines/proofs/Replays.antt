@@ -3,7 +3,7 @@ use Rattle.std.proofs.Common.{◌≡◌, ◌⊎◌, ℕ, zero, suc, inl, inr, Li
 use Rattle.hq_model.specs.Job.{Job}
 use Rattle.hq_model.specs.Machine.{listed}
 use Rattle.hq_text.specs.Lines.{lines_of}
-use Rattle.hq_machine.specs.declared.event.Event.{Event}
+use Rattle.hq_events.specs.declared.event.Event.{Event}
 use Rattle.hq_text.specs.Intake.{OfText}
 use Rattle.hq_text.specs.Turns.{ReadTurn}
 use Rattle.hq_timeline.specs.Gives.{HasFault}

@@ -2,7 +2,7 @@
 use Rattle.std.specs.Prelude.{ℕ, Bool, true, false, List, take, codes}
 use Rattle.hq_job.specs.Plan.{plan}
 use Rattle.hq_job.specs.Value.{JobValue}
-use Rattle.hq_machine.specs.declared.event.Event.{Event}
+use Rattle.hq_events.specs.declared.event.Event.{Event}
 use Rattle.hq_timeline.specs.Replays.{Replayed, StopsAt}
 use Rattle.hq_chart.specs.Chart.{chart_text}
 use Rattle.hq_status.specs.Reports.{with_feed}

@@ -12,7 +12,7 @@ use crate::replay::take_journal;
 use hq_chart::{ChartFault, chart};
 use hq_job::Job;
 use hq_status::{Status, let_go, say_memory, take_job};
-use hq_machine::{Event, Journal};
+use hq_events::{Event, Journal};
 use hq_timeline::{ReplayFault, replay};
 use std::alloc::Global;
 use std::io::{Read, Write};

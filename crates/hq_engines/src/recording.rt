@@ -5,7 +5,7 @@ ghost use Rattle.std.specs.Io.KnownBytes.{Appends};
 ghost use Rattle.hq_timeline.specs.Printed.{text_of};
 ghost use Rattle.hq_engines.specs.Recording.{contents_in};
 
-use hq_machine::Journal;
+use hq_events::Journal;
 use hq_timeline::{PrintFault, print};
 use std::alloc::Global;
 use std::io::Write;

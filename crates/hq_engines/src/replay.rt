@@ -10,7 +10,7 @@ ghost use Rattle.hq_status.specs.Reports.{JobTextReport, OfReader, ReaderReport,
 use crate::buffers::say_buffers;
 use hq_job::Job;
 use hq_status::{Status, TimelineFault, TimelineReason, let_go, say, say_file, say_memory, take_job};
-use hq_machine::Journal;
+use hq_events::Journal;
 use hq_timeline::{ReadFault, ReplayFault, TimeFault, TimeReason, read, replay};
 use std::alloc::Global;
 use std::fmt;

@@ -1,11 +1,13 @@
 -- Journals that grow at their end.
 use Rattle.std.proofs.Common.{◌≡◌, List, [], ◌∷◌, ◌++◌, map, refl, subst, sym, ap}
-use Rattle.hq_machine.specs.declared.event.Event.{Event}
-use Rattle.hq_machine.specs.declared.fault.StepFault.{StepFault}
-use Rattle.hq_machine.specs.declared.fault.StepFault.TheVariants as step
-use Rattle.hq_machine.specs.Events.{coarse_of}
+use Rattle.hq_events.specs.declared.event.Event.{Event}
+use Rattle.hq_events.specs.declared.fault.StepFault.{StepFault}
+use Rattle.hq_events.specs.declared.fault.StepFault.TheVariants as step
+use Rattle.hq_events.specs.Events.{coarse_of}
+use Rattle.hq_machine.specs.Changes.{Applied}
+use Rattle.hq_machine.specs.Enabled.{NotApplied}
 use Rattle.hq_machine.specs.State.{StateValue}
-use Rattle.hq_machine.specs.View.{Applied, NotApplied, IsStateOf, state_of}
+use Rattle.hq_machine.specs.View.{IsStateOf, state_of}
 use Rattle.hq_model.specs.Job.{Job}
 use Rattle.hq_model.specs.Machine.{start}
 use Rattle.hq_model.specs.Journal.{Coarse, Journal}

@@ -9,9 +9,9 @@ use Rattle.hq_ledger.specs.declared.fault.GrantFault.{GrantFault}
 use Rattle.hq_ledger.specs.declared.fault.GrantFault.TheVariants as grant_fault
 use Rattle.hq_ledger.specs.Grants.{IsOut, without}
 use Rattle.hq_ledger.specs.Pieces.{Part}
-use Rattle.hq_machine.specs.declared.event.Event.{Event}
-use Rattle.hq_machine.specs.declared.event.Event.TheVariants as event
-use Rattle.hq_machine.specs.Events.{coarse_of}
+use Rattle.hq_events.specs.declared.event.Event.{Event}
+use Rattle.hq_events.specs.declared.event.Event.TheVariants as event
+use Rattle.hq_events.specs.Events.{coarse_of}
 use Rattle.hq_machine.specs.View.{state_of}
 use Rattle.hq_model.specs.Job.{packet}
 use Rattle.hq_model.specs.Job.Kind.{Work}

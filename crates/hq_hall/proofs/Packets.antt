@@ -25,12 +25,13 @@ use Rattle.hq_certcheck.specs.View.{AcceptedJob}
 use Rattle.hq_ledger.specs.declared.grants.Grant.{Grant}
 use Rattle.hq_ledger.specs.Grants.{IsClear}
 use Rattle.hq_ledger.specs.Pieces.{Part}
-use Rattle.hq_machine.specs.declared.event.Event.{Event}
-use Rattle.hq_machine.specs.declared.event.Event.TheVariants as event
-use Rattle.hq_machine.specs.Events.{coarse_of}
+use Rattle.hq_events.specs.declared.event.Event.{Event}
+use Rattle.hq_events.specs.declared.event.Event.TheVariants as event
+use Rattle.hq_events.specs.Events.{coarse_of}
 use Rattle.hq_machine.proofs.Seen.{range_below}
+use Rattle.hq_machine.specs.Enabled.{Possible}
 use Rattle.hq_machine.specs.State.{StateValue}
-use Rattle.hq_machine.specs.View.{IsStateOf, Possible, state_of}
+use Rattle.hq_machine.specs.View.{IsStateOf, state_of}
 use Rattle.hq_model.specs.Job.{Packet, packet}
 use Rattle.hq_model.specs.Fence.{Conflict as Kinds, Conflicts, Ordered, Share}
 use Rattle.hq_model.specs.Fence.Conflict.{WriteRead, WriteWrite, ReadWrite}

@@ -8,9 +8,9 @@ use Rattle.std.proofs.lemmas.List.Folds.{list_any-append}
 use Rattle.hq_job.specs.declared.rows.Placed.{Placed}
 use Rattle.hq_ledger.specs.declared.grants.Grant.{Grant}
 use Rattle.hq_ledger.specs.Grants.{IsOut, without}
-use Rattle.hq_machine.specs.declared.event.Event.{Event}
-use Rattle.hq_machine.specs.declared.event.Event.TheVariants as event
-use Rattle.hq_machine.specs.Events.{coarse_of}
+use Rattle.hq_events.specs.declared.event.Event.{Event}
+use Rattle.hq_events.specs.declared.event.Event.TheVariants as event
+use Rattle.hq_events.specs.Events.{coarse_of}
 use Rattle.hq_model.specs.Job.{Job, packet, agent_of}
 use Rattle.hq_packet.specs.Scopes.{reaches}
 use Rattle.hq_model.specs.Job.Kind.{Work}

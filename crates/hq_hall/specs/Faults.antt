@@ -1,6 +1,6 @@
 -- Why the hall refuses.
-use Rattle.hq_machine.specs.declared.fault.StepFault.{StepFault}
-use Rattle.hq_machine.specs.declared.fault.StepFault.TheVariants as step
+use Rattle.hq_events.specs.declared.fault.StepFault.{StepFault}
+use Rattle.hq_events.specs.declared.fault.StepFault.TheVariants as step
 use Rattle.hq_hall.specs.declared.fault.HallFault.{HallFault}
 use Rattle.hq_hall.specs.declared.fault.HallFault.TheVariants as fault
 

@@ -2,10 +2,11 @@
 use Rattle.std.specs.Prelude.{◌≡◌, ◌++◌, ◌∷◌, [], List, map}
 use Rattle.hq_certcheck.specs.View.{AcceptedJob}
 use Rattle.hq_job.specs.Plan.{plan}
-use Rattle.hq_machine.specs.declared.event.Event.{Event}
-use Rattle.hq_machine.specs.Events.{coarse_of}
+use Rattle.hq_events.specs.declared.event.Event.{Event}
+use Rattle.hq_events.specs.Events.{coarse_of}
+use Rattle.hq_machine.specs.Enabled.{Possible}
 use Rattle.hq_machine.specs.State.{StateValue}
-use Rattle.hq_machine.specs.View.{IsStateOf, Possible, state_of}
+use Rattle.hq_machine.specs.View.{IsStateOf, state_of}
 use Rattle.hq_model.specs.Job.{Job}
 use Rattle.hq_model.specs.Journal.{Coarse, Happens, JournalRun}
 use Rattle.hq_hall.specs.declared.fault.HallFault.{HallFault}

@@ -1,8 +1,8 @@
 -- Where packets stand between their fetch and their delivery.
 use Rattle.std.specs.Prelude.{ℕ, ◌==◌, Bool, false, List, if◌then◌else◌}
 use Rattle.std.specs.List.{list_any}
-use Rattle.hq_machine.specs.declared.event.Event.{Event}
-use Rattle.hq_machine.specs.declared.event.Event.TheVariants as event
+use Rattle.hq_events.specs.declared.event.Event.{Event}
+use Rattle.hq_events.specs.declared.event.Event.TheVariants as event
 use Rattle.hq_hall.specs.declared.stage.Stage.{Stage}
 use Rattle.hq_hall.specs.declared.stage.Stage.TheVariants as stage
 

@@ -14,9 +14,10 @@ use Rattle.hq_ledger.specs.Grants.{IsOut}
 use Rattle.hq_ledger.specs.Pieces.{Part}
 use Rattle.hq_ledger.specs.Trays.{TrayValue}
 use Rattle.hq_ledger.specs.declared.grants.Grant.{Grant}
-use Rattle.hq_machine.specs.declared.event.Event.{Event}
+use Rattle.hq_events.specs.declared.event.Event.{Event}
+use Rattle.hq_machine.specs.Enabled.{Possible}
 use Rattle.hq_machine.specs.State.{StateValue}
-use Rattle.hq_machine.specs.View.{Possible, state_of}
+use Rattle.hq_machine.specs.View.{state_of}
 use Rattle.hq_model.specs.Job.{Job, packet}
 use Rattle.hq_model.specs.Job.Kind.{Work}
 use Rattle.hq_model.specs.Journal.Coarse.{Fetch, Deliver, Complete}

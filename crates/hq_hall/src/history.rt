@@ -4,9 +4,11 @@ ghost use Rattle.std.specs.Prelude.{◌≡◌, [], IfOk, IfErr, OnOk, OnErr};
 ghost use Rattle.hq_hall.specs.declared.fault.HallFault.TheVariants as fault;
 ghost use Rattle.hq_hall.specs.Histories.{HistoryValue, RunSoFar, Moves, NotDone, plan_of};
 ghost use Rattle.hq_job.specs.Plan.{plan};
-ghost use Rattle.hq_machine.specs.declared.event.Event.TheVariants as event;
-ghost use Rattle.hq_machine.specs.Events.{coarse_of};
-ghost use Rattle.hq_machine.specs.View.{Applied, IsStateOf, Possible, state_of};
+ghost use Rattle.hq_events.specs.declared.event.Event.TheVariants as event;
+ghost use Rattle.hq_events.specs.Events.{coarse_of};
+ghost use Rattle.hq_machine.specs.Changes.{Applied};
+ghost use Rattle.hq_machine.specs.Enabled.{Possible};
+ghost use Rattle.hq_machine.specs.View.{IsStateOf, state_of};
 ghost use Rattle.hq_model.specs.Journal.Coarse.{Deliver};
 ghost use Rattle.hq_model.specs.Machine.{bytes_stored};
 

@@ -11,9 +11,11 @@ use Rattle.hq_model.proofs.Sums.{put_same, put_other}
 use Rattle.hq_copies.specs.Copies.{CopiesValue, PushedLane, PushedAgent, IsDirty, IsClean, IsAbsent, a_copy, agent_byte, lane_pushed, agent_pushed, lane_filled, agent_filled, lane_dropped, agent_dropped}
 use Rattle.hq_copies.specs.declared.fault.CopiesFault.{CopiesFault}
 use Rattle.hq_copies.specs.declared.fault.CopiesFault.TheVariants as copies_fault
+use Rattle.hq_machine.specs.Changes.{Moved, with_copies, fault_of}
+use Rattle.hq_machine.specs.Enabled.{Refused}
 use Rattle.hq_machine.specs.State.{StateValue}
-use Rattle.hq_machine.specs.View.{IsStateOf, DirtyWithin, Moved, Refused, with_copies, fault_of, state_of}
-use Rattle.hq_machine.proofs.Jobs.{agent_below}
+use Rattle.hq_machine.specs.View.{IsStateOf, DirtyWithin, state_of}
+use Rattle.hq_events.proofs.Jobs.{agent_below}
 use Rattle.hq_machine.proofs.Places.{copies_of_remove}
 use Rattle.hq_machine.proofs.Within.{within_step}
 

@@ -4,7 +4,8 @@ use Rattle.std.proofs.lemmas.Bool.{cases_eq, cases_lt, cases_Bool, cond-true, co
 use Rattle.std.proofs.lemmas.List.{get_or_past}
 use Rattle.std.proofs.lemmas.List.Sums.{length-filter, count_by-le-length}
 use Rattle.hq_model.specs.Job.{is_signal}
-use Rattle.hq_machine.specs.View.{IsRow, decremented}
+use Rattle.hq_events.specs.Rows.{IsRow}
+use Rattle.hq_machine.specs.Changes.{decremented}
 
 few : {X : Type 0} (f : X → Bool) (xs : List X) → length (filter f xs) ≤ length xs
 few f xs = let a = length-filter f xs in let b = count_by-le-length f xs in omega arith

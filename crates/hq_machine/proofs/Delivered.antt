@@ -7,11 +7,13 @@ use Rattle.hq_model.specs.Journal.Coarse.{Deliver}
 use Rattle.hq_model.specs.Theorems.{Valid}
 use Rattle.hq_copies.specs.Copies.{CopiesValue, stored, stored_run}
 use Rattle.hq_copies.proofs.StoredRuns.{stored_more}
-use Rattle.hq_machine.specs.State.{StateValue, StoresValue}
-use Rattle.hq_machine.specs.View.{IsStateOf, Applied, marked, restored, state_of}
-use Rattle.hq_machine.specs.Entries.{MayDeliver, DeliveredUpTo}
-use Rattle.hq_machine.proofs.Starts.{of_replicate}
+use Rattle.hq_events.proofs.Replicated.{of_replicate}
+use Rattle.hq_events.specs.Rows.{StoresValue}
 use Rattle.hq_machine.proofs.EachStore.{delivered_first, delivered_more}
+use Rattle.hq_machine.specs.Changes.{Applied, with_byte_stored, with_stores}
+use Rattle.hq_machine.specs.Entries.{MayDeliver, DeliveredUpTo}
+use Rattle.hq_machine.specs.State.{StateValue}
+use Rattle.hq_machine.specs.View.{IsStateOf, state_of}
 
 kept : (n : ℕ) → length (filter (λ (b : Bool). b) (replicate n true)) ≡ n
 kept zero = refl
@@ -31,7 +33,7 @@ delivered_run job v p at bytes valid k may some is count place (suc n) m e =
     let copies : CopiesValue = stored_run v.copies p at (take n bytes) in
     let f : DeliveredUpTo job v p n s copies = delivered_run job v p at bytes valid k may some is count place n (suc m) (omega (arith, e)) in
     let few : n < length (packet job p).writes = omega (arith, e) in
-    let next : DeliveredUpTo job v p (n + 1) (marked s n) (stored copies p (at + n) (slice_index bytes n)) = delivered_more job v p n (at + n) (slice_index bytes n) s copies valid k may f few (sym (place n few)) refl in
+    let next : DeliveredUpTo job v p (n + 1) (with_byte_stored s n) (stored copies p (at + n) (slice_index bytes n)) = delivered_more job v p n (at + n) (slice_index bytes n) s copies valid k may f few (sym (place n few)) refl in
     let size : length (take n bytes) ≡ n = length-take-le n bytes (omega (arith, count)) in
     let one : stored_run v.copies p at (take (n + 1) bytes) ≡ stored copies p (at + n) (slice_index bytes n) =
     ap (stored_run v.copies p at) (take_more bytes n 0 (omega (arith, count))) ∙ stored_more v.copies p at (take n bytes) (slice_index bytes n) ∙ ap (λ i. stored copies p (at + i) (slice_index bytes n)) size in
@@ -42,7 +44,7 @@ delivered_run job v p at bytes valid k may some is count place (suc n) m e =
 
 pub delivered_all : (job : Job) (v : StateValue) (p at : ℕ) (bytes : List ℕ) → Valid job → IsStateOf job v → IsPacket job p → MayDeliver job (state_of job v) p → 0 < length (packet job p).writes → bytes ≡ bytes_stored job (state_of job v) p → length bytes ≡ length (packet job p).writes
     → ((i : ℕ) → i < length (packet job p).writes → slice_index (packet job p).writes i ≡ at + i)
-    → Applied job v (Deliver p) (restored v p (record { bytes = bytes; stored = replicate (length bytes) true }) (stored_run v.copies p at bytes))
+    → Applied job v (Deliver p) (with_stores v p (record { bytes = bytes; stored = replicate (length bytes) true }) (stored_run v.copies p at bytes))
 delivered_all job v p at bytes valid k there may some is count place =
     let n = length (packet job p).writes in
     let none : n + 0 ≡ n = omega arith in

@@ -12,15 +12,18 @@ use Rattle.hq_model.specs.Journal.{numbers}
 use Rattle.hq_model.proofs.Places.{in_rest, in_numbers}
 use Rattle.hq_model.proofs.Journals.{steps_append}
 use Rattle.hq_model.proofs.Sums.{put2_same, put2_other}
-use Rattle.hq_machine.specs.State.{StateValue}
-use Rattle.hq_machine.specs.View.{IsStateOf, Moved, NotApplied, Possible, MayRead, rereading, state_of, row_of}
+use Rattle.hq_machine.specs.Changes.{Moved, with_reads}
+use Rattle.hq_machine.specs.Enabled.{NotApplied, Possible, MayRead}
 use Rattle.hq_machine.specs.Entries.{MayFetch, FetchedUpTo}
+use Rattle.hq_machine.specs.State.{StateValue}
+use Rattle.hq_machine.specs.View.{IsStateOf, state_of, row_of}
 use Rattle.hq_model.specs.Journal.{Coarse}
 use Rattle.hq_model.specs.Journal.Coarse.{Fetch}
-use Rattle.hq_machine.specs.declared.fault.StepFault.{StepFault}
-use Rattle.hq_machine.specs.declared.fault.StepFault.TheVariants as fault
-use Rattle.hq_machine.proofs.Starts.{of_replicate}
-use Rattle.hq_machine.proofs.Reading.{moved_read, next_row, rereading_keeps}
+use Rattle.hq_events.specs.declared.fault.StepFault.{StepFault}
+use Rattle.hq_events.specs.declared.fault.StepFault.TheVariants as fault
+use Rattle.hq_events.proofs.Replicated.{of_replicate}
+use Rattle.hq_events.proofs.Wholes.{next_row}
+use Rattle.hq_machine.proofs.Reading.{moved_read, with_reads_keeps}
 
 -- ---- lists
 
@@ -112,7 +115,7 @@ fetched_first job v p row k may some whole none =
     let old = nothing_read job v p there k (λ i l. (may i l).fresh) in
     let same : (λ (q j : ℕ). get_or (row_of (set v.reads p row) q) j None) ≡ (λ (q j : ℕ). get_or (row_of v.reads q) j None) = λ x q j. same_reads v p row high (λ j. none j ∙ sym (old j)) q j x in
     record {
-      is = rereading_keeps job v p 0 row k first whole;
+      is = with_reads_keeps job v p 0 row k first whole;
       steps = λ x. record (state_of job v) { read = same x };
       whole = whole;
       rest = λ j _. none j;
@@ -121,7 +124,7 @@ fetched_first job v p row k may some whole none =
 pub fetched_more : (job : Job) (v : StateValue) (p n value : ℕ) (row : List (Option ℕ)) → IsStateOf job v → MayFetch job (state_of job v) p → FetchedUpTo job v p n row → n < length (packet job p).reads
     → value ≡ lane_sees job (state_of job v) p (slice_index (packet job p).reads n) → FetchedUpTo job v p (n + 1) (set row n (Some value))
 fetched_more job v p n value row k may f few is =
-    let mid = rereading v p row in
+    let mid = with_reads v p row in
     let there = (may n few).is_packet in
     let count = k.lengths.reads in
     let high : p < length v.reads = omega arith in
@@ -129,11 +132,11 @@ fetched_more job v p n value row k may f few is =
     let can : MayRead job (state_of job mid) p n = record { is_packet = there; active = (may n few).active; few = few; fresh = ap (λ (r : List (Option ℕ)). get_or r n None) same ∙ f.rest n (omega arith) } in
     let whole = f.whole in
     let next = next_row (row_of mid.reads p) row (length (packet job p).reads) n value whole (λ j. ap (λ (r : List (Option ℕ)). get_or r j None) (sym same)) few in
-    let moved : Moved job mid (Read p n) (rereading v p (set row n (Some value))) =
+    let moved : Moved job mid (Read p n) (with_reads v p (set row n (Some value))) =
     subst (λ rows. Moved job mid (Read p n) (record v { reads = rows })) (set_again v.reads p row (set row n (Some value))) (moved_read job mid p n value (set row n (Some value)) f.is can next is) in
     record {
       is = moved.is;
-      steps = step_more job (Read p) n (state_of job v) (state_of job mid) (state_of job (rereading v p (set row n (Some value)))) f.steps moved.step;
+      steps = step_more job (Read p) n (state_of job v) (state_of job mid) (state_of job (with_reads v p (set row n (Some value)))) f.steps moved.step;
       whole = length-set row n (Some value) ∙ whole;
       rest = λ j l. get_or-set_other row n j (Some value) None (omega arith) ∙ f.rest j (omega arith);
     }
@@ -165,7 +168,7 @@ fetched_rows job v p k may some (suc n) l =
 pub fetch_possible : (job : Job) (v : StateValue) (p : ℕ) → IsStateOf job v → IsPacket job p → MayFetch job (state_of job v) p → 0 < length (packet job p).reads → Possible job v (Fetch p)
 fetch_possible job v p k there may some =
     let (row, (f, all)) = fetched_rows job v p k may some (length (packet job p).reads) (omega arith) in
-    (state_of job (rereading v p row), (there, f.steps))
+    (state_of job (with_reads v p row), (there, f.steps))
 
 -- all that is seen, read in order
 pub fetched_whole : (job : Job) (v : StateValue) (p : ℕ) (bytes : List ℕ) → IsStateOf job v → MayFetch job (state_of job v) p → 0 < length (packet job p).reads → bytes ≡ map (lane_sees job (state_of job v) p) (packet job p).reads

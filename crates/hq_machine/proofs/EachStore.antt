@@ -12,13 +12,16 @@ use Rattle.hq_model.specs.Theorems.{Valid}
 use Rattle.hq_model.proofs.Places.{in_numbers}
 use Rattle.hq_model.proofs.Sums.{put2_same, put2_other}
 use Rattle.hq_copies.specs.Copies.{CopiesValue, stored}
-use Rattle.hq_machine.specs.State.{StateValue, StoresValue, no_stores}
-use Rattle.hq_machine.specs.View.{IsStateOf, IsRow, AreStores, Moved, Possible, MayStore, NextStores, marked, restored, state_of, stores_of}
-use Rattle.hq_machine.specs.Entries.{MayDeliver, DeliveredUpTo}
-use Rattle.hq_machine.proofs.Starts.{of_replicate}
-use Rattle.hq_machine.proofs.Places.{row_set}
-use Rattle.hq_machine.proofs.StoreMoves.{moved_store}
+use Rattle.hq_events.proofs.Places.{row_set}
+use Rattle.hq_events.proofs.Replicated.{of_replicate}
+use Rattle.hq_events.specs.Rows.{StoresValue, no_stores, IsRow}
 use Rattle.hq_machine.proofs.EachEntry.{set_again, none_counted, each_asks, step_more}
+use Rattle.hq_machine.proofs.StoreMoves.{moved_store}
+use Rattle.hq_machine.specs.Changes.{Moved, NextStores, with_byte_stored, with_stores}
+use Rattle.hq_machine.specs.Enabled.{Possible, MayStore}
+use Rattle.hq_machine.specs.Entries.{MayDeliver, DeliveredUpTo}
+use Rattle.hq_machine.specs.State.{StateValue}
+use Rattle.hq_machine.specs.View.{IsStateOf, AreStores, state_of, stores_of}
 
 put2_false : (f : ℕ → ℕ → Bool) (p i j : ℕ) → put2 f p i true p j ≡ false → f p j ≡ false
 put2_false f p i j n = elim (cases_eq j i) [
@@ -56,11 +59,11 @@ same_stored v p s high same q j = elim (cases_eq q p) [
 
 -- stores of which none is stored yet
 opened_stores : (job : Job) (v : StateValue) (p : ℕ) (s : StoresValue) → IsStateOf job v → AllRead job (state_of job v) p → p < length v.stores → s.bytes ≡ bytes_stored job (state_of job v) p → length s.stored ≡ length (packet job p).writes
-    → (q : ℕ) → IsPacket job q → AreStores job (restored v p s v.copies) q
+    → (q : ℕ) → IsPacket job q → AreStores job (with_stores v p s v.copies) q
 opened_stores job v p s k read high bytes whole q there = elim (cases_eq q p) [
   | inl e ↦
       let is : get_or (set v.stores p s) p no_stores ≡ s = get_or-set_same v.stores p s no_stores high in
-      subst (AreStores job (restored v p s v.copies)) (sym e) (record {
+      subst (AreStores job (with_stores v p s v.copies)) (sym e) (record {
         row = inr (ap (λ (x : StoresValue). length x.stored) is ∙ whole);
         read = λ _. read;
         bytes = λ _. ap (λ (x : StoresValue). x.bytes) is ∙ bytes;
@@ -109,9 +112,9 @@ delivered_first job v p s k may some bytes whole none =
     }
 
 pub delivered_more : (job : Job) (v : StateValue) (p n b value : ℕ) (s : StoresValue) (copies : CopiesValue) → Valid job → IsStateOf job v → MayDeliver job (state_of job v) p → DeliveredUpTo job v p n s copies → n < length (packet job p).writes
-    → b ≡ slice_index (packet job p).writes n → value ≡ slice_index s.bytes n → DeliveredUpTo job v p (n + 1) (marked s n) (stored copies p b value)
+    → b ≡ slice_index (packet job p).writes n → value ≡ slice_index s.bytes n → DeliveredUpTo job v p (n + 1) (with_byte_stored s n) (stored copies p b value)
 delivered_more job v p n b value s copies valid k may f few at is =
-    let mid = restored v p s copies in
+    let mid = with_stores v p s copies in
     let there = (may n few).is_packet in
     let count = k.lengths.stores in
     let high : p < length v.stores = omega arith in
@@ -124,17 +127,17 @@ delivered_more job v p n b value s copies valid k may f few at is =
       few = few;
       fresh = ap (λ (r : StoresValue). get_or r.stored n false) same ∙ f.rest n (omega arith);
     } in
-    let next : NextStores job mid p n (marked s n) = record {
+    let next : NextStores job mid p n (with_byte_stored s n) = record {
       bytes = f.bytes;
       whole = length-set s.stored n true ∙ whole;
       entry = subst (λ (r : StoresValue). (j : ℕ) → get_or (set s.stored n true) j false ≡ cond (eqb j n) true (get_or r.stored j false)) (sym same) (row_set s.stored n true false (omega arith));
     } in
-    let moved : Moved job mid (Store p n) (restored v p (marked s n) (stored copies p b value)) =
-    subst (λ rows. Moved job mid (Store p n) (record v { stores = rows; copies = stored copies p b value })) (set_again v.stores p s (marked s n))
-    (moved_store job mid p n b value (marked s n) valid f.is can next at (is ∙ ap (λ (bs : List ℕ). slice_index bs n) f.bytes)) in
+    let moved : Moved job mid (Store p n) (with_stores v p (with_byte_stored s n) (stored copies p b value)) =
+    subst (λ rows. Moved job mid (Store p n) (record v { stores = rows; copies = stored copies p b value })) (set_again v.stores p s (with_byte_stored s n))
+    (moved_store job mid p n b value (with_byte_stored s n) valid f.is can next at (is ∙ ap (λ (bs : List ℕ). slice_index bs n) f.bytes)) in
     record {
       is = moved.is;
-      steps = step_more job (Store p) n (state_of job v) (state_of job mid) (state_of job (restored v p (marked s n) (stored copies p b value))) f.steps moved.step;
+      steps = step_more job (Store p) n (state_of job v) (state_of job mid) (state_of job (with_stores v p (with_byte_stored s n) (stored copies p b value))) f.steps moved.step;
       bytes = f.bytes;
       whole = length-set s.stored n true ∙ whole;
       rest = λ j l. get_or-set_other s.stored n j true false (omega arith) ∙ f.rest j (omega arith);
@@ -149,7 +152,7 @@ delivered_rows job v p s valid k may start (suc n) l =
     let e : n + 1 ≡ suc n = omega arith in
     let b : ℕ = slice_index (packet job p).writes n in
     let value : ℕ = slice_index t.bytes n in
-    (marked t n, stored copies p b value, subst (λ m. DeliveredUpTo job v p m (marked t n) (stored copies p b value)) e (delivered_more job v p n b value t copies valid k may f (omega arith) refl refl))
+    (with_byte_stored t n, stored copies p b value, subst (λ m. DeliveredUpTo job v p m (with_byte_stored t n) (stored copies p b value)) e (delivered_more job v p n b value t copies valid k may f (omega arith) refl refl))
 
 pub deliver_possible : (job : Job) (v : StateValue) (p : ℕ) → Valid job → IsStateOf job v → IsPacket job p → MayDeliver job (state_of job v) p → 0 < length (packet job p).writes → Possible job v (Deliver p)
 deliver_possible job v p valid k there may some =
@@ -157,7 +160,7 @@ deliver_possible job v p valid k there may some =
     let s : StoresValue = record { bytes = bytes_stored job (state_of job v) p; stored = replicate n false } in
     let start = delivered_first job v p s k may some refl (length-replicate n false) (λ j. of_replicate n j false) in
     let (t, copies, f) = delivered_rows job v p s valid k may start n (omega arith) in
-    (state_of job (restored v p t copies), (there, f.steps))
+    (state_of job (with_stores v p t copies), (there, f.steps))
 
 pub unstored_counted : (row : List Bool) → (count_by (λ b. b) row ≡ 0) ↔ ((i : ℕ) → get_or row i false ≡ false)
 unstored_counted row =

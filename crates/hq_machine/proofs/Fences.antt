@@ -16,11 +16,13 @@ use Rattle.hq_model.specs.Machine.Phase.{Active}
 use Rattle.hq_model.specs.Theorems.{Valid}
 use Rattle.hq_model.specs.View.{Held, copies_of}
 use Rattle.hq_copies.specs.Copies.{after_acquire, dirty_only, dirty_within, held}
+use Rattle.hq_machine.specs.Changes.{Moved, in_phase, with_copies}
+use Rattle.hq_machine.specs.Enabled.{MayEnter}
 use Rattle.hq_machine.specs.State.{StateValue}
-use Rattle.hq_machine.specs.View.{IsStateOf, Moved, MayEnter, in_phase, with_copies, state_of}
-use Rattle.hq_machine.proofs.Jobs.{agent_below}
-use Rattle.hq_machine.proofs.Moves.{in_phase_is, in_phase_keeps}
+use Rattle.hq_machine.specs.View.{IsStateOf, state_of}
+use Rattle.hq_events.proofs.Jobs.{agent_below}
 use Rattle.hq_machine.proofs.CopyMoves.{SameShape, with_copies_keeps}
+use Rattle.hq_machine.proofs.Moves.{in_phase_is, in_phase_keeps}
 use Rattle.hq_machine.proofs.Within.{within_step}
 
 get_dirty_only : (m : Held) (b : ℕ) → finite.get (dirty_only m) b ≡ without_clean (finite.get m b)

@@ -3,10 +3,12 @@ use Rattle.std.proofs.Common.{◌≡◌, ℕ, ◌-◌, ◌<◌, List, cond, Opti
 use Rattle.hq_model.specs.Job.{Job, packet, is_signal}
 use Rattle.hq_model.specs.Machine as machine
 use Rattle.hq_model.specs.Machine.{State, Event, completed}
-use Rattle.hq_machine.specs.State.{StateValue}
-use Rattle.hq_machine.specs.View.{IsStateOf, Moved, Enabled, MayFinish, in_phase, with_decrement, decremented, state_of}
 use Rattle.hq_machine.proofs.Counts.{decremented_is}
 use Rattle.hq_machine.proofs.Moves.{in_phase_is, in_phase_keeps}
+use Rattle.hq_machine.specs.Changes.{Moved, in_phase, with_decrement, decremented}
+use Rattle.hq_machine.specs.Enabled.{Enabled, MayFinish}
+use Rattle.hq_machine.specs.State.{StateValue}
+use Rattle.hq_machine.specs.View.{IsStateOf, state_of}
 
 decremented_length : (xs : List ℕ) (done : Option ℕ) → length (decremented xs done) ≡ length xs
 decremented_length xs None = refl

@@ -1,4 +1,3 @@
-pub mod Jobs
 pub mod Seen
 pub mod Starts
 pub mod Places

@@ -9,35 +9,24 @@ use Rattle.hq_model.specs.Machine.Event.{Submit, Launch, Observe}
 use Rattle.hq_model.proofs.View.{phases_of_set}
 use Rattle.hq_model.proofs.Places.{none_get, some_get}
 use Rattle.hq_model.proofs.Bound.{slot_there}
-use Rattle.hq_machine.specs.State.{StateValue, named}
-use Rattle.hq_machine.specs.declared.phase.Phase.{Phase}
-use Rattle.hq_machine.specs.declared.phase.Phase.TheVariants as phase
+use Rattle.hq_events.specs.Phases.{named}
+use Rattle.hq_machine.specs.State.{StateValue}
+use Rattle.hq_events.specs.declared.phase.Phase.{Phase}
+use Rattle.hq_events.proofs.Phases as code_phases
 use Rattle.std.proofs.lemmas.List.{map-set}
-use Rattle.hq_machine.specs.View.{IsStateOf, Moved, Enabled, Observes, SlotMissing, SlotObserved, MayObserve, in_phase, observing, state_of, row_of}
-use Rattle.hq_machine.proofs.Places.{row_put2, row_set}
+use Rattle.hq_events.proofs.Places.{row_set}
+use Rattle.hq_machine.proofs.Places.{row_put2}
+use Rattle.hq_machine.specs.Changes.{Moved, in_phase, with_observed}
+use Rattle.hq_machine.specs.Enabled.{Enabled, Observes, SlotMissing, SlotObserved, MayObserve}
+use Rattle.hq_machine.specs.View.{IsStateOf, state_of, row_of}
 
 -- ---- a phase
 
 pub map_named : (phases : List Phase) (p : ℕ) (x : Phase) → map named (set phases p x) ≡ set (map named phases) p (named x)
 map_named phases p x = map-set named phases p x
 
-own : machine.Phase → Phase
-own machine.Phase.Waiting = phase.Waiting
-own machine.Phase.InQueue = phase.InQueue
-own machine.Phase.Launched = phase.Launched
-own machine.Phase.Active = phase.Active
-own machine.Phase.Complete = phase.Complete
-
-own_named : (x : Phase) → own (named x) ≡ x
-unfolding own
-own_named phase.Waiting = refl
-own_named phase.InQueue = refl
-own_named phase.Launched = refl
-own_named phase.Active = refl
-own_named phase.Complete = refl
-
 pub named_same : (x y : Phase) → named x ≡ named y → x ≡ y
-named_same x y e = sym (own_named x) ∙ ap own e ∙ own_named y
+named_same x y e = code_phases.named_same x y e
 
 pub in_phase_is : (job : Job) (v : StateValue) (p : ℕ) (x : machine.Phase) → p < length v.phases → state_of job (in_phase v p x) ≡ with_phase (state_of job v) p x
 in_phase_is job v p x l =
@@ -81,8 +70,8 @@ slots_kept job v p slot k there q l = elim (cases_eq q p) [
   | inr d ↦ ap (λ r. length r) (get_or-set_other v.observed p q (set (row_of v.observed p) slot true) [] d) ∙ k.lengths.slots q l
 ]
 
-observing_keeps : (job : Job) (v : StateValue) (p slot : ℕ) → IsStateOf job v → IsPacket job p → IsStateOf job (observing v p slot)
-observing_keeps job v p slot k there = record {
+with_observed_keeps : (job : Job) (v : StateValue) (p slot : ℕ) → IsStateOf job v → IsPacket job p → IsStateOf job (with_observed v p slot)
+with_observed_keeps job v p slot k there = record {
   lengths = record {
     phases = k.lengths.phases;
     observed = length-set v.observed p _ ∙ k.lengths.observed;
@@ -100,13 +89,13 @@ observing_keeps job v p slot k there = record {
   dirty = record { lanes = k.dirty.lanes; agents = k.dirty.agents };
 }
 
-pub moved_observe : (job : Job) (v : StateValue) (p slot : ℕ) → IsStateOf job v → slot < 5 → MayObserve job (state_of job v) p slot → Moved job v (Observe p slot) (observing v p slot)
+pub moved_observe : (job : Job) (v : StateValue) (p slot : ℕ) → IsStateOf job v → slot < 5 → MayObserve job (state_of job v) p slot → Moved job v (Observe p slot) (with_observed v p slot)
 moved_observe job v p slot k few may =
     let there = may.dependency.is_packet in
     let len = k.lengths.slots p there in
     let e = row_put2 (λ (row : List Bool) (j : ℕ). get_or row j false) v.observed p slot (set (row_of v.observed p) slot true) [] true (omega (arith, k.lengths.observed)) (row_set (row_of v.observed p) slot true false (omega arith)) in
-    let new : state_of job (observing v p slot) ≡ record (state_of job v) { observed = put2 (λ (p slot : ℕ). get_or (row_of v.observed p) slot false) p slot true } = λ i. record (state_of job v) { observed = e i } in
-    record { is = observing_keeps job v p slot k there; step = (may.signal, may.dependency, may.observes.barrier, may.observes.launched, may.observes.over, may.observes.fresh, new) }
+    let new : state_of job (with_observed v p slot) ≡ record (state_of job v) { observed = put2 (λ (p slot : ℕ). get_or (row_of v.observed p) slot false) p slot true } = λ i. record (state_of job v) { observed = e i } in
+    record { is = with_observed_keeps job v p slot k there; step = (may.signal, may.dependency, may.observes.barrier, may.observes.launched, may.observes.over, may.observes.fresh, new) }
 
 pub not_observable : (job : Job) (v : StateValue) (p slot : ℕ) → (MayObserve job (state_of job v) p slot → ⊥) → Enabled job v (Observe p slot) → ⊥
 not_observable job v p slot n (new, step) = n (record { signal = step.0; dependency = step.1; observes = record { barrier = step.2; launched = step.3; over = step.4; fresh = step.5 } })

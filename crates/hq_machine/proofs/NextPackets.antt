@@ -7,7 +7,7 @@ use Rattle.hq_model.specs.Machine as machine
 use Rattle.hq_model.specs.Machine.{State, MaySubmit}
 use Rattle.hq_model.specs.Theorems.{Valid}
 use Rattle.hq_model.proofs.Places.{at_place, place_once}
-use Rattle.hq_machine.specs.View.{IsFirstWaiting}
+use Rattle.hq_machine.specs.Enabled.{IsFirstWaiting}
 
 pub first_waits : (job : Job) (state : State) (k : ℕ) → Valid job → k < length job.submissions → state.phase (get_or job.submissions k 0) ≡ machine.Phase.Waiting
     → ((i : ℕ) → i < k → state.phase (get_or job.submissions i 0) ≢ machine.Phase.Waiting) → IsFirstWaiting job state (get_or job.submissions k 0)

@@ -27,12 +27,6 @@ row_put2 {X = X} {Y = Y} f xs p i x d y l e = λ k q j. at q j k
       | inr g ↦ ap (λ r. f r j) (get_or-set_other xs p q x d g) ∙ sym (put2_other (λ (q j : ℕ). f (get_or xs q d) j) p i y q j (λ k _. g k))
     ]
 
-pub row_set : {Y : Type 0} (row : List Y) (i : ℕ) (y d : Y) → i < length row → (j : ℕ) → get_or (set row i y) j d ≡ cond (eqb j i) y (get_or row j d)
-row_set row i y d l j = elim (cases_eq j i) [
-  | inl e ↦ ap (λ k. get_or (set row i y) k d) e ∙ get_or-set_same row i y d l ∙ sym (cond-true (eqb j i) y (get_or row j d) (eq-eqb j i e))
-  | inr e ↦ get_or-set_other row i j y d e ∙ sym (cond-false (eqb j i) y (get_or row j d) (ne_eqb j i e))
-]
-
 -- a map loses a byte
 pub copies_of_remove : (maps : List Held) (p b : ℕ) → p < length maps → copies_of (set maps p (finite.remove (get_or maps p finite.empty) b)) ≡ put2 (copies_of maps) p b None
 copies_of_remove maps p b l = row_put2 (λ (m : Held) (c : ℕ). finite.get m c) maps p b (finite.remove (get_or maps p finite.empty) b) finite.empty None l

@@ -9,8 +9,8 @@ use Rattle.hq_model.proofs.Sums.{put2_same, put2_other}
 use Rattle.hq_copies.specs.Copies.{CopiesValue, held, a_copy, lane_pushed, agent_pushed, cleaned, taken, written, after_pushes, LanesReleased, AgentReleased}
 use Rattle.hq_copies.proofs.Gathered.{same_held}
 use Rattle.hq_machine.specs.Pushes.Holders.{Lanes, Agents}
-use Rattle.hq_machine.specs.Pushes.{push_of, pushes_of, dirty_of, AllPushed, Within, Swept}
 use Rattle.hq_machine.proofs.PushLists.{span_none, sweep_starts, sweep_more, sweep_on, can_clean}
+use Rattle.hq_machine.specs.Pushes.{push_of, pushes_of, dirty_of, AllPushed, Within, Swept}
 
 -- ---- one byte, which a push has touched or not
 

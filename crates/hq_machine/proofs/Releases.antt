@@ -20,11 +20,13 @@ use Rattle.hq_model.proofs.Rested.{Each, is_lane_push, is_agent_push, lanes_push
 use Rattle.hq_copies.specs.Copies.{CopiesValue}
 use Rattle.hq_machine.specs.State.{StateValue}
 use Rattle.hq_machine.specs.Pushes.Holders.{Lanes, Agents}
-use Rattle.hq_machine.specs.Pushes.{AllPushed, Within, WrittenBack, IsWorked, LanesOf, AgentsOf, span, pushes_of}
-use Rattle.hq_machine.specs.View.{IsStateOf, DirtyWithin, Applied, Possible, MayFinish, with_copies, in_phase, with_decrement, state_of}
 use Rattle.hq_machine.proofs.CopyMoves.{moved_push_lane, moved_push_agent}
 use Rattle.hq_machine.proofs.Finishing.{moved_finish}
-use Rattle.hq_machine.proofs.Jobs.{agent_below}
+use Rattle.hq_machine.specs.Changes.{Applied, with_copies, in_phase, with_decrement}
+use Rattle.hq_machine.specs.Enabled.{Possible, MayFinish}
+use Rattle.hq_machine.specs.Pushes.{AllPushed, Within, WrittenBack, IsWorked, LanesOf, AgentsOf, span, pushes_of}
+use Rattle.hq_machine.specs.View.{IsStateOf, DirtyWithin, state_of}
+use Rattle.hq_events.proofs.Jobs.{agent_below}
 use Rattle.hq_machine.proofs.PushLists.{span_none, span_more, can_write_back}
 
 -- ---- the numbers of lanes and agents

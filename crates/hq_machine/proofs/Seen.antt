@@ -10,7 +10,7 @@ use Rattle.hq_footprint.specs.declared.footprint.Range.{Range}
 use Rattle.hq_footprint.proofs.RangeBytes.{bytes_counted}
 use Rattle.hq_model.specs.Machine.{listed}
 use Rattle.hq_model.proofs.Given.{listed_is}
-use Rattle.hq_machine.proofs.Jobs.{entry_within, rest_all}
+use Rattle.hq_events.proofs.Jobs.{entry_within, rest_all}
 
 pub range_listed : (f : ℕ → ℕ) (range : Range) → listed range.len (λ i. f (range.at + i)) ≡ map f (bytes_of range)
 range_listed f range =

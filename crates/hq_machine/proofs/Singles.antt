@@ -3,11 +3,12 @@ use Rattle.std.proofs.Common.{IfSome, IsSome, refl}
 use Rattle.hq_model.specs.Job.{Job}
 use Rattle.hq_model.specs.Journal.{Coarse}
 use Rattle.hq_model.specs.Journal.Coarse.{One, Fetch, Deliver, Complete, Rest}
+use Rattle.hq_machine.specs.Changes.{Moved, Applied}
+use Rattle.hq_machine.specs.Enabled.{Refused, NotApplied}
 use Rattle.hq_machine.specs.State.{StateValue}
-use Rattle.hq_machine.specs.View.{Moved, Refused, Applied, NotApplied}
-use Rattle.hq_machine.specs.Events.{one_of}
-use Rattle.hq_machine.specs.declared.fault.StepFault.{StepFault}
-use Rattle.hq_machine.specs.declared.fault.StepFault.TheVariants as fault
+use Rattle.hq_events.specs.Events.{one_of}
+use Rattle.hq_events.specs.declared.fault.StepFault.{StepFault}
+use Rattle.hq_events.specs.declared.fault.StepFault.TheVariants as fault
 
 pub applied_one : (job : Job) (old : StateValue) (event : Coarse) (new : StateValue) → IsSome (one_of event) → IfSome (one_of event) (λ e. Moved job old e new) → Applied job old event new
 applied_one job old (One e) new some moved = record { is = moved.is; happens = (_, moved.step, refl) }

@@ -1,8 +1,7 @@
 -- The state in which a run starts.
-use Rattle.std.proofs.Common.{◌≡◌, ℕ, zero, suc, ◌+◌, inl, List, [], ◌∷◌, ◌++◌, length, map, replicate, true, false, Option, Some, None, slice_index, slice_get, get_or, refl, sym, ◌∙◌, ap, subst, arith, ext_get_or}
+use Rattle.std.proofs.Common.{◌≡◌, ℕ, zero, suc, inl, List, [], length, replicate, true, false, Option, None, slice_index, get_or, refl, sym, ◌∙◌, ap, subst, arith}
 use Rattle.std.proofs.lemmas.Bool.{true≢false}
-use Rattle.std.proofs.lemmas.List.{replicate-append-replicate, length-replicate, get_or-replicate}
-use Rattle.std.proofs.lemmas.Option.{get_or_from_slice_get}
+use Rattle.std.proofs.lemmas.List.{length-replicate, get_or-replicate}
 use Rattle.std.specs.FinMap as finite
 use Rattle.std.specs.Ordering.{nat_cmp}
 use Rattle.hq_model.specs.Job.{Job, agent_of}
@@ -10,23 +9,11 @@ use Rattle.hq_model.specs.Machine as machine
 use Rattle.hq_model.specs.Machine.{start, first_phase, is_dirty}
 use Rattle.hq_model.specs.View.{copies_of, phases_of}
 use Rattle.hq_copies.specs.Copies.{opened}
-use Rattle.hq_machine.specs.State.{StateValue, StoresValue, no_stores}
-use Rattle.hq_machine.specs.View.{AllAre, Started, IsStateOf, state_of}
-
-pub replicate_more : {X : Type 0} (xs ys : List X) (n : ℕ) (x : X) → xs ≡ replicate n x → ys ≡ xs ++ x ∷ [] → ys ≡ replicate (n + 1) x
-replicate_more xs ys n x e g = g ∙ ap (λ l. l ++ x ∷ []) e ∙ replicate-append-replicate n 1 x
-
-pub all_get : (xs ys : List ℕ) → AllAre (λ i x. slice_get ys i ≡ Some x) xs → length xs ≡ length ys → xs ≡ ys
-all_get xs ys a e = ext_get_or 0 xs ys e (λ i l. sym (get_or_from_slice_get ys i (get_or xs i 0) 0 (a.at i 0 l)))
-
-pub of_replicate : {X : Type 0} (n i : ℕ) (x : X) → get_or (replicate n x) i x ≡ x
-of_replicate zero i x = refl
-of_replicate (suc n) zero x = refl
-of_replicate (suc n) (suc i) x = of_replicate n i x
-
-pub map_replicate : {X Y : Type 0} (f : X → Y) (n : ℕ) (x : X) → map f (replicate n x) ≡ replicate n (f x)
-map_replicate f zero x = refl
-map_replicate f (suc n) x = ap (λ l. f x ∷ l) (map_replicate f n x)
+use Rattle.hq_events.proofs.Replicated.{of_replicate}
+use Rattle.hq_events.specs.Packets.{AllAre}
+use Rattle.hq_events.specs.Rows.{StoresValue, no_stores}
+use Rattle.hq_machine.specs.State.{StateValue}
+use Rattle.hq_machine.specs.View.{Started, IsStateOf, state_of}
 
 nothing_held : (n p b : ℕ) → copies_of (replicate n finite.empty) p b ≡ None
 nothing_held n p b = ap (λ m. finite.get m b) (of_replicate n p finite.empty) ∙ finite.get-empty nat_cmp b

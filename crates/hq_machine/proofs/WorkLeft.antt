@@ -1,19 +1,17 @@
 -- What work is left.
 use Rattle.std.proofs.Common.{◌≡◌, ℕ, ◌+◌, ◌<◌, ◌≤◌, inl, inr, All, true, false, Option, Some, None, length, refl, sym, ◌∙◌, ap, subst, arith}
 use Rattle.std.proofs.lemmas.Bool.{cases_lt, true≢false}
-use Rattle.hq_footprint.proofs.RangeBytes.{bytes_counted, bytes_placed}
-use Rattle.hq_footprint.specs.declared.footprint.Range.{Range}
-use Rattle.hq_footprint.specs.Bytes.{bytes_of}
 use Rattle.hq_model.specs.Job.{Job, packet, IsPacket}
 use Rattle.hq_model.specs.Machine as machine
 use Rattle.hq_model.specs.Machine.{State, Copy, Event, MaySubmit, MayLaunch, NoWorkLeft, is_dirty, dirty}
 use Rattle.hq_model.specs.Machine.Event.{Submit, Launch, Observe, Enter, Read, Store, PushLane, PushAgent}
 use Rattle.hq_model.specs.Theorems.{Valid}
 use Rattle.hq_model.proofs.Bound.{slot_there}
+use Rattle.hq_machine.specs.Enabled.{Enabled, MayObserve, MayEnter, ReadOpen, MayStore, MayFinish}
 use Rattle.hq_machine.specs.State.{StateValue}
-use Rattle.hq_machine.specs.View.{IsStateOf, Enabled, MayObserve, MayEnter, ReadOpen, MayStore, MayFinish, state_of}
+use Rattle.hq_machine.specs.View.{IsStateOf, state_of}
 use Rattle.hq_machine.specs.WorkLeft.{IsLeft, NoneOf, WaitIdle, ActiveIdle, PacketIdle}
-use Rattle.hq_machine.specs.declared.event.Event.TheVariants as event
+use Rattle.hq_events.specs.declared.event.Event.TheVariants as event
 
 -- ---- one number more
 
@@ -137,15 +135,3 @@ no_work_left job v submit launch packets agents (Event.FillLane p b) new work st
 no_work_left job v submit launch packets agents (Event.FillAgent a b) new work step = true≢false (sym work)
 no_work_left job v submit launch packets agents (Event.DropLane p b) new work step = true≢false (sym work)
 no_work_left job v submit launch packets agents (Event.DropAgent a b) new work step = true≢false (sym work)
-
--- ---- how many bytes a packet writes
-
-pub range_few : (r : Range) (limit : ℕ) → All (λ b. b < limit) (bytes_of r) → r.len ≤ limit
-range_few r limit all = elim (cases_lt limit r.len) [
-  | inr l ↦ l
-  | inl l ↦
-      let counted = bytes_counted r in
-      let e = bytes_placed r limit 0 l in
-      let low = all limit 0 (omega arith) in
-      absurd (omega arith)
-]

@@ -5,8 +5,11 @@ use Rattle.hq_model.specs.Job.{Job, packet}
 use Rattle.hq_model.specs.Machine.{State, Steps, bytes_stored}
 use Rattle.hq_model.specs.Machine.Event.{Read, Store}
 use Rattle.hq_model.specs.Journal.{numbers}
-use Rattle.hq_machine.specs.State.{StateValue, StoresValue}
-use Rattle.hq_machine.specs.View.{IsStateOf, MayRead, MayStore, rereading, restored, state_of}
+use Rattle.hq_events.specs.Rows.{StoresValue}
+use Rattle.hq_machine.specs.Changes.{with_reads, with_stores}
+use Rattle.hq_machine.specs.Enabled.{MayRead, MayStore}
+use Rattle.hq_machine.specs.State.{StateValue}
+use Rattle.hq_machine.specs.View.{IsStateOf, state_of}
 
 -- each entry of p may be read
 abbrev pub MayFetch : Job → State → ℕ → Type 0
@@ -14,8 +17,8 @@ MayFetch job state p = (i : ℕ) → i < length (packet job p).reads → MayRead
 
 -- with this row p has read its first n entries in order, and no other
 pub record FetchedUpTo (job : Job) (old : StateValue) (p n : ℕ) (row : List (Option ℕ)) : Type 0 where
-  pub is : IsStateOf job (rereading old p row)
-  pub steps : Steps job (state_of job old) (map (Read p) (numbers n)) (state_of job (rereading old p row))
+  pub is : IsStateOf job (with_reads old p row)
+  pub steps : Steps job (state_of job old) (map (Read p) (numbers n)) (state_of job (with_reads old p row))
   pub whole : length row ≡ length (packet job p).reads
   pub rest : (j : ℕ) → n ≤ j → slice_index_or row j None ≡ None
 
@@ -26,8 +29,8 @@ MayDeliver job state p = (i : ℕ) → i < length (packet job p).writes → MayS
 -- with these stores and copies p has stored its first n bytes in order, and no other
 pub record DeliveredUpTo (job : Job) (old : StateValue) (p n : ℕ) (s : StoresValue)
     (copies : CopiesValue) : Type 0 where
-  pub is : IsStateOf job (restored old p s copies)
-  pub steps : Steps job (state_of job old) (map (Store p) (numbers n)) (state_of job (restored old p s copies))
+  pub is : IsStateOf job (with_stores old p s copies)
+  pub steps : Steps job (state_of job old) (map (Store p) (numbers n)) (state_of job (with_stores old p s copies))
   pub bytes : s.bytes ≡ bytes_stored job (state_of job old) p
   pub whole : length s.stored ≡ length (packet job p).writes
   pub rest : (j : ℕ) → n ≤ j → slice_index_or s.stored j false ≡ false

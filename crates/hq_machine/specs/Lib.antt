@@ -1,7 +1,7 @@
-pub mod Events
 pub mod State
-pub mod Rows
 pub mod View
-pub mod WorkLeft
-pub mod Pushes
+pub mod Enabled
+pub mod Changes
 pub mod Entries
+pub mod Pushes
+pub mod WorkLeft

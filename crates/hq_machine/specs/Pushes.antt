@@ -1,8 +1,8 @@
 -- Lists of pushes: of all dirty bytes of one lane or agent, and of some of them in turn. This project's own.
 use Rattle.std.specs.Prelude.{◌≡◌, ◌≢◌, ℕ, ◌+◌, ◌-◌, ◌<◌, ◌≤◌, true, false, List, [], ◌∷◌, length, slice_index, map}
 use Rattle.std.specs.Prelude.{filter, flat_map}
+use Rattle.hq_machine.specs.Changes.{with_copies}
 use Rattle.hq_machine.specs.State.{StateValue}
-use Rattle.hq_machine.specs.View.{with_copies}
 use Rattle.hq_copies.specs.Copies.{CopiesValue, Released, PushedLane, PushedAgent, IsLaneByte, IsAgentByte}
 use Rattle.hq_job.specs.Access.{AreOfQueue}
 use Rattle.hq_model.specs.Job.{Job, packet, IsPacket, agent_of}
@@ -18,11 +18,12 @@ use Rattle.hq_packet.specs.declared.packet.Scope.TheVariants as scope
 pub data Holders : Type 0 where
   Lanes Agents : Holders
 
--- the maps of these holders, and the push of a byte of one of them
+-- the maps of these holders
 abbrev pub maps_of : Holders → CopiesValue → List Held
 maps_of Lanes c = c.lanes
 maps_of Agents c = c.agents
 
+-- the push of a byte of one of them
 abbrev pub push_of : Holders → ℕ → ℕ → Event
 push_of Lanes k b = PushLane k b
 push_of Agents k b = PushAgent k b
@@ -70,6 +71,7 @@ pub record Cleaned (h : Holders) (old : CopiesValue) (k : ℕ) (new : CopiesValu
 abbrev pub span : ℕ → ℕ → List ℕ
 span start stop = listed (stop - start) (λ i. start + i)
 
+-- the pushes of all dirty bytes of these holders, in turn
 abbrev pub pushes_of : Holders → CopiesValue → List ℕ → List Event
 pushes_of h c ks = flat_map (λ k. map (push_of h k) (dirty_of h c k)) ks
 

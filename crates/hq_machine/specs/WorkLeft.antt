@@ -4,10 +4,10 @@ use Rattle.hq_model.specs.Job.{Job}
 use Rattle.hq_model.specs.Machine as machine
 use Rattle.hq_model.specs.Machine.{is_work}
 use Rattle.hq_model.specs.Journal.Coarse.{One}
+use Rattle.hq_machine.specs.Enabled.{Enabled}
 use Rattle.hq_machine.specs.State.{StateValue}
-use Rattle.hq_machine.specs.View.{Enabled}
-use Rattle.hq_machine.specs.Events.{coarse_of}
-use Rattle.hq_machine.specs.declared.event.Event.{Event}
+use Rattle.hq_events.specs.Events.{coarse_of}
+use Rattle.hq_events.specs.declared.event.Event.{Event}
 
 -- The event is a single step of work that is enabled.
 abbrev pub IsLeft : Job → StateValue → Event → Type 0

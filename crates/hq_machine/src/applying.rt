@@ -2,12 +2,13 @@
 
 ghost use Rattle.std.specs.Prelude.{◌≡◌, IsSome, IfErr, OnErr, OnOk};
 ghost use Rattle.hq_job.specs.Plan.{plan};
-ghost use Rattle.hq_machine.specs.Events.{coarse_of, single_of};
-ghost use Rattle.hq_machine.specs.View.{Applied, IsStateOf, NotApplied};
+ghost use Rattle.hq_events.specs.Events.{coarse_of, single_of};
+ghost use Rattle.hq_machine.specs.Changes.{Applied};
+ghost use Rattle.hq_machine.specs.Enabled.{NotApplied};
+ghost use Rattle.hq_machine.specs.View.{IsStateOf};
 
-use crate::event::Event;
-use crate::fault::StepFault;
 use crate::state::State;
+use hq_events::{Event, StepFault};
 use hq_job::Job;
 
 impl State {

@@ -4,15 +4,16 @@ ghost use Rattle.std.specs.Prelude.{◌≡◌, ◌≤◌, ◌↔◌, IsTrue, len
 ghost use Rattle.hq_job.specs.Plan.{plan};
 ghost use Rattle.hq_machine.specs.Pushes.{AreCopiesOf, Within, Swept, WrittenBack, WroteBack, IsWorked};
 ghost use Rattle.hq_machine.specs.Pushes.Holders.{Lanes, Agents};
-ghost use Rattle.hq_machine.specs.View.{IsStateOf, Applied, NotApplied, with_copies, state_of};
+ghost use Rattle.hq_machine.specs.Changes.{Applied, with_copies};
+ghost use Rattle.hq_machine.specs.Enabled.{NotApplied};
+ghost use Rattle.hq_machine.specs.View.{IsStateOf, state_of};
 ghost use Rattle.hq_model.specs.Job.{IsPacket};
 ghost use Rattle.hq_model.specs.Journal.Coarse.{Complete, Rest};
 
-use crate::fault::StepFault;
-use crate::packets::{done_of, queue_of};
-use crate::phase::Phase;
 use crate::state::State;
 use hq_copies::{Copies, CopiesFault};
+use hq_events::packets::{done_of, queue_of};
+use hq_events::{Phase, StepFault};
 use hq_job::Job;
 use hq_packet::Scope;
 use std::ops::Range;

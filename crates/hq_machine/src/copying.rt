@@ -5,11 +5,13 @@ ghost use Rattle.hq_job.specs.Plan.{plan};
 ghost use Rattle.hq_model.specs.Job.{IsPacket};
 ghost use Rattle.hq_model.specs.Machine.{IsByte};
 ghost use Rattle.hq_model.specs.Machine.Event.{PushLane, PushAgent, FillLane, FillAgent, DropLane, DropAgent};
-ghost use Rattle.hq_machine.specs.View.{IsStateOf, Moved, Refused, fault_of};
+ghost use Rattle.hq_machine.specs.Changes.{Moved, fault_of};
+ghost use Rattle.hq_machine.specs.Enabled.{Refused};
+ghost use Rattle.hq_machine.specs.View.{IsStateOf};
 
-use crate::fault::StepFault;
 use crate::state::State;
 use hq_copies::CopiesFault;
+use hq_events::StepFault;
 use hq_job::Job;
 
 /// What a fault of the copies is for a step.

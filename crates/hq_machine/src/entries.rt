@@ -8,16 +8,14 @@ ghost use Rattle.hq_footprint.specs.Bytes.{bytes_of};
 ghost use Rattle.hq_model.specs.Job.{Job as JobOfNumbers, IsPacket, packet as packet_of};
 ghost use Rattle.hq_model.specs.Journal.Coarse.{Fetch, Deliver};
 ghost use Rattle.hq_model.specs.Machine.{bytes_stored, lane_sees, listed};
+ghost use Rattle.hq_machine.specs.Changes.{Applied, with_reads};
+ghost use Rattle.hq_machine.specs.Enabled.{NotApplied, Possible};
 ghost use Rattle.hq_machine.specs.Entries.{MayFetch, FetchedUpTo, MayDeliver};
-ghost use Rattle.hq_machine.specs.View.{Applied, IsStateOf, NotApplied, Possible, rereading, row_of, state_of};
-ghost use Rattle.hq_machine.specs.View.{stores_of};
+ghost use Rattle.hq_machine.specs.View.{IsStateOf, row_of, state_of, stores_of};
 
-use crate::fault::StepFault;
-use crate::packets::{first_write, read_count, write_count};
-use crate::phase::Phase;
-use crate::rows::{Reads, Stores};
 use crate::state::State;
-use crate::storing::task_of;
+use hq_events::packets::{first_write, read_count, task_of, write_count};
+use hq_events::{Phase, Reads, StepFault, Stores};
 use hq_footprint::Range as ByteRange;
 use hq_job::Job;
 use std::alloc::AllocError;
@@ -102,7 +100,7 @@ impl State {
     /// The packet has read this row.
     fn put_reads(&mut self, packet: usize, row: Reads)
         requires { packet < length self.old.reads }
-        ensures { self.new ≡ rereading self.old packet row }
+        ensures { self.new ≡ with_reads self.old packet row }
     {
         self.reads[packet] = row;
     }

@@ -5,61 +5,14 @@ ghost use Rattle.hq_job.specs.Plan.{plan};
 ghost use Rattle.hq_model.specs.Job.{IsPacket, packet as packet_of};
 ghost use Rattle.hq_model.specs.Machine.{NoWorkLeft, Event as Step};
 ghost use Rattle.hq_model.specs.Machine.Event.{Submit, Launch, Observe, Enter, Read, Store, PushLane, PushAgent};
-ghost use Rattle.hq_machine.specs.View.{IsStateOf, Enabled, state_of};
+ghost use Rattle.hq_machine.specs.Enabled.{Enabled};
+ghost use Rattle.hq_machine.specs.View.{IsStateOf, state_of};
 ghost use Rattle.hq_machine.specs.WorkLeft.{IsLeft, NoneOf, WaitIdle, ActiveIdle, PacketIdle};
 
-use crate::event::Event;
-use crate::packets::slot_count;
-use crate::phase::Phase;
 use crate::state::State;
-use hq_footprint::laws::{bytes_counted, entries_counted};
+use hq_events::packets::{agent_total, packet_total, queue_total, read_total, slot_count, write_total};
+use hq_events::{Event, Phase};
 use hq_job::Job;
-
-/// How many packets the job has.
-fn packet_total(job: &Job) -> u32
-    ensures { result ≡ length (plan job.now).packets }
-{
-    job.valid();
-    job.packets().len() as u32
-}
-
-/// How many queues the job has.
-fn queue_total(job: &Job) -> u32
-    ensures { result ≡ length (plan job.now).queues }
-{
-    job.valid();
-    job.queues().len() as u32
-}
-
-/// How many agents the job has.
-fn agent_total(job: &Job) -> u32
-    ensures { result ≡ (plan job.now).agents }
-{
-    job.valid();
-    job.agents() as u32
-}
-
-/// How many entries a packet reads.
-fn read_total(job: &Job, number: u32) -> u32
-    requires { IsPacket (plan job.now) number }
-    ensures { result ≡ length (packet_of (plan job.now) number).reads }
-{
-    job.valid();
-    bytes_counted();
-    entries_counted();
-    let [first, second] = job.packet(number as usize).bytes.reads;
-    (first.len + second.len) as u32
-}
-
-/// How many bytes a packet writes.
-fn write_total(job: &Job, number: u32) -> u32
-    requires { IsPacket (plan job.now) number }
-    ensures { result ≡ length (packet_of (plan job.now) number).writes }
-{
-    job.valid();
-    bytes_counted();
-    job.packet(number as usize).bytes.write.len as u32
-}
 
 impl State {
     /// The next submission, if it is enabled.

@@ -8,13 +8,13 @@ ghost use Rattle.hq_model.specs.Machine as machine;
 ghost use Rattle.hq_model.specs.Machine.{MaySubmit, MayLaunch, is_launched};
 ghost use Rattle.hq_model.specs.View.{phases_of};
 ghost use Rattle.hq_model.specs.Machine.Event.{Submit, Launch};
-ghost use Rattle.hq_machine.specs.View.{IsStateOf, IsFirstWaiting, IsFirstUnlaunched, IsClear, Moved, Refused};
-ghost use Rattle.hq_machine.specs.View.{state_of};
+ghost use Rattle.hq_machine.specs.Changes.{Moved};
+ghost use Rattle.hq_machine.specs.Enabled.{IsFirstWaiting, IsFirstUnlaunched, IsClear, Refused};
+ghost use Rattle.hq_machine.specs.View.{IsStateOf, state_of};
 
-use crate::fault::StepFault;
-use crate::packets::{first_of_queue, slots_of};
-use crate::phase::Phase;
 use crate::state::State;
+use hq_events::packets::{first_of_queue, slots_of};
+use hq_events::{Phase, StepFault};
 use hq_job::Job;
 use std::ops::Range;
 

@@ -1,22 +1,23 @@
 //! The state of a run.
 
-ghost use Rattle.std.specs.Prelude.{◌≡◌, ◌+◌, ◌^◌, ◌<◌, ◌≤◌, ◌↔◌, ℕ, Some, slice_index, [], false, length, IfOk, true};
-ghost use Rattle.std.specs.Prelude.{IfErr, IsTrue, is_some, map, replicate};
+ghost use Rattle.std.specs.Prelude.{◌≡◌, ◌+◌, ◌^◌, ◌<◌, ◌≤◌, ◌↔◌, ℕ, Some, slice_index, length, IfOk, true, IfErr};
+ghost use Rattle.std.specs.Prelude.{IsTrue, is_some};
 ghost use Rattle.hq_copies.specs.Copies.{IsAgentByte, IsLaneByte};
 ghost use Rattle.hq_job.specs.Plan.{plan};
-ghost use Rattle.hq_model.specs.Job.{Job as JobOfNumbers, IsPacket, agent_of};
+ghost use Rattle.hq_model.specs.Job.{Job as JobOfNumbers};
 ghost use Rattle.hq_model.specs.Machine as machine;
-ghost use Rattle.hq_model.specs.Machine.{first_phase, start, is_launched, lane_sees, listed};
+ghost use Rattle.hq_model.specs.Machine.{start, is_launched, lane_sees, listed};
 ghost use Rattle.hq_model.specs.View.{phases_of};
-ghost use Rattle.hq_machine.specs.State.{named, no_stores};
-ghost use Rattle.hq_machine.specs.View.{IsStateOf, AllAre, Opens, in_phase, state_of};
+ghost use Rattle.hq_events.specs.Phases.{named};
+ghost use Rattle.hq_machine.specs.Changes.{in_phase};
+ghost use Rattle.hq_machine.specs.View.{IsStateOf, Opens, state_of};
 
-use crate::fault::StepFault;
-use crate::phase::Phase;
-use crate::rows::{Reads, Stores};
 use hq_copies::Copies;
+use hq_events::packets::{lane_agents, packet_count};
+use hq_events::starts::{first_phases, no_reads, nothing_observed, nothing_stored, signal_values};
+use hq_events::{Phase, Reads, StepFault, Stores};
 use hq_job::Job;
-use std::alloc::{AllocError, Global};
+use std::alloc::Global;
 use std::marker::Model;
 use std::ops::Range;
 
@@ -36,7 +37,8 @@ pub struct State {
 
 impl Model for State {
     ghost use Rattle.std.specs.Prelude.{map};
-    ghost use Rattle.hq_machine.specs.State.{StateValue, state_code, named};
+    ghost use Rattle.hq_events.specs.Phases.{named};
+    ghost use Rattle.hq_machine.specs.State.{StateValue, state_code};
 
     ghost Value = { StateValue };
 
@@ -52,48 +54,6 @@ impl Model for State {
     } };
 }
 
-/// The phase that packets start in.
-fn first_phase(job: &Job) -> Phase
-    ensures { named result ≡ first_phase (plan job.now) }
-{
-    if job.rings() {
-        Phase::Waiting
-    } else {
-        Phase::InQueue
-    }
-}
-
-/// The number of the agent of a packet's queue.
-#[tactic(auto, using(crate::proofs::Jobs::agent_below))]
-fn lane_agent(job: &Job, packet: usize) -> u8
-    requires { IsPacket (plan job.now) packet }
-    ensures agent { result ≡ agent_of (plan job.now) packet }
-    ensures there { result < length job.now.agents }
-{
-    job.valid();
-    job.agent_of(packet) as u8
-}
-
-/// The agent of each packet.
-fn lane_agents(alloc: Global, job: &Job) -> Result<Vec<u8>, AllocError>
-    ensures count { IfOk result (λ agents. length agents.items ≡ length job.now.packets) }
-    ensures agents { IfOk result (λ agents. AllAre (λ p agent. agent ≡ agent_of (plan job.now) p) agents.items) }
-{
-    let count = job.packets().len();
-    let mut agents = Vec::with_capacity(alloc, count)?;
-    for packet in 0..count {
-        agents.push(lane_agent(job, packet))?;
-    }
-    Ok(agents)
-}
-
-/// How many packets the job has.
-fn packet_count(job: &Job) -> usize
-    ensures { result ≡ length (plan job.now).packets }
-{
-    job.packets().len()
-}
-
 /// Memory as the job starts, and a lane for each packet.
 fn first_copies(alloc: Global, job: &Job) -> Result<Copies, StepFault>
     ensures ok { IfOk result (λ copies. Opens (plan job.now) copies) }
@@ -106,61 +66,6 @@ fn first_copies(alloc: Global, job: &Job) -> Result<Copies, StepFault>
         Ok(copies) => Ok(copies),
         Err(_) => Err(StepFault::Memory),
     }
-}
-
-/// The phase of each packet as the job starts.
-#[tactic(auto, using(crate::proofs::Starts::map_replicate))]
-fn first_phases(alloc: Global, job: &Job) -> Result<Vec<Phase>, AllocError>
-    ensures { IfOk result
-        (λ phases. map named phases.items ≡ replicate (length (plan job.now).packets) (first_phase (plan job.now))) }
-{
-    let phases = vec![in alloc; first_phase(job); packet_count(job)]?;
-    Ok(phases)
-}
-
-/// What each packet has observed as the job starts.
-pub fn nothing_observed(alloc: Global, count: usize) -> Result<Vec<[bool; 5]>, AllocError>
-    ensures { IfOk result (λ rows. rows.items ≡ replicate count (replicate 5 false)) }
-{
-    let rows = vec![in alloc; [false; 5]; count]?;
-    Ok(rows)
-}
-
-/// What each signal starts with.
-pub fn signal_values(alloc: Global, job: &Job) -> Result<Vec<u64>, AllocError>
-    ensures { IfOk result (λ values. values.items ≡ (plan job.now).starts) }
-{
-    let signals = job.signals();
-    let count = signals.len();
-    let mut values = Vec::with_capacity(alloc, count)?;
-    for signal in 0..count {
-        values.push(signals.start(signal))?;
-    }
-    Ok(values)
-}
-
-/// A row for each packet, with nothing read.
-#[tactic(auto, using(crate::proofs::Starts::replicate_more))]
-fn no_reads(alloc: Global, count: usize) -> Result<Vec<Reads>, AllocError>
-    ensures { IfOk result (λ rows. rows.items ≡ replicate count []) }
-{
-    let mut rows = Vec::with_capacity(alloc, count)?;
-    for _ in 0..count {
-        rows.push(Reads::new(alloc))?;
-    }
-    Ok(rows)
-}
-
-/// The stores of each packet, with nothing stored.
-#[tactic(auto, using(crate::proofs::Starts::replicate_more))]
-fn nothing_stored(alloc: Global, count: usize) -> Result<Vec<Stores>, AllocError>
-    ensures { IfOk result (λ rows. rows.items ≡ replicate count no_stores) }
-{
-    let mut rows = Vec::with_capacity(alloc, count)?;
-    for _ in 0..count {
-        rows.push(Stores::new(alloc))?;
-    }
-    Ok(rows)
 }
 
 impl State {

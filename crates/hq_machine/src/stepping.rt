@@ -2,12 +2,13 @@
 
 ghost use Rattle.std.specs.Prelude.{◌≡◌, IsSome, IfSome, IfErr, OnOk, OnErr};
 ghost use Rattle.hq_job.specs.Plan.{plan};
-ghost use Rattle.hq_machine.specs.Events.{single_of};
-ghost use Rattle.hq_machine.specs.View.{IsStateOf, Moved, Refused};
+ghost use Rattle.hq_events.specs.Events.{single_of};
+ghost use Rattle.hq_machine.specs.Changes.{Moved};
+ghost use Rattle.hq_machine.specs.Enabled.{Refused};
+ghost use Rattle.hq_machine.specs.View.{IsStateOf};
 
-use crate::event::Event;
-use crate::fault::StepFault;
 use crate::state::State;
+use hq_events::{Event, StepFault};
 use hq_job::Job;
 
 impl State {

@@ -8,29 +8,17 @@ ghost use Rattle.hq_job.specs.Plan.{plan};
 ghost use Rattle.hq_model.specs.Job.{Job as JobOfNumbers, IsPacket, packet as packet_of};
 ghost use Rattle.hq_model.specs.Machine.{bytes_read, bytes_stored};
 ghost use Rattle.hq_model.specs.Machine.Event.{Store};
-ghost use Rattle.hq_machine.specs.View.{IsStateOf, MayStore, NextStores, Moved, Refused, row_of, stores_of, marked};
-ghost use Rattle.hq_machine.specs.View.{with_copies, restored, state_of};
+ghost use Rattle.hq_machine.specs.Changes.{NextStores, Moved, with_byte_stored, with_copies, with_stores};
+ghost use Rattle.hq_machine.specs.Enabled.{MayStore, Refused};
+ghost use Rattle.hq_machine.specs.View.{IsStateOf, row_of, stores_of, state_of};
 
 use crate::copying::step_fault;
-use crate::fault::StepFault;
-use crate::packets::{read_count, write_at, write_count};
-use crate::phase::Phase;
-use crate::rows::Stores;
 use crate::state::State;
+use hq_events::packets::{read_count, task_of, write_at, write_count};
+use hq_events::{Phase, StepFault, Stores};
 use hq_footprint::{Task, evaluate};
 use hq_job::Job;
 use std::alloc::{AllocError, Global};
-
-/// What the packet does with the bytes that it reads.
-pub(crate) fn task_of(job: &Job, packet: usize) -> Task
-    requires { IsPacket (plan job.now) packet }
-    ensures is { result ≡ (packet_of (plan job.now) packet).task }
-    ensures suits { Suits result (length (packet_of (plan job.now) packet).reads)
-        (length (packet_of (plan job.now) packet).writes) }
-{
-    job.valid();
-    job.packet(packet).work.task
-}
 
 /// What a task makes of these bytes.
 fn evaluated(alloc: Global, task: Task, reads: &[u8], count: usize) -> Result<Vec<u8>, AllocError>
@@ -140,7 +128,7 @@ impl State {
     /// The packet has these stores.
     pub(crate) fn put_stores(&mut self, packet: usize, stores: Stores)
         requires { packet < length self.old.stores }
-        ensures { self.new ≡ restored self.old packet stores self.old.copies }
+        ensures { self.new ≡ with_stores self.old packet stores self.old.copies }
     {
         self.stores[packet] = stores;
     }
@@ -150,7 +138,7 @@ impl State {
         requires packet { packet < length self.old.stores }
         requires there { entry < length (stores_of self.old packet).stored }
         requires fresh { slice_index_or (stores_of self.old packet).stored entry false ≡ false }
-        ensures { self.new ≡ restored self.old packet (marked (stores_of self.old packet) entry) self.old.copies }
+        ensures { self.new ≡ with_stores self.old packet (with_byte_stored (stores_of self.old packet) entry) self.old.copies }
     {
         self.stores[packet].set(entry);
     }

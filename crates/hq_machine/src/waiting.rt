@@ -6,13 +6,13 @@ ghost use Rattle.hq_job.specs.Plan.{plan};
 ghost use Rattle.hq_model.specs.Job.{IsPacket};
 ghost use Rattle.hq_model.specs.Machine.{WaitOver};
 ghost use Rattle.hq_model.specs.Machine.Event.{Observe, Enter};
-ghost use Rattle.hq_machine.specs.View.{IsStateOf, Observes, SlotObserved, SlotMissing, MayObserve, MayEnter};
-ghost use Rattle.hq_machine.specs.View.{Acquired, Moved, Refused, observing, row_of, state_of};
+ghost use Rattle.hq_machine.specs.Changes.{Acquired, Moved, with_observed};
+ghost use Rattle.hq_machine.specs.Enabled.{Observes, SlotObserved, SlotMissing, MayObserve, MayEnter, Refused};
+ghost use Rattle.hq_machine.specs.View.{IsStateOf, row_of, state_of};
 
-use crate::fault::StepFault;
-use crate::packets::{dependency, queue_of, slot_count};
-use crate::phase::Phase;
 use crate::state::State;
+use hq_events::packets::{dependency, queue_of, slot_count};
+use hq_events::{Phase, StepFault};
 use hq_job::Job;
 use hq_packet::Packet;
 
@@ -32,7 +32,7 @@ impl State {
     fn set_observed(&mut self, packet: usize, slot: usize)
         requires packet { packet < length self.old.observed }
         requires slot { slot < 5 }
-        ensures { self.new ≡ observing self.old packet slot }
+        ensures { self.new ≡ with_observed self.old packet slot }
     {
         self.observed[packet][slot] = true;
     }

@@ -6,13 +6,13 @@ ghost use Rattle.hq_job.specs.Plan.{plan};
 ghost use Rattle.hq_model.specs.Job.{IsPacket, packet as packet_of};
 ghost use Rattle.hq_model.specs.Machine.{AllRead, AllStored, Released};
 ghost use Rattle.hq_model.specs.Machine.{Event};
-ghost use Rattle.hq_machine.specs.View.{IsStateOf, MayFinish, Moved, Refused};
-ghost use Rattle.hq_machine.specs.View.{row_of, stores_of, with_decrement, state_of};
+ghost use Rattle.hq_machine.specs.Changes.{Moved, with_decrement};
+ghost use Rattle.hq_machine.specs.Enabled.{MayFinish, Refused};
+ghost use Rattle.hq_machine.specs.View.{IsStateOf, row_of, stores_of, state_of};
 
-use crate::fault::StepFault;
-use crate::packets::{done_of, queue_of, read_at, read_count, write_count};
-use crate::phase::Phase;
 use crate::state::State;
+use hq_events::packets::{done_of, queue_of, read_at, read_count, write_count};
+use hq_events::{Phase, StepFault};
 use hq_job::Job;
 use std::alloc::AllocError;
 
@@ -108,7 +108,10 @@ impl State {
 
 impl State {
     ghost use Rattle.hq_model.specs.Machine.Event.{Read};
-    ghost use Rattle.hq_machine.specs.View.{MayRead, ReadOpen, IsEntry, IsRow, ReadTaken};
+    ghost use Rattle.hq_events.specs.Packets.{IsEntry};
+    ghost use Rattle.hq_events.specs.Rows.{IsRow};
+    ghost use Rattle.hq_machine.specs.Changes.{ReadTaken};
+    ghost use Rattle.hq_machine.specs.Enabled.{MayRead, ReadOpen};
 
     /// Whether a packet hasn't read an entry.
     fn is_unread(&self, job: &Job, packet: usize, entry: usize) -> bool

@@ -3,7 +3,7 @@ use Rattle.std.proofs.Common.{◌≡◌, ◌⊎◌, ℕ, inl, inr, List, [], Opt
 use Rattle.std.specs.Prelude.{MatchOption}
 use Rattle.hq_job.specs.Plan.{plan}
 use Rattle.hq_job.specs.Value.{JobValue}
-use Rattle.hq_machine.specs.declared.event.Event.{Event}
+use Rattle.hq_events.specs.declared.event.Event.{Event}
 use Rattle.hq_runner.specs.Journals.{IsOneByOne, IsWhole}
 use Rattle.hq_timeline.specs.Printed.{text_of}
 use Rattle.hq_judging.specs.Audit.{NotOrdered}

@@ -3,7 +3,7 @@ use Rattle.std.specs.Prelude.{ℕ, List, [], ◌++◌, Option, Some, None, codes
 use Rattle.std.specs.Fmt.{decimal}
 use Rattle.hq_job.specs.Plan.{plan}
 use Rattle.hq_job.specs.Value.{JobValue}
-use Rattle.hq_machine.specs.declared.event.Event.{Event}
+use Rattle.hq_events.specs.declared.event.Event.{Event}
 use Rattle.hq_runner.specs.Journals.{IsOneByOne, IsWhole}
 use Rattle.hq_runner.specs.declared.outcome.RunFault.{RunFault}
 use Rattle.hq_runner.specs.declared.outcome.RunFault.TheVariants as fault

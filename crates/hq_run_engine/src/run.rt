@@ -17,7 +17,7 @@ use hq_judging::laws::stuck_exactly;
 use hq_judging::say_no_certificate;
 use hq_status::{RunFailure, Status, say, say_file, say_memory, say_text};
 use hq_kernels::Kit;
-use hq_machine::Journal;
+use hq_events::Journal;
 use hq_runner::{Gate, RunFault, run};
 use hq_timeline::PrintFault;
 use std::alloc::Global;

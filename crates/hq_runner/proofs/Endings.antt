@@ -10,9 +10,9 @@ use Rattle.hq_job.specs.Plan.{plan}
 use Rattle.hq_job.specs.Value.{JobValue}
 use Rattle.hq_kernels.specs.Bodies.{BodyValue}
 use Rattle.hq_kernels.specs.declared.kit.Kit.{Kit}
-use Rattle.hq_machine.specs.declared.event.Event.{Event}
-use Rattle.hq_machine.specs.declared.event.Event.TheVariants as event
-use Rattle.hq_machine.specs.Events.{coarse_of}
+use Rattle.hq_events.specs.declared.event.Event.{Event}
+use Rattle.hq_events.specs.declared.event.Event.TheVariants as event
+use Rattle.hq_events.specs.Events.{coarse_of}
 use Rattle.hq_machine.specs.View.{state_of}
 use Rattle.hq_model.specs.Fence.{Ordered}
 use Rattle.hq_model.specs.Job.{Job, IsPacket}

@@ -6,8 +6,8 @@ use Rattle.std.proofs.lemmas.List.{take_more_set, take_all}
 use Rattle.std.proofs.lemmas.List.Elements.{All-append}
 use Rattle.hq_hall.proofs.Programs.{rising, parts_more, parts_program}
 use Rattle.hq_job.specs.Access.{AreOfQueue}
-use Rattle.hq_machine.specs.declared.event.Event.{Event}
-use Rattle.hq_machine.specs.Events.{coarse_of}
+use Rattle.hq_events.specs.declared.event.Event.{Event}
+use Rattle.hq_events.specs.Events.{coarse_of}
 use Rattle.hq_job.specs.declared.rows.Placed.{Placed}
 use Rattle.hq_job.specs.Plan.{planned, kind_of}
 use Rattle.std.proofs.lemmas.List.{map-append}

@@ -1,9 +1,9 @@
 -- The journal of a run that is over, and whose events its are.
 use Rattle.std.specs.Prelude.{◌≡◌, ℕ, ◌<◌, Bool, true, false, List, [], ◌∷◌, ◌++◌, map, filter, length, All, IsTrue}
 use Rattle.std.specs.Prelude.{◌==◌, slice_index}
-use Rattle.hq_machine.specs.declared.event.Event.{Event}
-use Rattle.hq_machine.specs.declared.event.Event.TheVariants as event
-use Rattle.hq_machine.specs.Events.{coarse_of}
+use Rattle.hq_events.specs.declared.event.Event.{Event}
+use Rattle.hq_events.specs.declared.event.Event.TheVariants as event
+use Rattle.hq_events.specs.Events.{coarse_of}
 use Rattle.hq_runner.specs.declared.owner.Owner.{Owner}
 use Rattle.hq_runner.specs.declared.owner.Owner.TheVariants as owner
 use Rattle.hq_model.specs.Job.{Job, packet, IsPacket}

@@ -6,7 +6,7 @@ use Rattle.hq_hall.specs.Handing.{work_of}
 use Rattle.hq_job.specs.declared.rows.Placed.{Placed}
 use Rattle.hq_kernels.specs.Bodies.{BodyValue, pieces_of}
 use Rattle.hq_kernels.specs.declared.kit.Kit.{Kit}
-use Rattle.hq_machine.specs.declared.event.Event.{Event}
+use Rattle.hq_events.specs.declared.event.Event.{Event}
 use Rattle.hq_model.specs.Job.{Job}
 use Rattle.hq_runner.specs.declared.outcome.RunFault.{RunFault}
 use Rattle.hq_runner.specs.declared.outcome.RunFault.TheVariants as fault

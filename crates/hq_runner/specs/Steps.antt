@@ -1,6 +1,6 @@
 -- What each step is as an event.
-use Rattle.hq_machine.specs.declared.event.Event.{Event}
-use Rattle.hq_machine.specs.declared.event.Event.TheVariants as event
+use Rattle.hq_events.specs.declared.event.Event.{Event}
+use Rattle.hq_events.specs.declared.event.Event.TheVariants as event
 use Rattle.hq_runner.specs.declared.step.Step.{Step}
 use Rattle.hq_runner.specs.declared.step.Step.TheVariants as step
 

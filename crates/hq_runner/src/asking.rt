@@ -1,8 +1,8 @@
 //! Events that are asked for, and the list of those that were answered.
 
 ghost use Rattle.std.specs.Prelude.{◌≡◌, ℕ, ◌<◌, ◌++◌, ◌∷◌, [], Some, IfOk, OnOk, length, map, slice_get};
-ghost use Rattle.hq_machine.specs.declared.event.Event.TheVariants as event;
-ghost use Rattle.hq_machine.specs.Events.{coarse_of};
+ghost use Rattle.hq_events.specs.declared.event.Event.TheVariants as event;
+ghost use Rattle.hq_events.specs.Events.{coarse_of};
 ghost use Rattle.hq_model.specs.Journal.{observations};
 ghost use Rattle.hq_runner.specs.Pieces.{AreFor, IsWorked};
 ghost use Rattle.hq_runner.specs.Steps.{event_of};

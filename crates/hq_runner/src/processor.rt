@@ -4,7 +4,7 @@ ghost use Rattle.std.specs.Prelude.{◌≡◌, ℕ, ◌<◌, ◌≤◌, ◌++◌
 ghost use Rattle.hq_footprint.specs.declared.task.Task.{Task};
 ghost use Rattle.hq_job.specs.Plan.{plan};
 ghost use Rattle.hq_kernels.specs.Kits.{value_of};
-ghost use Rattle.hq_machine.specs.Events.{coarse_of};
+ghost use Rattle.hq_events.specs.Events.{coarse_of};
 ghost use Rattle.hq_model.specs.Journal.Coarse.{One, Complete};
 ghost use Rattle.hq_model.specs.Journal.{observations};
 ghost use Rattle.hq_model.specs.Machine as machine;

@@ -10,7 +10,7 @@ use hq_certcheck::Accepted;
 use hq_footprint::{Task, Work};
 use hq_hall::{Hall, HallFault};
 use hq_ledger::Piece;
-use hq_machine::Event;
+use hq_events::Event;
 use std::alloc::{AllocError, Global};
 use std::test::*;
 

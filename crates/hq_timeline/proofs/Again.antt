@@ -3,8 +3,8 @@ use Rattle.std.proofs.Common.{List, [], ◌∷◌, ◌++◌, refl}
 use Rattle.std.specs.Prelude.{map}
 use Rattle.std.specs.List.{AllByRecursion}
 use Rattle.hq_text.proofs.Printed.{PlainLine, plain_line, plain_number, lines_again}
-use Rattle.hq_machine.specs.declared.event.Event.{Event}
-use Rattle.hq_machine.specs.declared.event.Event.TheVariants as event
+use Rattle.hq_events.specs.declared.event.Event.{Event}
+use Rattle.hq_events.specs.declared.event.Event.TheVariants as event
 use Rattle.hq_timeline.specs.Grammar.{EventFits, event_words, end_words, journal_words}
 use Rattle.hq_timeline.specs.Printed.{ReadBack}
 

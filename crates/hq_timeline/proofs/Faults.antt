@@ -5,7 +5,7 @@ use Rattle.hq_text.specs.LineByLine.{AdmitsAll, FirstRefused}
 use Rattle.hq_text.specs.LineByLine as text
 use Rattle.hq_text.specs.Lines.{words_of}
 use Rattle.hq_text.proofs.LineByLine.{admits_of, no_first_fault, one_fault, refused_behind}
-use Rattle.hq_machine.specs.declared.event.Event.{Event}
+use Rattle.hq_events.specs.declared.event.Event.{Event}
 use Rattle.hq_timeline.specs.declared.fault.TimeFault.{TimeFault}
 use Rattle.hq_timeline.specs.declared.fault.TimeReason.{TimeReason}
 use Rattle.hq_timeline.specs.declared.fault.TimeReason.TheVariants as reason

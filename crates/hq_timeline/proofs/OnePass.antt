@@ -14,8 +14,8 @@ use Rattle.hq_text.specs.Printed.{spaced, line_text}
 use Rattle.hq_text.proofs.LineByLine.{Taken, admits_both, admits_more}
 use Rattle.hq_text.proofs.NumberLaws.{number_tells}
 use Rattle.hq_text.proofs.Printed.{line_first}
-use Rattle.hq_machine.specs.declared.event.Event.{Event}
-use Rattle.hq_machine.specs.declared.event.Event.TheVariants as event
+use Rattle.hq_events.specs.declared.event.Event.{Event}
+use Rattle.hq_events.specs.declared.event.Event.TheVariants as event
 use Rattle.hq_timeline.specs.declared.draft.Stage.TheVariants as stage
 use Rattle.hq_timeline.specs.Gives.{TakesAll}
 use Rattle.hq_timeline.specs.Grammar.{event_words, EventFits}

@@ -7,8 +7,8 @@ use Rattle.std.proofs.lemmas.Bool.{ltb-true, lt-ltb}
 use Rattle.hq_text.specs.Numbers.{IsNumber, number_of}
 use Rattle.hq_text.proofs.InTurn.{steps, ok_is, both, word_is, guarded}
 use Rattle.hq_text.proofs.NumberLaws.{number_only, number_tells}
-use Rattle.hq_machine.specs.declared.event.Event.{Event}
-use Rattle.hq_machine.specs.declared.event.Event.TheVariants as event
+use Rattle.hq_events.specs.declared.event.Event.{Event}
+use Rattle.hq_events.specs.declared.event.Event.TheVariants as event
 use Rattle.hq_timeline.specs.declared.fault.TimeReason.{TimeReason}
 use Rattle.hq_timeline.specs.declared.fault.TimeReason.TheVariants as reason
 use Rattle.hq_timeline.specs.declared.kinds.OneNumber.{OneNumber}

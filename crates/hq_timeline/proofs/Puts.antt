@@ -4,7 +4,7 @@ use Rattle.std.specs.Prelude.{map, Result, Ok, Err, OnOk}
 use Rattle.std.specs.List.{AllByRecursion}
 use Rattle.std.specs.Io.KnownBytes.{Appends, append_known}
 use Rattle.std.proofs.lemmas.Grind.{flat_map-append}
-use Rattle.hq_machine.specs.declared.event.Event.{Event}
+use Rattle.hq_events.specs.declared.event.Event.{Event}
 use Rattle.hq_timeline.specs.Grammar.{event_words, head_words, end_words}
 use Rattle.hq_text.specs.Printed.{line_text, lines_text}
 use Rattle.hq_timeline.specs.Printed.{text_of}

@@ -2,12 +2,14 @@
 use Rattle.std.proofs.Common.{◌≡◌, ℕ, zero, suc, ◌+◌, ◌<◌, ◌≤◌, List, [], ◌∷◌, ◌++◌, length, take, map, Some, refl, sym, ap, subst, ◌∙◌, arith, add-one}
 use Rattle.std.proofs.Math.Seq.{take-suc}
 use Rattle.std.specs.Prelude.{slice_get, slice_index, slice_index_or}
-use Rattle.hq_machine.specs.declared.event.Event.{Event}
-use Rattle.hq_machine.specs.declared.fault.StepFault.{StepFault}
-use Rattle.hq_machine.specs.declared.fault.StepFault.TheVariants as step
-use Rattle.hq_machine.specs.Events.{coarse_of}
+use Rattle.hq_events.specs.declared.event.Event.{Event}
+use Rattle.hq_events.specs.declared.fault.StepFault.{StepFault}
+use Rattle.hq_events.specs.declared.fault.StepFault.TheVariants as step
+use Rattle.hq_events.specs.Events.{coarse_of}
+use Rattle.hq_machine.specs.Changes.{Applied}
+use Rattle.hq_machine.specs.Enabled.{NotApplied}
 use Rattle.hq_machine.specs.State.{StateValue}
-use Rattle.hq_machine.specs.View.{state_of, Applied, NotApplied}
+use Rattle.hq_machine.specs.View.{state_of}
 use Rattle.hq_model.specs.Job.{Job}
 use Rattle.hq_model.specs.Machine.{State, listed, start}
 use Rattle.hq_model.specs.Journal.{Coarse, Happens, Journal}

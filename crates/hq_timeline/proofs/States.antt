@@ -3,7 +3,7 @@ use Rattle.std.proofs.Common.{◌≡◌, ℕ, Bool, true, false, cond, List, [],
 use Rattle.std.specs.Prelude.{map, Ok, Err}
 use Rattle.std.specs.List.{AllByRecursion}
 use Rattle.std.proofs.lemmas.List.{map-append}
-use Rattle.hq_machine.specs.declared.event.Event.{Event}
+use Rattle.hq_events.specs.declared.event.Event.{Event}
 use Rattle.hq_timeline.specs.declared.fault.TimeReason.TheVariants as reason
 use Rattle.hq_timeline.specs.declared.draft.Stage.{Stage}
 use Rattle.hq_timeline.specs.declared.draft.Stage.TheVariants as stage

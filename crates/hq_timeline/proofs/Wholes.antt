@@ -4,7 +4,7 @@ use Rattle.std.specs.Prelude.{map}
 use Rattle.hq_text.specs.LineByLine.{AdmitsAll}
 use Rattle.hq_text.specs.Lines.{words_of}
 use Rattle.hq_text.proofs.LineByLine.{AddsAll, admits_of, keeps_lines, one_state}
-use Rattle.hq_machine.specs.declared.event.Event.{Event}
+use Rattle.hq_events.specs.declared.event.Event.{Event}
 use Rattle.hq_timeline.specs.Grammar.{TimeText}
 use Rattle.hq_timeline.specs.TextFaults.{OneJournal}
 use Rattle.hq_timeline.specs.TextStates.{State, start, is_ended, added}

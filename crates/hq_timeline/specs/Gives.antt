@@ -1,7 +1,7 @@
 -- What a function returned, against what the tests give, unless memory ran out.
 use Rattle.std.specs.Prelude.{◌≡◌, ℕ, ◌+◌, ◌⊎◌, List, length, Result, Ok, Err}
 use Rattle.hq_text.specs.LineByLine.{AdmitsAll, FirstRefused}
-use Rattle.hq_machine.specs.declared.event.Event.{Event}
+use Rattle.hq_events.specs.declared.event.Event.{Event}
 use Rattle.hq_timeline.specs.declared.fault.TimeReason.{TimeReason}
 use Rattle.hq_timeline.specs.declared.fault.TimeReason.TheVariants as reason
 use Rattle.hq_timeline.specs.declared.fault.TimeFault.{TimeFault}

@@ -1,14 +1,14 @@
 -- What replaying a journal answers.
 use Rattle.std.specs.Prelude.{◌≡◌, ℕ, List, length, map, take, slice_get, Some}
-use Rattle.hq_machine.specs.declared.event.Event.{Event}
-use Rattle.hq_machine.specs.Events.{coarse_of}
+use Rattle.hq_events.specs.declared.event.Event.{Event}
+use Rattle.hq_events.specs.Events.{coarse_of}
 use Rattle.hq_model.specs.Job.{Job}
 use Rattle.hq_model.specs.Machine.{State, listed}
 use Rattle.hq_model.specs.Journal.{Happens, Journal, JournalRun}
 use Rattle.hq_machine.specs.State.{StateValue}
 use Rattle.hq_machine.specs.View.{IsStateOf, state_of}
-use Rattle.hq_machine.specs.declared.fault.StepFault.{StepFault}
-use Rattle.hq_machine.specs.declared.fault.StepFault.TheVariants as step
+use Rattle.hq_events.specs.declared.fault.StepFault.{StepFault}
+use Rattle.hq_events.specs.declared.fault.StepFault.TheVariants as step
 use Rattle.hq_timeline.specs.declared.fault.ReplayFault.{ReplayFault}
 use Rattle.hq_timeline.specs.declared.fault.ReplayFault.TheVariants as fault
 

@@ -4,7 +4,7 @@ ghost use Rattle.std.specs.Prelude.{◌⊎◌, List, IfOk, IfErr, IfSome};
 ghost use Rattle.hq_text.specs.Intake.{FaultOf, GivesUnlessRead, OfText};
 ghost use Rattle.hq_text.specs.Lines.{lines_of};
 ghost use Rattle.hq_text.specs.Turns.{Fails, Passes, ReadTurn};
-ghost use Rattle.hq_machine.specs.declared.event.Event.{Event};
+ghost use Rattle.hq_events.specs.declared.event.Event.{Event};
 ghost use Rattle.hq_timeline.specs.Gives.{HasFault, no_memory};
 ghost use Rattle.hq_timeline.specs.Grammar.{TimeText};
 

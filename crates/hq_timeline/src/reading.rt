@@ -3,7 +3,7 @@
 ghost use Rattle.std.specs.Prelude.{◌≡◌, ◌+◌, ◌⊎◌, List, ℕ, length, IfOk, IfErr};
 ghost use Rattle.hq_text.specs.LineByLine.{AdmitsAll};
 ghost use Rattle.hq_text.specs.Lines.{lines_of, words_of};
-ghost use Rattle.hq_machine.specs.declared.event.Event.{Event};
+ghost use Rattle.hq_events.specs.declared.event.Event.{Event};
 ghost use Rattle.hq_timeline.specs.DraftView.{state_of};
 ghost use Rattle.hq_timeline.specs.Gives.{Gives, GivesJournal, HasFault, ReadOf, TakesAll, no_memory};
 ghost use Rattle.hq_timeline.specs.Grammar.{TimeText};

@@ -1,10 +1,11 @@
 -- A run that is made step by step.
 use Rattle.std.proofs.Common.{◌≡◌, ℕ, ◌<◌, IsSome, IfSome, List, [], ◌∷◌, ◌++◌, length, map, refl, sym, ◌∙◌, ap, subst, Option, Some, None}
 use Rattle.std.proofs.lemmas.List.{map-append}
-use Rattle.hq_machine.specs.declared.event.Event.{Event as MachineEvent}
-use Rattle.hq_machine.specs.Events.{coarse_of, one_of, single_of}
+use Rattle.hq_events.specs.declared.event.Event.{Event as MachineEvent}
+use Rattle.hq_events.specs.Events.{coarse_of, one_of, single_of}
+use Rattle.hq_machine.specs.Changes.{Moved}
 use Rattle.hq_machine.specs.State.{StateValue}
-use Rattle.hq_machine.specs.View.{Moved, state_of}
+use Rattle.hq_machine.specs.View.{state_of}
 use Rattle.hq_model.specs.Job.{Job}
 use Rattle.hq_model.specs.Journal.{Coarse}
 use Rattle.hq_model.specs.Journal.Coarse.{One, Fetch, Deliver, Complete, Rest}

@@ -4,9 +4,9 @@ use Rattle.std.specs.Global.{Vec}
 use Rattle.std.proofs.lemmas.Bool.{cases_eq, true≢false, cond-true, cond-false, eq-eqb, ne_eqb}
 use Rattle.std.proofs.lemmas.List.{length-set, get_or-set_same, get_or-set_other, get_or-replicate, length-replicate}
 use Rattle.std.proofs.lemmas.List.Elements.{All-push, All-nil}
-use Rattle.hq_machine.specs.declared.event.Event.{Event as MachineEvent}
-use Rattle.hq_machine.specs.declared.event.Event.TheVariants as own
-use Rattle.hq_machine.specs.Events.{single_of}
+use Rattle.hq_events.specs.declared.event.Event.{Event as MachineEvent}
+use Rattle.hq_events.specs.declared.event.Event.TheVariants as own
+use Rattle.hq_events.specs.Events.{single_of}
 use Rattle.hq_model.specs.Job.{Job, packet, IsPacket, agent_of}
 use Rattle.hq_model.specs.Machine.{State, Copy, IsByte, put2, start, lane_sees}
 use Rattle.hq_model.specs.Machine.Event.{Read, Store, PushLane, PushAgent, FillLane, FillAgent}

@@ -1,8 +1,8 @@
 -- What is known of a trace: one byte's origins, in memory, in each agent's and each lane's copy, and in its reads.
 use Rattle.std.specs.Prelude.{◌≡◌, ℕ, ◌<◌, ◌==◌, if◌then◌else◌, IsSome, List, [], ◌∷◌, ◌++◌, length, map, set}
 use Rattle.std.specs.Prelude.{slice_index_or, All}
-use Rattle.hq_machine.specs.declared.event.Event.{Event as MachineEvent}
-use Rattle.hq_machine.specs.Events.{coarse_of}
+use Rattle.hq_events.specs.declared.event.Event.{Event as MachineEvent}
+use Rattle.hq_events.specs.Events.{coarse_of}
 use Rattle.hq_machine.specs.View.{IsStateOf, state_of}
 use Rattle.hq_model.specs.Job.{Job, packet, IsPacket}
 use Rattle.hq_model.specs.Journal.Coarse.{One}

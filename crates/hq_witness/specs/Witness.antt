@@ -5,8 +5,8 @@ use Rattle.hq_audit.specs.declared.fault.AuditNo.TheVariants as audit
 use Rattle.hq_audit.specs.Refused.{IsRefused}
 use Rattle.hq_finding.specs.declared.kind.Kind.{Kind}
 use Rattle.hq_finding.specs.declared.why.Why.{Why}
-use Rattle.hq_machine.specs.declared.event.Event.{Event}
-use Rattle.hq_machine.specs.Events.{coarse_of}
+use Rattle.hq_events.specs.declared.event.Event.{Event}
+use Rattle.hq_events.specs.Events.{coarse_of}
 use Rattle.hq_model.specs.Fence.{Ordered}
 use Rattle.hq_model.specs.Job.{Job, IsPacket}
 use Rattle.hq_model.specs.Journal.Coarse.{One}

@@ -2,7 +2,7 @@
 
 ghost use Rattle.std.specs.Prelude.{◌≡◌, ◌≢◌, ◌↔◌, IfOk, IsTrue, OnOk, false};
 ghost use Rattle.hq_job.specs.Plan.{plan};
-ghost use Rattle.hq_machine.specs.View.{Enabled};
+ghost use Rattle.hq_machine.specs.Enabled.{Enabled};
 ghost use Rattle.hq_model.specs.Machine.Event.{Enter};
 ghost use Rattle.hq_model.specs.Machine.{IsByte};
 ghost use Rattle.hq_model.specs.Order as order;

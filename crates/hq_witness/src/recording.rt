@@ -2,8 +2,9 @@
 
 ghost use Rattle.std.specs.Prelude.{◌≡◌, ◌↔◌, ◌<◌, ◌≤◌, ◌++◌, ◌∷◌, [], IfOk, IfSome, IsTrue, OnOk, false, is_some};
 ghost use Rattle.hq_job.specs.Plan.{plan};
-ghost use Rattle.hq_machine.specs.Events.{single_of};
-ghost use Rattle.hq_machine.specs.View.{Enabled, MayEnter, state_of};
+ghost use Rattle.hq_events.specs.Events.{single_of};
+ghost use Rattle.hq_machine.specs.Enabled.{Enabled, MayEnter};
+ghost use Rattle.hq_machine.specs.View.{state_of};
 ghost use Rattle.hq_model.specs.Machine.{IsByte};
 ghost use Rattle.hq_model.specs.Origins.{Origins, agent_origin};
 ghost use Rattle.hq_witness.specs.declared.origin.Origin.TheVariants.{Start};

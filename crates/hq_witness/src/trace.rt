@@ -3,7 +3,7 @@
 ghost use Rattle.std.specs.Prelude.{◌≡◌, ◌<◌, ◌==◌, ◌↔◌, IfOk, IfSome, IsTrue, OnOk, if◌then◌else◌, length};
 ghost use Rattle.std.specs.Prelude.{slice_index, slice_index_or};
 ghost use Rattle.hq_job.specs.Plan.{plan};
-ghost use Rattle.hq_machine.specs.Events.{single_of};
+ghost use Rattle.hq_events.specs.Events.{single_of};
 ghost use Rattle.hq_machine.specs.View.{IsStateOf, state_of};
 ghost use Rattle.hq_model.specs.Job.{IsPacket, agent_of, packet as packet_of};
 ghost use Rattle.hq_model.specs.Machine.{IsByte, start};
@@ -17,7 +17,7 @@ ghost use Rattle.hq_witness.specs.Traces.{Comes, Follows, IsTraceOf, Tells, Tell
 use crate::origin::Origin;
 use crate::table::Table;
 use hq_job::Job;
-use hq_machine::packets::{read_at, write_at};
+use hq_events::packets::{read_at, write_at};
 use hq_machine::{Event, State};
 use std::alloc::{AllocError, Global};
 

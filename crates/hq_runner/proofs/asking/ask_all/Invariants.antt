@@ -1,5 +1,5 @@
 use Rattle.std.proofs.Common.{◌≡◌, ◌≤◌, ◌-◌, ◌++◌, length, map, drop}
-use Rattle.hq_machine.specs.Events.{coarse_of}
+use Rattle.hq_events.specs.Events.{coarse_of}
 use Rattle.hq_model.specs.Journal.{observations}
 use Rattle.hq_runner.proofs.asking.ask_all.Given as goal
 

@@ -1,5 +1,5 @@
 use Rattle.std.proofs.Common.{IsTrue, sym, ◌∙◌}
-use Rattle.hq_machine.specs.declared.event.Event.TheVariants as event
+use Rattle.hq_events.specs.declared.event.Event.TheVariants as event
 use Rattle.hq_runner.specs.Journals.{is_asked}
 use Rattle.hq_runner.proofs.Asked.{taken_more, taken_all}
 use Rattle.hq_runner.proofs.owner.are_asked.Goals as goal

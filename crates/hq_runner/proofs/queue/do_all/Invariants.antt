@@ -1,7 +1,7 @@
 use Rattle.std.proofs.Common.{◌≡◌, ◌<◌, ◌≤◌, ◌-◌, length, take, map}
 use Rattle.hq_hall.proofs.Programs.{rising}
 use Rattle.hq_job.specs.Plan.{plan}
-use Rattle.hq_machine.specs.Events.{coarse_of}
+use Rattle.hq_events.specs.Events.{coarse_of}
 use Rattle.hq_model.specs.Journal.{Parts}
 use Rattle.hq_runner.specs.Kits.{AllRan, tasks_of}
 use Rattle.hq_runner.proofs.queue.do_all.Given as goal

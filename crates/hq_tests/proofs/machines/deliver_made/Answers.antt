@@ -4,7 +4,7 @@ use Rattle.std.specs.List.{sum_by}
 use Rattle.hq_footprint.specs.Tasks.{Suits}
 use Rattle.hq_job.specs.Plan.{plan}
 use Rattle.hq_model.specs.Job.{Packet, packet}
-use Rattle.hq_machine.proofs.Jobs.{suits}
+use Rattle.hq_events.proofs.Jobs.{suits}
 use Rattle.hq_tests.proofs.machines.deliver_made.Goals as goal
 
 no_entries : (reads : List Range) → length reads ≡ 2 → (get_or reads 0 (record { at = 0; len = 0 })).len ≡ 0 → (get_or reads 1 (record { at = 0; len = 0 })).len ≡ 0 → sum_by (λ r. r.len) reads ≡ 0

@@ -1,6 +1,6 @@
 use Rattle.std.proofs.Common.{◌≡◌, subst, sym, ◌∙◌, IfErr}
 use Rattle.std.proofs.lemmas.Result.{on_ok_weaker}
-use Rattle.hq_machine.specs.View.{Possible}
+use Rattle.hq_machine.specs.Enabled.{Possible}
 use Rattle.hq_model.specs.Job.{packet}
 use Rattle.hq_model.specs.Job.Kind.{Work}
 use Rattle.hq_model.specs.Journal.Coarse.{Complete}

@@ -1,5 +1,5 @@
 use Rattle.std.proofs.Common.{refl}
-use Rattle.hq_machine.specs.declared.event.Event.TheVariants as event
+use Rattle.hq_events.specs.declared.event.Event.TheVariants as event
 use Rattle.hq_hall.proofs.Keeping.{quiet_stood}
 use Rattle.hq_hall.proofs.hall.Hall.launch.Goals as goal
 

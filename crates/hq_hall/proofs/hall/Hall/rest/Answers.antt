@@ -1,6 +1,6 @@
 use Rattle.std.proofs.Common.{refl, subst, IfErr}
-use Rattle.hq_machine.specs.declared.event.Event.TheVariants as event
-use Rattle.hq_machine.specs.View.{Possible}
+use Rattle.hq_events.specs.declared.event.Event.TheVariants as event
+use Rattle.hq_machine.specs.Enabled.{Possible}
 use Rattle.hq_model.specs.Journal.Coarse.{Rest}
 use Rattle.hq_hall.specs.Histories.{Refused}
 use Rattle.hq_hall.specs.View.{HallValue, job_of}

@@ -1,7 +1,8 @@
 use Rattle.std.proofs.Common.{◌≡◌, subst, sym}
 use Rattle.hq_job.specs.Plan.{plan}
-use Rattle.hq_machine.specs.declared.event.Event.TheVariants as event
-use Rattle.hq_machine.specs.View.{Possible, state_of}
+use Rattle.hq_events.specs.declared.event.Event.TheVariants as event
+use Rattle.hq_machine.specs.Enabled.{Possible}
+use Rattle.hq_machine.specs.View.{state_of}
 use Rattle.hq_model.specs.Journal.Coarse.{Deliver}
 use Rattle.hq_model.specs.Machine.{bytes_stored}
 use Rattle.hq_hall.specs.Histories.{HistoryValue, plan_of}

@@ -1,7 +1,7 @@
 use Rattle.std.proofs.Common.{refl, arith}
 use Rattle.hq_job.specs.Plan.{plan}
-use Rattle.hq_machine.specs.View.{state_of}
 use Rattle.hq_machine.proofs.Moves.{missing_below}
+use Rattle.hq_machine.specs.View.{state_of}
 use Rattle.hq_machine.proofs.state.State.all_observed.Goals as goal
 
 pub returns : goal.returns

@@ -1,8 +1,8 @@
 use Rattle.std.proofs.Common.{◌-◌, ◌++◌, ℕ, List, length, get_or, sym, ◌∙◌, ap₂, arith}
 use Rattle.hq_footprint.specs.declared.footprint.Range.{Range}
 use Rattle.hq_model.specs.Machine.{lane_sees}
-use Rattle.hq_machine.specs.View.{state_of}
 use Rattle.hq_machine.proofs.Seen.{range_listed, ranges_more, range_below}
+use Rattle.hq_machine.specs.View.{state_of}
 use Rattle.hq_machine.proofs.state.State.bytes_of_ranges.Goals as goal
 
 none : Range

@@ -1,8 +1,8 @@
 use Rattle.std.proofs.Common.{◌≡◌, ℕ, length, drop, unwrap_or, ◌∙◌, ap, arith}
 use Rattle.hq_job.specs.Plan.{plan}
 use Rattle.hq_model.specs.Machine.{listed}
-use Rattle.hq_machine.specs.View.{state_of}
 use Rattle.hq_machine.proofs.Filled.{all_filled}
+use Rattle.hq_machine.specs.View.{state_of}
 use Rattle.hq_machine.proofs.state.State.bytes_read.Goals as goal
 
 pub returns : goal.returns

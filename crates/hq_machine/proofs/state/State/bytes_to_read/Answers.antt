@@ -6,7 +6,7 @@ use Rattle.hq_job.specs.Value.{Bytes}
 use Rattle.hq_model.specs.Job.{Packet, packet}
 use Rattle.hq_model.specs.Machine.{lane_sees}
 use Rattle.hq_machine.specs.View.{state_of}
-use Rattle.hq_machine.proofs.Jobs.{reads_within}
+use Rattle.hq_events.proofs.Jobs.{reads_within}
 use Rattle.hq_machine.proofs.state.State.bytes_to_read.Goals as goal
 
 pub bytes_of_ranges-requires-clause-ranges : goal.bytes_of_ranges-requires-clause-ranges

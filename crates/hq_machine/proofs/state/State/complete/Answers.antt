@@ -4,11 +4,11 @@ use Rattle.hq_job.specs.Plan.{plan}
 use Rattle.hq_model.specs.Job.{packet}
 use Rattle.hq_model.specs.Journal.{Coarse}
 use Rattle.hq_model.specs.Machine.Phase.{Complete}
-use Rattle.hq_machine.specs.State.{StateValue}
-use Rattle.hq_machine.specs.View.{Applied, in_phase, with_decrement, with_copies}
 use Rattle.hq_machine.proofs.EachEntry.{no_memory_within}
 use Rattle.hq_machine.proofs.FenceBacks.{reached, written}
 use Rattle.hq_machine.proofs.Releases.{applied_complete, possible_complete, not_worked}
+use Rattle.hq_machine.specs.Changes.{Applied, in_phase, with_decrement, with_copies}
+use Rattle.hq_machine.specs.State.{StateValue}
 use Rattle.hq_machine.proofs.state.State.complete.Goals as goal
 
 pub returns-then-not-is_worked-clause-fault : goal.returns-then-not-is_worked-clause-fault

@@ -1,6 +1,6 @@
 use Rattle.std.proofs.Common.{ℕ, Option, unwrap_or, ◌∙◌, ap, arith}
-use Rattle.hq_machine.specs.View.{state_of}
 use Rattle.hq_machine.proofs.Filled.{filled_more}
+use Rattle.hq_machine.specs.View.{state_of}
 use Rattle.hq_machine.proofs.state.State.copy_reads.Goals as goal
 
 pub loop-entry-preserved : goal.loop-entry-preserved

@@ -6,8 +6,8 @@ use Rattle.hq_job.specs.Plan.{plan}
 use Rattle.hq_machine.specs.View.{state_of}
 use Rattle.hq_model.specs.Journal.Coarse.{Deliver}
 use Rattle.hq_machine.proofs.EachEntry.{no_memory, no_memory_within}
-use Rattle.hq_machine.proofs.StoreMoves.{bytes_count}
 use Rattle.hq_machine.proofs.EachStore.{deliver_needs, deliver_possible}
+use Rattle.hq_machine.proofs.StoreMoves.{bytes_count}
 use Rattle.hq_machine.proofs.state.State.deliver_given.Goals as goal
 
 pub returns-then-not-may_deliver-clause-fault : goal.returns-then-not-may_deliver-clause-fault

@@ -1,7 +1,8 @@
 use Rattle.std.proofs.Common.{sym, subst}
 use Rattle.hq_job.specs.Plan.{plan}
 use Rattle.hq_model.specs.Machine.Event.{DropLane}
-use Rattle.hq_machine.specs.View.{IsStateOf, Moved, with_copies}
+use Rattle.hq_machine.specs.Changes.{Moved, with_copies}
+use Rattle.hq_machine.specs.View.{IsStateOf}
 use Rattle.hq_machine.specs.contracts.state.State.{the_view}
 use Rattle.hq_machine.proofs.CopyMoves.{moved_drop_lane}
 use Rattle.hq_machine.proofs.state.State.drop_lane.Goals as goal

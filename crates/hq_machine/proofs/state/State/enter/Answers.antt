@@ -2,9 +2,9 @@ use Rattle.std.proofs.Common.{sym, ◌∙◌, ap, subst}
 use Rattle.hq_job.specs.Plan.{plan}
 use Rattle.hq_model.specs.Machine.Event.{Enter}
 use Rattle.hq_model.specs.Machine.Phase.{Active}
-use Rattle.hq_machine.specs.State.{StateValue}
-use Rattle.hq_machine.specs.View.{Moved, in_phase}
 use Rattle.hq_machine.proofs.Fences.{moved_enter}
+use Rattle.hq_machine.specs.Changes.{Moved, in_phase}
+use Rattle.hq_machine.specs.State.{StateValue}
 use Rattle.hq_machine.proofs.state.State.enter.Goals as goal
 
 pub returns-clause-ok : goal.returns-clause-ok

@@ -1,7 +1,8 @@
 use Rattle.std.proofs.Common.{sym, subst}
 use Rattle.hq_job.specs.Plan.{plan}
 use Rattle.hq_model.specs.Machine.Event.{FillLane}
-use Rattle.hq_machine.specs.View.{IsStateOf, Moved, with_copies}
+use Rattle.hq_machine.specs.Changes.{Moved, with_copies}
+use Rattle.hq_machine.specs.View.{IsStateOf}
 use Rattle.hq_machine.specs.contracts.state.State.{the_view}
 use Rattle.hq_machine.proofs.CopyMoves.{moved_fill_lane}
 use Rattle.hq_machine.proofs.state.State.fill_lane.Goals as goal

@@ -1,9 +1,9 @@
 use Rattle.std.proofs.Common.{◌<◌, IfSome, length, sym, ◌∙◌, ap, subst}
 use Rattle.hq_job.specs.Plan.{plan}
 use Rattle.hq_model.specs.Machine as machine
-use Rattle.hq_machine.specs.State.{StateValue}
-use Rattle.hq_machine.specs.View.{Moved, in_phase, with_decrement}
 use Rattle.hq_machine.proofs.Finishing.{moved_finish}
+use Rattle.hq_machine.specs.Changes.{Moved, in_phase, with_decrement}
+use Rattle.hq_machine.specs.State.{StateValue}
 use Rattle.hq_machine.proofs.state.State.finish.Goals as goal
 
 pub returns-clause-ok : goal.returns-clause-ok

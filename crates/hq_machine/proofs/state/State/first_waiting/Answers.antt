@@ -2,8 +2,9 @@ use Rattle.std.proofs.Common.{◌≡◌, ◌<◌, ◌≤◌, length, get_or, sym
 use Rattle.hq_job.specs.Plan.{plan}
 use Rattle.hq_model.specs.Machine as machine
 use Rattle.hq_model.specs.Machine.{first_phase}
-use Rattle.hq_machine.specs.View.{IsFirstWaiting, state_of}
 use Rattle.hq_machine.proofs.NextPackets.{first_waits, none_waits}
+use Rattle.hq_machine.specs.Enabled.{IsFirstWaiting}
+use Rattle.hq_machine.specs.View.{state_of}
 use Rattle.hq_machine.proofs.state.State.first_waiting.Goals as goal
 
 pub returns-then-is_in : goal.returns-then-is_in

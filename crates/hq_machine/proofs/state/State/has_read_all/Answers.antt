@@ -2,8 +2,8 @@ use Rattle.std.proofs.Common.{ℕ, Option, None, is_some, length, refl, sym, ◌
 use Rattle.std.proofs.lemmas.Bool.{eq-eqb, eqb-true}
 use Rattle.hq_job.specs.Plan.{plan}
 use Rattle.hq_model.specs.Job.{packet}
-use Rattle.hq_machine.specs.View.{row_of}
 use Rattle.hq_machine.proofs.Counts.{full_row}
+use Rattle.hq_machine.specs.View.{row_of}
 use Rattle.hq_machine.proofs.state.State.has_read_all.Goals as goal
 
 pub returns : goal.returns

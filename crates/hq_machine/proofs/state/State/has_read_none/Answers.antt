@@ -1,7 +1,7 @@
 use Rattle.std.proofs.Common.{sym, ◌∙◌}
 use Rattle.std.proofs.lemmas.Bool.{eq-eqb, eqb-true}
-use Rattle.hq_machine.specs.View.{row_of}
 use Rattle.hq_machine.proofs.EachEntry.{unread_counted}
+use Rattle.hq_machine.specs.View.{row_of}
 use Rattle.hq_machine.proofs.state.State.has_read_none.Goals as goal
 
 pub returns : goal.returns

@@ -1,7 +1,7 @@
 use Rattle.std.proofs.Common.{◌≡◌, true, false}
 use Rattle.hq_job.specs.Plan.{plan}
-use Rattle.hq_machine.specs.View.{state_of}
 use Rattle.hq_machine.proofs.Moves.{observable_some, observable_none}
+use Rattle.hq_machine.specs.View.{state_of}
 use Rattle.hq_machine.proofs.state.State.is_observable.Goals as goal
 
 pub returns-in-Some-clause-may : goal.returns-in-Some-clause-may

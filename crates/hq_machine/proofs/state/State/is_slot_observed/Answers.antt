@@ -1,7 +1,7 @@
 use Rattle.std.proofs.Common.{◌≡◌, true, false}
 use Rattle.hq_job.specs.Plan.{plan}
-use Rattle.hq_machine.specs.View.{state_of}
 use Rattle.hq_machine.proofs.Moves.{slot_observed, none_observed}
+use Rattle.hq_machine.specs.View.{state_of}
 use Rattle.hq_machine.proofs.state.State.is_slot_observed.Goals as goal
 
 pub returns-in-Some : goal.returns-in-Some

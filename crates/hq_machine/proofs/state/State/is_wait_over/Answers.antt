@@ -1,8 +1,8 @@
 use Rattle.std.proofs.Common.{◌≡◌, sym, ◌∙◌, ap}
 use Rattle.hq_job.specs.Plan.{plan, kind_of}
 use Rattle.hq_model.specs.Job.{Packet, Kind, packet}
-use Rattle.hq_machine.specs.View.{state_of}
 use Rattle.hq_machine.proofs.Moves.{and_over}
+use Rattle.hq_machine.specs.View.{state_of}
 use Rattle.hq_machine.proofs.state.State.is_wait_over.Goals as goal
 
 pub returns-in-And : goal.returns-in-And

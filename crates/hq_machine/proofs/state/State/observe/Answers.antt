@@ -1,8 +1,8 @@
 use Rattle.std.proofs.Common.{◌≡◌, true, false, sym, subst}
 use Rattle.hq_job.specs.Plan.{plan}
 use Rattle.hq_model.specs.Machine.Event.{Observe}
-use Rattle.hq_machine.specs.View.{Moved}
 use Rattle.hq_machine.proofs.Moves.{moved_observe, not_observable}
+use Rattle.hq_machine.specs.Changes.{Moved}
 use Rattle.hq_machine.proofs.state.State.observe.Goals as goal
 
 pub returns-clause-ok : goal.returns-clause-ok

@@ -1,8 +1,8 @@
 use Rattle.std.proofs.Common.{ℕ, arith}
 use Rattle.hq_job.specs.Plan.{plan}
 use Rattle.hq_model.specs.Machine.Event.{Observe}
-use Rattle.hq_machine.specs.View.{Enabled}
 use Rattle.hq_machine.proofs.WorkLeft.{each_more, observe_below}
+use Rattle.hq_machine.specs.Enabled.{Enabled}
 use Rattle.hq_machine.proofs.state.State.observe_left.Goals as goal
 
 pub loop-slot-preserved : goal.loop-slot-preserved

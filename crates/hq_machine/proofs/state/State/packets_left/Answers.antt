@@ -1,8 +1,8 @@
 use Rattle.std.proofs.Common.{ℕ, inl, inr, arith}
 use Rattle.hq_job.specs.Plan.{plan}
 use Rattle.std.proofs.lemmas.Bool.{cases_lt}
-use Rattle.hq_machine.specs.WorkLeft.{PacketIdle}
 use Rattle.hq_machine.proofs.WorkLeft.{each_more, idle_past}
+use Rattle.hq_machine.specs.WorkLeft.{PacketIdle}
 use Rattle.hq_machine.proofs.state.State.packets_left.Goals as goal
 
 pub loop-packet-preserved : goal.loop-packet-preserved

@@ -1,7 +1,9 @@
 use Rattle.std.proofs.Common.{sym, subst}
 use Rattle.hq_job.specs.Plan.{plan}
 use Rattle.hq_model.specs.Machine.Event.{PushAgent}
-use Rattle.hq_machine.specs.View.{IsStateOf, Moved, Refused, with_copies}
+use Rattle.hq_machine.specs.Changes.{Moved, with_copies}
+use Rattle.hq_machine.specs.Enabled.{Refused}
+use Rattle.hq_machine.specs.View.{IsStateOf}
 use Rattle.hq_machine.specs.contracts.state.State.{the_view}
 use Rattle.hq_machine.proofs.CopyMoves.{moved_push_agent, refused_push_agent}
 use Rattle.hq_machine.proofs.state.State.push_agent.Goals as goal

@@ -1,8 +1,8 @@
 use Rattle.std.proofs.Common.{ℕ, arith}
 use Rattle.hq_job.specs.Plan.{plan}
 use Rattle.hq_model.specs.Machine.Event.{PushAgent}
-use Rattle.hq_machine.specs.WorkLeft.{NoneOf}
 use Rattle.hq_machine.proofs.WorkLeft.{each_more, agent_below}
+use Rattle.hq_machine.specs.WorkLeft.{NoneOf}
 use Rattle.hq_machine.proofs.state.State.push_agent_left.Goals as goal
 
 pub loop-agent-preserved : goal.loop-agent-preserved

@@ -2,8 +2,10 @@ use Rattle.std.proofs.Common.{sym, ◌∙◌, ap, subst}
 use Rattle.hq_job.specs.Plan.{plan}
 use Rattle.hq_model.specs.Machine.{lane_sees}
 use Rattle.hq_model.specs.Machine.Event.{Read}
-use Rattle.hq_machine.specs.View.{Moved, NextRow, row_of, state_of}
+use Rattle.hq_events.specs.Rows.{NextRow}
 use Rattle.hq_machine.proofs.Reading.{moved_read}
+use Rattle.hq_machine.specs.Changes.{Moved}
+use Rattle.hq_machine.specs.View.{row_of, state_of}
 use Rattle.hq_machine.proofs.state.State.read.Goals as goal
 
 pub returns-in_ok-take_read-in-Some-clause-ok : goal.returns-in_ok-take_read-in-Some-clause-ok

@@ -1,8 +1,8 @@
 use Rattle.std.proofs.Common.{length, sym, subst}
 use Rattle.hq_job.specs.Plan.{plan}
 use Rattle.hq_model.specs.Job.{packet}
-use Rattle.hq_machine.specs.Entries.{FetchedUpTo}
 use Rattle.hq_machine.proofs.EachEntry.{fetched_whole}
+use Rattle.hq_machine.specs.Entries.{FetchedUpTo}
 use Rattle.hq_machine.proofs.state.State.read_in_order.Goals as goal
 
 pub returns : goal.returns

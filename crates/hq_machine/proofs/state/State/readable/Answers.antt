@@ -1,6 +1,6 @@
 use Rattle.hq_job.specs.Plan.{plan}
-use Rattle.hq_machine.specs.View.{state_of}
 use Rattle.hq_machine.proofs.Reading.{readable_from}
+use Rattle.hq_machine.specs.View.{state_of}
 use Rattle.hq_machine.proofs.state.State.readable.Goals as goal
 
 pub returns : goal.returns

@@ -1,8 +1,8 @@
 use Rattle.std.proofs.Common.{sym, subst}
 use Rattle.hq_job.specs.Plan.{plan}
 use Rattle.hq_model.specs.Journal.Coarse.{Rest}
-use Rattle.hq_machine.specs.View.{Applied}
 use Rattle.hq_machine.proofs.Releases.{applied_rest, possible_rest}
+use Rattle.hq_machine.specs.Changes.{Applied}
 use Rattle.hq_machine.proofs.state.State.rest.Goals as goal
 
 pub returns-in-Ok-clause-ok : goal.returns-in-Ok-clause-ok

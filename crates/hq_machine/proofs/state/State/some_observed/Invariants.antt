@@ -1,6 +1,7 @@
 use Rattle.std.proofs.Common.{ℕ, ◌<◌}
 use Rattle.hq_job.specs.Plan.{plan}
-use Rattle.hq_machine.specs.View.{SlotObserved, state_of}
+use Rattle.hq_machine.specs.Enabled.{SlotObserved}
+use Rattle.hq_machine.specs.View.{state_of}
 use Rattle.hq_machine.proofs.state.State.some_observed.Given as goal
 
 abbrev pub invariant-loop-slot : goal.invariant-loop-slot

@@ -1,6 +1,6 @@
 use Rattle.std.proofs.Common.{[], false, replicate, ap, ◌∙◌}
 use Rattle.hq_job.specs.Plan.{plan}
-use Rattle.hq_machine.specs.State.{no_stores}
+use Rattle.hq_events.specs.Rows.{no_stores}
 use Rattle.hq_machine.proofs.Starts.{started_is, started_state}
 use Rattle.hq_machine.proofs.state.State.start.Goals as goal
 

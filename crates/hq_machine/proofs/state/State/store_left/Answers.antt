@@ -1,8 +1,8 @@
 use Rattle.std.proofs.Common.{ℕ, arith}
 use Rattle.hq_job.specs.Plan.{plan}
 use Rattle.hq_model.specs.Machine.Event.{Store}
-use Rattle.hq_machine.specs.View.{Enabled}
 use Rattle.hq_machine.proofs.WorkLeft.{each_more, store_below}
+use Rattle.hq_machine.specs.Enabled.{Enabled}
 use Rattle.hq_machine.proofs.state.State.store_left.Goals as goal
 
 pub loop-entry-preserved : goal.loop-entry-preserved

@@ -1,8 +1,8 @@
 use Rattle.std.proofs.Common.{sym, subst}
 use Rattle.hq_job.specs.Plan.{plan}
 use Rattle.hq_model.specs.Machine.Event.{Submit}
-use Rattle.hq_machine.specs.View.{Moved}
 use Rattle.hq_machine.proofs.Moves.{moved_submit}
+use Rattle.hq_machine.specs.Changes.{Moved}
 use Rattle.hq_machine.proofs.state.State.submit.Goals as goal
 
 pub returns-in-Some-clause-ok : goal.returns-in-Some-clause-ok

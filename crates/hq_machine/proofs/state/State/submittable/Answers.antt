@@ -1,7 +1,7 @@
 use Rattle.std.proofs.Common.{◌≡◌, true, false}
 use Rattle.hq_job.specs.Plan.{plan}
-use Rattle.hq_machine.specs.View.{state_of}
 use Rattle.hq_machine.proofs.NextPackets.{none_submittable}
+use Rattle.hq_machine.specs.View.{state_of}
 use Rattle.hq_machine.proofs.state.State.submittable.Goals as goal
 
 pub returns-then-not-has_slot : goal.returns-then-not-has_slot

@@ -3,8 +3,8 @@ use Rattle.hq_footprint.specs.Tasks.{result_of}
 use Rattle.hq_job.specs.Plan.{plan}
 use Rattle.hq_model.specs.Job.{packet}
 use Rattle.hq_model.specs.Machine.{bytes_read, bytes_stored}
-use Rattle.hq_machine.specs.View.{state_of}
 use Rattle.hq_machine.proofs.Wholes.{not_empty, whole_read}
+use Rattle.hq_machine.specs.View.{state_of}
 use Rattle.hq_machine.proofs.state.State.task_bytes.Goals as goal
 
 pub returns-then-not-is_empty-clause-bytes : goal.returns-then-not-is_empty-clause-bytes

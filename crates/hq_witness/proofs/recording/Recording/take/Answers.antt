@@ -1,6 +1,6 @@
 use Rattle.std.proofs.Common.{◌∙◌, sym}
 use Rattle.hq_job.specs.Plan.{plan}
-use Rattle.hq_machine.specs.Events.{single_of}
+use Rattle.hq_events.specs.Events.{single_of}
 use Rattle.hq_witness.proofs.Runs.{comes, taken}
 use Rattle.hq_witness.proofs.recording.Recording.take.Goals as goal
 

@@ -1,0 +1,5 @@
+pub mod Jobs
+pub mod Phases
+pub mod Places
+pub mod Replicated
+pub mod Wholes

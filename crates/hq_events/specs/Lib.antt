@@ -1,0 +1,5 @@
+pub mod Events
+pub mod Phases
+pub mod Packets
+pub mod Rows
+pub mod RowForms
