@@ -7,6 +7,7 @@ ghost use Rattle.hq_audit.specs.Rowed.{DraftsRows, MayDraft, AllMayDraft, IsWhol
 use crate::drafting::Drafts;
 use crate::fault::AuditNo;
 use hq_derive::Needs;
+use hq_model::PACKETS;
 use hq_order::Before;
 use hq_parts::Parts;
 use std::alloc::Global;
@@ -38,7 +39,7 @@ fn draft_rows(
 /// Those of part k, unless a pair of it isn't ordered, or there is no memory.
 fn draft_part(alloc: Global, before: &Before, parts: &Parts, k: usize) -> Option<Drafts>
     requires parts { AreParts before.now parts.now }
-    requires few { k < 1024 }
+    requires few { k < PACKETS }
     ensures { MayDraft before.now k result }
 {
     match draft_rows(alloc, before, parts, k * ROWS, k * ROWS + ROWS) {
@@ -65,7 +66,7 @@ fn draft_parts<R: Threads + Sync>(
         alloc,
         count,
         &|k: usize| -> Option<Drafts>
-            requires { (k < 1024) × AreParts before.now parts.now }
+            requires { (k < PACKETS) × AreParts before.now parts.now }
             ensures { MayDraft before.entry.now k result }
         { draft_part(alloc, before, parts, k) },
     );

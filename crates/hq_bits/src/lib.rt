@@ -189,7 +189,7 @@ fn lowest_bit(word: u64) -> Option<usize>
 
 /// The least number that both sets have.
 pub fn first_common(left: &[u64], right: &[u64]) -> Option<usize>
-    requires { length left.now ≤ 16 }
+    requires { length left.now ≤ WORDS }
     ensures { MatchOption result ((n : ℕ) → IsTrue (has left.now n) → IsTrue (has right.now n) → ⊥)
         (IsFirstCommon left.now right.now) }
 {
@@ -203,8 +203,8 @@ pub fn first_common(left: &[u64], right: &[u64]) -> Option<usize>
 
 /// The least number from one on that the set has.
 pub fn first_from(row: &[u64], from: usize) -> Option<usize>
-    requires few { length row.now ≤ 16 }
-    requires from { from ≤ 1024 }
+    requires few { length row.now ≤ WORDS }
+    requires from { from ≤ WIDTH }
     ensures { MatchOption result ((n : ℕ) → from ≤ n → has row.now n ≡ false) (IsFirstFrom row.now from) }
 {
     if let Some(bit) = lowest_bit(word_at(row, from / 64) >> (from % 64)) {
@@ -220,12 +220,12 @@ pub fn first_from(row: &[u64], from: usize) -> Option<usize>
 
 /// Takes r in each row whose bit the word has; the row of its first bit is `first`.
 pub fn turn_word(table: &mut [u64], word: u64, first: usize, r: usize)
-    requires room { (first + 64) * 16 ≤ length table.old }
-    requires first { first + 64 ≤ 1024 }
-    requires r { r < 1024 }
+    requires room { (first + 64) * WORDS ≤ length table.old }
+    requires first { first + 64 ≤ WIDTH }
+    requires r { r < WIDTH }
     ensures { (x : ℕ) → IsTrue (has table.new x)
         ↔ (IsTrue (has table.old x)
-        ⊎ ((bit : ℕ) × (bit < 64) × (IsTrue (bit_at word bit == 1) × (x ≡ (first + bit) * 1024 + r)))) }
+        ⊎ ((bit : ℕ) × (bit < 64) × (IsTrue (bit_at word bit == 1) × (x ≡ (first + bit) * WIDTH + r)))) }
 {
     let mut rest = word;
     'each: while rest != 0 {
@@ -237,10 +237,10 @@ pub fn turn_word(table: &mut [u64], word: u64, first: usize, r: usize)
 
 /// The row of p in a table.
 pub fn column_of(table: &[u64], p: usize) -> &[u64]
-    requires room { (p + 1) * 16 ≤ length table.now }
-    requires p { p < 1024 }
-    ensures column { result.now ≡ take 16 (drop (p * 16) table.now) }
-    ensures len { length result.now ≡ 16 }
+    requires room { (p + 1) * WORDS ≤ length table.now }
+    requires p { p < WIDTH }
+    ensures column { result.now ≡ take WORDS (drop (p * WORDS) table.now) }
+    ensures len { length result.now ≡ WORDS }
 {
     let start = p * WORDS;
     &table[start..start + WORDS]

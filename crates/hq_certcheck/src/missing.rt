@@ -14,6 +14,7 @@ ghost use Rattle.hq_parts.specs.Parts.{AreParts};
 use hq_cert::{Certificate, Fences, Pair};
 use hq_footprint::{Footprint, Kinds};
 use hq_job::Job;
+use hq_model::PACKETS;
 use hq_parts::Parts;
 use std::alloc::{AllocError, Global};
 
@@ -41,7 +42,7 @@ fn kinds_in(flags: u8) -> Kinds
 
 /// Where the flags of p and r stand, in a table of so many rows.
 fn place(count: usize, p: usize, r: usize) -> usize
-    requires few { count ≤ 1024 }
+    requires few { count ≤ PACKETS }
     requires p_is { p < count }
     requires r_is { r < count }
     ensures place { result ≡ p * count + r }
@@ -52,7 +53,7 @@ fn place(count: usize, p: usize, r: usize) -> usize
 
 /// Sets the flag of a pair line, unless it names packets that there aren't.
 fn mark(cells: &mut [u8], count: usize, pair: &Pair)
-    requires few { count ≤ 1024 }
+    requires few { count ≤ PACKETS }
     requires len { length cells.old ≡ count * count }
     ensures { IsMarked (pair_of pair.now) count cells.old cells.new }
 {
@@ -66,7 +67,7 @@ fn mark(cells: &mut [u8], count: usize, pair: &Pair)
 
 /// Sets the flags of the pair lines.
 fn mark_all(cells: &mut [u8], count: usize, pairs: &[Pair])
-    requires few { count ≤ 1024 }
+    requires few { count ≤ PACKETS }
     requires empty { AreListed (map pair_of pairs.now) 0 count cells.old }
     ensures { let found = map pair_of pairs.now in AreListed found (length found) count cells.new }
 {
@@ -77,7 +78,7 @@ fn mark_all(cells: &mut [u8], count: usize, pairs: &[Pair])
 
 /// The kinds that have pair lines, for each two packets: a byte of flags.
 pub fn listed(alloc: Global, count: usize, pairs: &[Pair]) -> Result<Vec<u8>, AllocError>
-    requires { count ≤ 1024 }
+    requires { count ≤ PACKETS }
     ensures { let found = map pair_of pairs.now in IfOk result
         (λ cells. AreListed found (length found) count cells.items) }
 {

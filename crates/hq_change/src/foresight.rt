@@ -11,7 +11,7 @@ ghost use Rattle.hq_parts.specs.Parts.{AreParts};
 ghost use Rattle.hq_fence.specs.Judgement.{HaveConflict};
 ghost use Rattle.hq_change.specs.Foresight.{AreConflicts, HaveConflicts};
 
-use hq_bits::{covers, empty, first_from, insert, take_out};
+use hq_bits::{WIDTH, covers, empty, first_from, insert, take_out};
 use hq_fence::have_conflict;
 use hq_job::Job;
 use hq_order::{Before, Rounds, sweep};
@@ -106,7 +106,7 @@ fn has_apart(
     let mut left = conflicts.to_vec(alloc)?;
     take_out(&mut left, &rows[a]);
     let mut from = 0;
-    'each: while from < 1024 {
+    'each: while from < WIDTH {
         match first_from(&left, from) {
             Some(b) if !marks(rows, a, b) => return Ok(true),
             Some(b) => from = b + 1,

@@ -4,6 +4,7 @@ ghost use Rattle.std.specs.Prelude.{◌≡◌, ◌≤◌, ◌<◌, ◌^◌};
 ghost use Rattle.hq_chart.specs.Chart.{agent_line, agents_drawn, height_of, line_of, spot_of};
 
 use hq_job::Job;
+use hq_model::PACKETS;
 use hq_report::ShownPacket;
 
 /// A packet as it is told of, and how far its row lies below the picture's upper edge.
@@ -15,7 +16,7 @@ pub struct Spot {
 
 /// How far a row lies below the upper edge, behind so many packets and of this queue.
 fn line_of(packets: usize, queue: usize) -> usize
-    requires packets { packets ≤ 1024 }
+    requires packets { packets ≤ PACKETS }
     requires queue { queue ≤ 65535 }
     ensures { result ≡ line_of packets queue }
 {

@@ -6,6 +6,7 @@ use Rattle.hq_cert.specs.declared.certificate.Rule.{Rule}
 use Rattle.hq_cert.specs.declared.citation.Citation.{Citation}
 use Rattle.hq_cert.specs.View.{cited, rule_of, line_of}
 use Rattle.hq_model.specs.Job.{Job, Decrements}
+use Rattle.hq_model.specs.declared.limits.TheConstants.{PACKETS}
 use Rattle.hq_model.specs.Certificate as model
 use Rattle.hq_model.specs.Certificate.{Says, Cites, Follows, signals}
 use Rattle.hq_derive.specs.declared.lines.Lines.{Lines}
@@ -25,7 +26,7 @@ AllFollow job lines = (k : ℕ) (line : model.Line) → slice_get lines k ≡ So
 
 -- Each line follows from lines of lower number; and there are as few packets as a job may have.
 pub record Kept (job : Job) (l : Lines) : Type 0 where
-  pub few : length job.packets ≤ 1024
+  pub few : length job.packets ≤ PACKETS
   pub follow : AllFollow job (lines_of l)
 
 -- No line was lost.

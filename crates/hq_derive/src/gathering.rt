@@ -7,7 +7,7 @@ ghost use Rattle.hq_derive.specs.Kept.{Kept};
 use crate::lines::Lines;
 use crate::needs::Needs;
 use crate::resting::{Derivations, Derived, derive_all};
-use hq_bits::{WORDS, lowest, without};
+use hq_bits::{WIDTH, WORDS, lowest, without};
 use hq_order::Before;
 use std::alloc::{AllocError, Global};
 
@@ -38,7 +38,7 @@ fn add_word(
     word: u64,
     first: usize,
 ) -> Result<(), AllocError>
-    requires first { first + 64 ≤ 1024 }
+    requires first { first + 64 ≤ WIDTH }
     requires kept { Kept before.now lines.old }
     ensures { OnOk result (Kept before.now lines.new) }
 {
@@ -59,7 +59,7 @@ fn add_row(
     round: usize,
     p: usize,
 ) -> Result<(), AllocError>
-    requires p { p < 1024 }
+    requires p { p < WIDTH }
     requires kept { Kept before.now lines.old }
     ensures { OnOk result (Kept before.now lines.new) }
 {

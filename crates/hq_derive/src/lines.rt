@@ -14,6 +14,7 @@ ghost use Rattle.hq_derive.specs.Kept.{items_of, lines_of, Kept, Numbered, Ruled
 use crate::grounds::{Ground, branch_of, ground_of};
 use crate::needs::Needs;
 use crate::slots::Slots;
+use hq_bits::WIDTH;
 use hq_cert::{Branches, Citation, Line, Rule};
 use hq_order::Before;
 use std::alloc::{AllocError, Global};
@@ -111,8 +112,8 @@ impl Lines {
     /// Adds a line, and answers its number.
     #[inline(always)]
     fn add(&mut self, p: usize, r: usize, rule: Rule) -> Result<u32, AllocError>
-        requires p_is { p < 1024 }
-        requires r_is { r < 1024 }
+        requires p_is { p < WIDTH }
+        requires r_is { r < WIDTH }
         ensures lines { IfOk result
             (λ _. lines_of self.new ≡ lines_of self.old ++ record { p = p; r = r; rule = rule_of rule } ∷ []) }
         ensures number { IfOk result (λ k. k ≡ length (lines_of self.old)) }

@@ -9,7 +9,7 @@ ghost use Rattle.hq_derive.specs.Rests.{ByMiddle};
 
 use crate::grounds::{Ground, branch_of, ground_of};
 use crate::needs::Needs;
-use hq_bits::{WORDS, lowest, without};
+use hq_bits::{WIDTH, WORDS, lowest, without};
 use hq_order::Before;
 use hq_packet::Packet;
 use std::alloc::{AllocError, Global};
@@ -188,7 +188,7 @@ fn derive_word(
     word: u64,
     first: usize,
 ) -> Result<(), AllocError>
-    requires first { first + 64 ≤ 1024 }
+    requires first { first + 64 ≤ WIDTH }
     requires all { All (IsDerived before.now round) lines.old.items }
     requires p_is { IsPacket before.now p }
     ensures { OnOk result (All (IsDerived before.now round) lines.new.items) }

@@ -13,6 +13,7 @@ use crate::fault::ExplainFault;
 use crate::pairs::write_pair;
 use hq_fence::have_conflict;
 use hq_job::Job;
+use hq_model::PACKETS;
 use hq_order::Before;
 use std::alloc::Global;
 use std::io;
@@ -103,8 +104,8 @@ fn tell_row<W: Write>(
 ) -> Result<usize, ExplainFault>
     requires same { before.now ≡ plan job.now }
     requires a_is { IsPacket before.now a }
-    requires few { count ≤ a * 1024 }
-    ensures more { IfOk result (λ n. n ≤ count + 1024) }
+    requires few { count ≤ a * PACKETS }
+    ensures more { IfOk result (λ n. n ≤ count + PACKETS) }
     ensures told { IfOk result
         (λ n. Wrote (W.contents writer.old) (W.contents writer.new)
         (RowTold job.now before.now all a count (length before.now.packets) n)) }

@@ -3,6 +3,7 @@ use Rattle.std.specs.Prelude.{◌≡◌, ℕ, ◌≤◌, length}
 use Rattle.hq_model.specs.Job.{Job, IsPacket}
 use Rattle.hq_model.specs.Order.{Before}
 use Rattle.hq_model.specs.Fence.{need, Acquires}
+use Rattle.hq_model.specs.declared.limits.TheConstants.{PACKETS}
 use Rattle.hq_packet.specs.declared.packet.Scope.{Scope}
 use Rattle.hq_fence.specs.Judgement.{end_of, first_of, IsRelease, IsAcquire}
 use Rattle.hq_fence.specs.Spans.{IsQueueOf}
@@ -22,7 +23,7 @@ use Rattle.hq_fence.specs.declared.shown.Release.TheVariants as release
 pub record IsAsked (s : Search) : Type 0 where
   pub p_is : IsPacket s.before.now s.p
   pub r_is : IsPacket s.before.now s.r
-  pub few : length s.before.now.packets ≤ 1024
+  pub few : length s.before.now.packets ≤ PACKETS
   pub needed : s.needed ≡ need s.before.now s.p s.r
   pub queue_of_p : IsQueueOf s.before.now s.p s.queue_of_p
   pub queue_of_r : IsQueueOf s.before.now s.r s.queue_of_r

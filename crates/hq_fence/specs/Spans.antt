@@ -2,12 +2,13 @@
 use Rattle.std.specs.Prelude.{◌≡◌, ℕ, ◌+◌, ◌-◌, ◌<◌, ◌≤◌, if◌then◌else◌, nat_lt}
 use Rattle.hq_fence.specs.declared.span.Span.{Span}
 use Rattle.hq_model.specs.Job.{Job, packet, IsPacket}
+use Rattle.hq_model.specs.declared.limits.TheConstants.{PACKETS}
 
 -- It begins within, and its numbers are those of packets.
 pub record IsSpan (span : Span) : Type 0 where
   pub above : span.start ≤ span.first
   pub below : span.first ≤ span.end
-  pub few : span.end ≤ 1024
+  pub few : span.end ≤ PACKETS
 
 -- the number that comes in a turn, from 0
 abbrev pub number_at : Span → ℕ → ℕ

@@ -18,6 +18,7 @@ ghost use Rattle.hq_fence.specs.declared.shown.Release.TheVariants as release;
 use crate::fences::{acquires, forwards_acquire, forwards_release, need, releases};
 use crate::shown::{Acquire, Release};
 use crate::span::Span;
+use hq_model::PACKETS;
 use hq_order::Before;
 use hq_packet::Scope;
 
@@ -113,7 +114,7 @@ impl<'b, 'a> Search<'b, 'a> {
         requires { IsAsked self.now }
         ensures exact { MatchOption result ((y : ℕ) → ¬ FenceAfter self.now needed other y)
             (FenceAfter self.now needed other) }
-        ensures small { IfSome result (λ y. y < 1024) }
+        ensures small { IfSome result (λ y. y < PACKETS) }
     {
         let span = self.queue_of_r.behind(other);
         for turn in 0..span.len() {

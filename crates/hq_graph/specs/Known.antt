@@ -4,6 +4,7 @@ use Rattle.std.specs.Global.{Vec}
 use Rattle.hq_model.specs.Job.{Job, IsPacket, Dependency, Decrements, Frees}
 use Rattle.hq_model.specs.Order as order
 use Rattle.hq_model.specs.Order.{OrderList, place}
+use Rattle.hq_model.specs.declared.limits.TheConstants.{PACKETS}
 use Rattle.hq_bits.specs.Bits.{has}
 use Rattle.hq_rows.specs.Matrix.{Marks, row}
 use Rattle.hq_rows.specs.Lists.{AllAre}
@@ -42,7 +43,7 @@ pub record TellsStuck (job : Job) (stuck : Stuck) : Type 0 where
 
 -- the steps, the parts and the set are those of the order's job
 pub record Sees (s : Sight) : Type 0 where
-  pub few : length s.before.now.packets ≤ 1024
+  pub few : length s.before.now.packets ≤ PACKETS
   pub steps : AreSteps s.before.now s.steps.now
   pub parts : AreParts s.before.now s.parts.now
   pub stuck : TellsStuck s.before.now s.stuck.now

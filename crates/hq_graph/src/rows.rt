@@ -9,15 +9,15 @@ ghost use Rattle.hq_graph.specs.Known.{AreSteps, Sees};
 ghost use Rattle.hq_graph.specs.Order.{IsStep};
 
 use crate::sight::Sight;
-use hq_bits::{first_from, take_out};
+use hq_bits::{WIDTH, WORDS, first_from, take_out};
 use hq_order::Before;
 use std::alloc::{AllocError, Global};
 
 /// The least number of a set from one on, or the end where there is none below it.
 fn next_in(row: &[u64], from: usize, end: usize) -> usize
-    requires few { length row.now ≤ 16 }
+    requires few { length row.now ≤ WORDS }
     requires from { from ≤ end }
-    requires end { end ≤ 1024 }
+    requires end { end ≤ WIDTH }
     ensures above { from ≤ result }
     ensures below { result ≤ end }
     ensures none { (s : ℕ) → from ≤ s → s < result → has row.now s ≡ false }

@@ -31,7 +31,7 @@ const WORDS: usize = 1024;
 
 /// Takes the numbers of a list in.
 fn insert_each(row: &mut [u64], list: &[u16])
-    requires len { length row.old ≡ 1024 }
+    requires len { length row.old ≡ WORDS }
     requires none { HasCome row.old [] }
     ensures { HasCome row.new list.now }
 {

@@ -14,6 +14,7 @@ ghost use Rattle.hq_order.specs.View.{AreOf};
 
 use crate::direct::{direct_row, go_on};
 use crate::rounds::next_row;
+use hq_bits::{WIDTH, WORDS};
 use hq_job::Job;
 use hq_rows::{
     Known, all_turned, are_same, between, earlier_rows, first_turned, last_rows, marks, row_of,
@@ -26,7 +27,7 @@ use std::marker::Model;
 /// How many words a row has.
 pub fn words_of(job: &Job) -> usize
     ensures words { result ≡ words_for (length job.now.packets) }
-    ensures few { result ≤ 16 }
+    ensures few { result ≤ WORDS }
     ensures room { length job.now.packets ≤ result * 64 }
 {
     job.valid();
@@ -143,7 +144,7 @@ fn add_round(
     ensures closed { IfOk result (λ more. more ≡ false → IsClosed (plan job.now) rounds.new.items) }
 {
     job.valid();
-    let mut new = hq_bits::empty(alloc, hq_bits::WORDS)?;
+    let mut new = hq_bits::empty(alloc, WORDS)?;
     let next = following(alloc, job, completing, rounds, renewed, &mut new)?;
     if are_same(&next, last_rows(rounds)) {
         return Ok(false);
@@ -169,7 +170,7 @@ fn all_rounds(
     job.valid();
     let mut rounds = Vec::new(alloc);
     rounds.push(first_rows(alloc, job, completing)?)?;
-    let mut renewed = hq_bits::full(alloc, hq_bits::WORDS)?;
+    let mut renewed = hq_bits::full(alloc, WORDS)?;
     'rounds: while add_round(alloc, job, completing, &mut rounds, &mut renewed)? {}
     Ok(rounds)
 }
@@ -262,10 +263,10 @@ impl<'a> Before<'a> {
         ensures { MatchOption result (order.Before self.now p r → ⊥) (λ k. IsFirstWithin self.now k p r) }
     {
         let rounds = &self.rounds;
-        if p >= hq_bits::WIDTH {
+        if p >= WIDTH {
             return None;
         }
-        if r >= hq_bits::WIDTH {
+        if r >= WIDTH {
             return None;
         }
         first_turned(rounds, &self.columns, p, r)
@@ -307,7 +308,7 @@ impl<'a> Before<'a> {
     /// among them too that p doesn't come before.
     #[inline(always)]
     pub fn fresh(&self, round: usize, p: usize, place: usize) -> u64 {
-        let at = p.wrapping_mul(hq_bits::WORDS).wrapping_add(place);
+        let at = p.wrapping_mul(WORDS).wrapping_add(place);
         let earlier = match round.checked_sub(1) {
             Some(earlier) => hq_bits::word_at(row_of(&self.columns, earlier), at),
             None => 0,
@@ -324,7 +325,7 @@ impl<'a> Before<'a> {
         let table = self.columns.get(round.checked_sub(1)?)?;
         let completing = self.completing.get(signal as usize)?;
         for (place, word) in completing.iter().enumerate() {
-            let at = p.wrapping_mul(hq_bits::WORDS).wrapping_add(place);
+            let at = p.wrapping_mul(WORDS).wrapping_add(place);
             let both = *word & hq_bits::word_at(table, at);
             if both != 0 {
                 return Some(place.wrapping_mul(64).wrapping_add(hq_bits::lowest(both)));

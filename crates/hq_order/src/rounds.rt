@@ -11,6 +11,7 @@ ghost use Rattle.hq_rows.specs.Lists.{AllAre};
 ghost use Rattle.hq_waits.specs.Waits.{Completing};
 ghost use Rattle.hq_rows.specs.Uniting.{CanUnite, Stepped, Through};
 
+use hq_bits::WORDS;
 use hq_job::Job;
 use hq_packet::Packet;
 use hq_rows::{Known, note, reached, through_row, unite_more};
@@ -29,7 +30,7 @@ fn meet_branch(
     requires unions { CanUnite known.now.rows.now (length shared.old) known.now.unions.now }
     requires completing { AllAre
         (λ s set. Completing (plan job.now) s set.items × (length set.items ≡ length shared.old)) completing.now }
-    requires few { length shared.old ≤ 16 }
+    requires few { length shared.old ≤ WORDS }
     requires low { signal < length completing.now }
     ensures { OnOk result
         ((p : ℕ) → IsTrue (has shared.new p)
@@ -53,7 +54,7 @@ fn meet_branches(
     requires unions { CanUnite known.now.rows.now (length shared.old) known.now.unions.now }
     requires completing { AllAre
         (λ s set. Completing (plan job.now) s set.items × (length set.items ≡ length shared.old)) completing.now }
-    requires few { length shared.old ≤ 16 }
+    requires few { length shared.old ≤ WORDS }
     requires low { (slot s : ℕ) → slice_get slots.now slot ≡ Some (Some s) → s < length completing.now }
     ensures { OnOk result
         ((p : ℕ) → IsTrue (has shared.new p)
@@ -84,7 +85,7 @@ pub fn unite_shared(
     requires completing { AllAre
         (λ s set. Completing (plan job.now) s set.items × (length set.items ≡ length new.old)) completing.now }
     requires signals { length completing.now ≡ length job.now.signals }
-    requires few { length new.old ≤ 16 }
+    requires few { length new.old ≤ WORDS }
     requires r_is { IsPacket (plan job.now) r }
     ensures grown { OnOk result (Grown new.old new.new) }
     ensures exact { OnOk result
@@ -120,7 +121,7 @@ pub fn next_row(
         × (length set.items ≡ length (row known.now.rows.now r))) completing.now }
     requires signals { length completing.now ≡ length job.now.signals }
     requires room { length known.now.rows.now ≤ length renewed.old * 64 }
-    requires few { length (row known.now.rows.now r) ≤ 16 }
+    requires few { length (row known.now.rows.now r) ≤ WORDS }
     requires r_is { IsPacket (plan job.now) r }
     ensures grown { IfOk result (λ new. Grown (row known.now.rows.now r) new.items) }
     ensures exact { IfOk result

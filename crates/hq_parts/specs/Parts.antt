@@ -7,6 +7,8 @@ use Rattle.hq_footprint.specs.declared.footprint.Footprint.{Footprint}
 use Rattle.hq_model.specs.Job.{Job}
 use Rattle.hq_model.specs.Fence.{Conflict, Conflicts}
 use Rattle.hq_bits.specs.Bits.{has}
+use Rattle.hq_bits.specs.declared.TheConstants.{WIDTH}
+use Rattle.hq_parts.specs.declared.parts.TheConstants.{TABLE}
 use Rattle.hq_parts.specs.declared.parts.Others.{Others}
 use Rattle.hq_parts.specs.declared.parts.Parts.{Parts}
 use Rattle.hq_parts.specs.declared.parts.Tables.{Tables}
@@ -43,9 +45,9 @@ pub record TellConflicts (job : Job) (touches : List Touch) : Type 0 where
 
 -- the table has, in the row of each part, every packet whose mask has the part
 pub record IsTable (mask : Touch → ℕ) (touches : List Touch) (table : List ℕ) : Type 0 where
-  pub len : length table ≡ 1024
+  pub len : length table ≡ TABLE
   pub each : (k b : ℕ) (t : Touch) → k < 64 → slice_get touches b ≡ Some t → bit_at (mask t) k ≡ 1
-      → IsTrue (has table (k * 1024 + b))
+      → IsTrue (has table (k * WIDTH + b))
 
 -- the tables of these packets
 pub record AreTables (touches : List Touch) (tables : Tables) : Type 0 where
@@ -54,14 +56,14 @@ pub record AreTables (touches : List Touch) (tables : Tables) : Type 0 where
 
 -- the parts of the packets of a job
 pub record AreParts (job : Job) (parts : Parts) : Type 0 where
-  pub few : length parts.packets.items ≤ 1024
+  pub few : length parts.packets.items ≤ WIDTH
   pub tell : TellConflicts job parts.packets.items
   pub tables : AreTables parts.packets.items parts.tables
 
 -- the row has all packets that the table has for the parts of the mask
 pub record TakesRows (table : List ℕ) (mask : ℕ) (row : List ℕ) : Type 0 where
   pub low : (k : ℕ) → bit_at mask k ≡ 1 → k < 64
-  pub rows : (k p : ℕ) → p < 1024 → bit_at mask k ≡ 1 → IsTrue (has table (k * 1024 + p)) → IsTrue (has row p)
+  pub rows : (k p : ℕ) → p < WIDTH → bit_at mask k ≡ 1 → IsTrue (has table (k * WIDTH + p)) → IsTrue (has row p)
 
 -- a packet that is none of them doesn't conflict with a
 abbrev pub AreOthers : Job → ℕ → Others → Type 0

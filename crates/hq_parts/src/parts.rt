@@ -8,7 +8,7 @@ ghost use Rattle.hq_bits.specs.Bits.{has};
 ghost use Rattle.hq_parts.specs.Parts.{HasRange, HasFoot, TellConflicts, IsTable, AreTables, AreParts, AreOthers};
 ghost use Rattle.hq_parts.specs.Parts.{NeverConflict, TakesRows};
 
-use hq_bits::{WORDS, column_of, first_from, lowest, turn_word, unite, without};
+use hq_bits::{WIDTH, WORDS, column_of, first_from, lowest, turn_word, unite, without};
 use hq_footprint::{Footprint, Range};
 use hq_job::Job;
 use std::alloc::{AllocError, Global};
@@ -17,7 +17,7 @@ use std::alloc::{AllocError, Global};
 const PARTS: u64 = 64;
 
 /// How many words a row of bits for each part takes.
-const TABLE: usize = 1024;
+const TABLE: usize = PARTS as usize * WORDS;
 
 /// The parts in which a packet writes, and those in which it reads or writes, as bits.
 #[derive(Clone, Copy, Debug)]
@@ -131,9 +131,9 @@ struct Tables {
 
 /// Takes each packet in the rows of its parts.
 fn note_all(written: &mut [u64], touched: &mut [u64], touches: &[Touch])
-    requires few { length touches.now ≤ 1024 }
-    requires written { length written.old ≡ 1024 }
-    requires touched { length touched.old ≡ 1024 }
+    requires few { length touches.now ≤ WIDTH }
+    requires written { length written.old ≡ TABLE }
+    requires touched { length touched.old ≡ TABLE }
     ensures written { IsTable (λ t. t.written) touches.now written.new }
     ensures touched { IsTable (λ t. t.touched) touches.now touched.new }
 {
@@ -145,7 +145,7 @@ fn note_all(written: &mut [u64], touched: &mut [u64], touches: &[Touch])
 
 /// The tables of these packets.
 fn tables_of(alloc: Global, touches: &[Touch]) -> Result<Tables, AllocError>
-    requires { length touches.now ≤ 1024 }
+    requires { length touches.now ≤ WIDTH }
     ensures { IfOk result (AreTables touches.now) }
 {
     let mut written = vec![in alloc; 0; TABLE]?;
@@ -156,8 +156,8 @@ fn tables_of(alloc: Global, touches: &[Touch]) -> Result<Tables, AllocError>
 
 /// Takes in the packets that a table has for each of these parts.
 fn take_rows(row: &mut [u64], table: &[u64], parts: u64)
-    requires row { length row.old ≡ 16 }
-    requires table { length table.now ≡ 1024 }
+    requires row { length row.old ≡ WORDS }
+    requires table { length table.now ≡ TABLE }
     ensures kept { (p : ℕ) → IsTrue (has row.old p) → IsTrue (has row.new p) }
     ensures taken { TakesRows table.now parts row.new }
 {
@@ -182,6 +182,7 @@ impl Others {
         requires { from ≤ length (plan job.now).packets }
         ensures above { from ≤ result }
         ensures below { result ≤ length (plan job.now).packets }
+        ensures found { result < length (plan job.now).packets → IsTrue (has self.now.bits result) }
         ensures apart { (a s : ℕ) → AreOthers (plan job.now) a self.now → from ≤ s → s < result
             → NeverConflict (plan job.now) a s }
     {

@@ -3,6 +3,7 @@ use Rattle.std.specs.Prelude.{◌≡◌, ◌≢◌, ℕ, ◌+◌, ◌-◌, ◌/�
 use Rattle.std.specs.Prelude.{length, slice_index, slice_index_or}
 use Rattle.std.specs.Global.{Vec}
 use Rattle.hq_bits.specs.Bits.{has}
+use Rattle.hq_bits.specs.declared.TheConstants.{WIDTH, WORDS}
 
 -- the row of r, and none where there is no such packet
 abbrev pub row : List (Vec ℕ) → ℕ → List ℕ
@@ -17,7 +18,7 @@ pub record Square (n words : ℕ) (rows : List (Vec ℕ)) : Type 0 where
   pub height : length rows ≡ n
   pub width : (r : ℕ) → r < n → length (row rows r) ≡ words
   pub room : n ≤ words * 64
-  pub few : words ≤ 16
+  pub few : words ≤ WORDS
 
 -- how many words a row has
 abbrev pub words_for : ℕ → ℕ
@@ -73,10 +74,10 @@ pub record IsMarkedFirst (rounds : List (Vec (Vec ℕ))) (p r k : ℕ) : Type 0 
 
 -- ---- the rows turned round: what a packet is before
 
--- the table has r at p times 1024, for each two packets of which p is in the row of r
+-- the table has r at p times the width, for each two packets of which p is in the row of r
 pub record Turned (rows : List (Vec ℕ)) (table : List ℕ) : Type 0 where
-  pub len : length table ≡ 16384
-  pub exact : (p r : ℕ) → p < 1024 → r < 1024 → IsTrue (has table (p * 1024 + r)) ↔ Marks rows p r
+  pub len : length table ≡ WIDTH * WORDS
+  pub exact : (p r : ℕ) → p < WIDTH → r < WIDTH → IsTrue (has table (p * WIDTH + r)) ↔ Marks rows p r
 
 -- so it is for each round but the last
 pub record AreTurned (rounds : List (Vec (Vec ℕ))) (tables : List (Vec ℕ)) : Type 0 where

@@ -7,11 +7,11 @@ use hq_bits::{WORDS, unite};
 
 /// Takes in all that four other sets have, each of as many words as a table's rows.
 fn unite_wide(row: &mut [u64], a: &[u64], b: &[u64], c: &[u64], d: &[u64])
-    requires row { length row.old ≡ 16 }
-    requires a { length a.now ≡ 16 }
-    requires b { length b.now ≡ 16 }
-    requires c { length c.now ≡ 16 }
-    requires d { length d.now ≡ 16 }
+    requires row { length row.old ≡ WORDS }
+    requires a { length a.now ≡ WORDS }
+    requires b { length b.now ≡ WORDS }
+    requires c { length c.now ≡ WORDS }
+    requires d { length d.now ≡ WORDS }
     ensures grown { Grown row.old row.new }
     ensures exact { (p : ℕ)
         → has row.new p ≡ ((((has row.old p || has a.now p) || has b.now p) || has c.now p) || has d.now p) }

@@ -9,7 +9,7 @@ ghost use Rattle.hq_rows.specs.Uniting.{OfChoice, OfFour, AreUnions, CanUnite, i
 
 use crate::columns::row_of;
 use crate::fours::unite_four;
-use hq_bits::{empty, less, lowest, unite, without, word_at};
+use hq_bits::{WORDS, empty, less, lowest, unite, without, word_at};
 use std::alloc::{AllocError, Global};
 
 /// How many choices there are from a group of four packets.
@@ -64,7 +64,7 @@ fn union_of(
     entry: usize,
 ) -> Result<Vec<u64>, AllocError>
     requires width { (k : ℕ) → k < length rows.now → length (row rows.now k) ≡ words }
-    requires few { words ≤ 16 }
+    requires few { words ≤ WORDS }
     requires len { length unions.now ≡ entry }
     requires wide { (k : ℕ) → k < entry → length (row unions.now k) ≡ words }
     requires entry { entry < words * 256 }
@@ -87,7 +87,7 @@ fn union_of(
 /// What is before the packets of each choice.
 fn all_unions(alloc: Global, rows: &[Vec<u64>], words: usize) -> Result<Vec<Vec<u64>>, AllocError>
     requires width { (k : ℕ) → k < length rows.now → length (row rows.now k) ≡ words }
-    requires few { words ≤ 16 }
+    requires few { words ≤ WORDS }
     ensures { IfOk result (λ unions. AreUnions rows.now words unions.items) }
 {
     let count = words * 256;
@@ -128,7 +128,7 @@ pub fn unions_if_many(
     words: usize,
 ) -> Result<Vec<Vec<u64>>, AllocError>
     requires width { (k : ℕ) → k < length rows.now → length (row rows.now k) ≡ words }
-    requires few { words ≤ 16 }
+    requires few { words ≤ WORDS }
     ensures { IfOk result (λ unions. CanUnite rows.now words unions.items) }
 {
     if are_many(rows, earlier, renewed) {
@@ -160,7 +160,7 @@ fn unite_choices(
 )
     requires unions { AreUnions known.now.rows.now (length new.old) known.now.unions.now }
     requires group { group + 3 < length new.old * 16 }
-    requires few { length new.old ≤ 16 }
+    requires few { length new.old ≤ WORDS }
     requires first { first < 16 }
     requires second { second < 16 }
     requires third { third < 16 }
@@ -184,7 +184,7 @@ fn unite_choices(
 /// Takes in what is before each packet of a word, one after the other; `place` is its place in its row.
 fn unite_each(new: &mut [u64], rows: &[Vec<u64>], place: usize, word: u64)
     requires width { (k : ℕ) → k < length rows.now → length (row rows.now k) ≡ length new.old }
-    requires place { place < 16 }
+    requires place { place < WORDS }
     ensures grown { Grown new.old new.new }
     ensures exact { (p : ℕ) → IsTrue (has new.new p)
         ↔ (IsTrue (has new.old p)
@@ -202,7 +202,7 @@ fn unite_each(new: &mut [u64], rows: &[Vec<u64>], place: usize, word: u64)
 fn unite_groups(new: &mut [u64], known: &Known, place: usize, word: u64)
     requires unions { AreUnions known.now.rows.now (length new.old) known.now.unions.now }
     requires place { place < length new.old }
-    requires few { length new.old ≤ 16 }
+    requires few { length new.old ≤ WORDS }
     ensures grown { Grown new.old new.new }
     ensures exact { (p : ℕ) → IsTrue (has new.new p)
         ↔ (IsTrue (has new.old p)
@@ -226,7 +226,7 @@ fn unite_groups(new: &mut [u64], known: &Known, place: usize, word: u64)
 fn unite_word(new: &mut [u64], known: &Known, place: usize, word: u64)
     requires unions { CanUnite known.now.rows.now (length new.old) known.now.unions.now }
     requires place { place < length new.old }
-    requires few { length new.old ≤ 16 }
+    requires few { length new.old ≤ WORDS }
     ensures grown { Grown new.old new.new }
     ensures exact { (p : ℕ) → IsTrue (has new.new p)
         ↔ (IsTrue (has new.old p)
@@ -251,7 +251,7 @@ fn fresh_word(row: &[u64], earlier: &[u64], renewed: &[u64], place: usize) -> u6
 /// Takes in what is before those packets of the set that aren't among the earlier ones, or are renewed.
 pub fn unite_fresh(new: &mut [u64], known: &Known, set: &[u64], earlier: &[u64], renewed: &[u64])
     requires unions { CanUnite known.now.rows.now (length new.old) known.now.unions.now }
-    requires few { length new.old ≤ 16 }
+    requires few { length new.old ≤ WORDS }
     requires same { length set.now ≡ length new.old }
     ensures grown { Grown new.old new.new }
     ensures exact { (p : ℕ) → IsTrue (has new.new p)

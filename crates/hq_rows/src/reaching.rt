@@ -7,12 +7,13 @@ ghost use Rattle.hq_rows.specs.Uniting.{CanUnite, Stepped, Through};
 
 use crate::columns::row_of;
 use crate::gathering::{Known, unite_fresh};
+use hq_bits::WORDS;
 use std::alloc::{AllocError, Global};
 
 /// The packets of a set, and all that are before them.
 pub fn reached(alloc: Global, set: &[u64], known: &Known) -> Result<Vec<u64>, AllocError>
     requires unions { CanUnite known.now.rows.now (length set.now) known.now.unions.now }
-    requires few { length set.now ≤ 16 }
+    requires few { length set.now ≤ WORDS }
     ensures len { IfOk result (λ reached. length reached.items ≡ length set.now) }
     ensures exact { IfOk result
         (λ reached. (p : ℕ) → IsTrue (has reached.items p)
@@ -29,7 +30,7 @@ pub fn through_row(alloc: Global, known: &Known, r: usize) -> Result<Vec<u64>, A
     requires unions { CanUnite known.now.rows.now (length (row known.now.rows.now r)) known.now.unions.now }
     requires stepped { Stepped known.now.earlier.now known.now.rows.now known.now.renewed.now }
     requires r_is { r < length known.now.rows.now }
-    requires few { length (row known.now.rows.now r) ≤ 16 }
+    requires few { length (row known.now.rows.now r) ≤ WORDS }
     ensures grown { IfOk result (λ new. Grown (row known.now.rows.now r) new.items) }
     ensures exact { IfOk result (λ new. (p : ℕ) → IsTrue (has new.items p) ↔ Through known.now.rows.now p r) }
 {

@@ -3,12 +3,12 @@
 ghost use Rattle.std.specs.Prelude.{ℕ, ◌<◌, IsTrue};
 ghost use Rattle.hq_bits.specs.Bits.{has};
 
-use hq_bits::{less, lowest, word_at};
+use hq_bits::{WIDTH, less, lowest, word_at};
 
 /// A number above this one, such that the set has all between the two: the next that it hasn't, or the first of the
 /// next word.
 pub fn beyond(row: &[u64], number: usize) -> usize
-    requires { number < 1024 }
+    requires { number < WIDTH }
     ensures above { number < result }
     ensures has { (r : ℕ) → number < r → r < result → IsTrue (has row.now r) }
 {

@@ -67,8 +67,8 @@ pub fn first_turned(
     r: usize,
 ) -> Option<usize>
     requires turned { AreTurned rounds.now tables.now }
-    requires p { p < 1024 }
-    requires r { r < 1024 }
+    requires p { p < WIDTH }
+    requires r { r < WIDTH }
     ensures { MatchOption result (IsMarkedNowhere rounds.now p r) (λ k. IsMarkedFirst rounds.now p r k) }
 {
     for (k, table) in tables.iter().enumerate() {

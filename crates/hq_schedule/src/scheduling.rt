@@ -17,6 +17,7 @@ use crate::freeing::freeing;
 use crate::needs::needs;
 use hq_bits::{covers, has, insert};
 use hq_job::Job;
+use hq_model::PACKETS;
 use hq_packet::Packet;
 use hq_rows::beyond;
 use hq_waits::{OrderFault, completing};
@@ -133,7 +134,7 @@ fn first_left(come: &[u64], first: usize, count: usize) -> usize
 
 /// The packets that haven't come, rising.
 fn left(alloc: Global, come: &[u64], count: usize) -> Result<Vec<u16>, AllocError>
-    requires { count ≤ 1024 }
+    requires { count ≤ PACKETS }
     ensures { IfOk result (λ left. left.items ≡ filter (λ p. not (has come.now p)) (listed count (λ p. p))) }
 {
     let mut left = Vec::new(alloc);

@@ -6,14 +6,14 @@ ghost use Rattle.hq_bits.specs.Bits.{has};
 ghost use Rattle.hq_rows.specs.Lists.{AllAre};
 ghost use Rattle.hq_waits.specs.Waits.{Completing, MarksCompletion};
 
-use hq_bits::{empty, insert};
+use hq_bits::{WORDS, empty, insert};
 use hq_job::Job;
 use std::alloc::{AllocError, Global};
 
 /// Takes each packet that completes on a signal into the row of that signal. The rows lie behind one another.
 fn mark_completions(job: &Job, words: usize, rows: &mut [u64])
     requires room { length job.now.packets ≤ words * 64 }
-    requires few { words ≤ 17 }
+    requires few { words ≤ WORDS + 1 }
     requires rows { length rows.old ≡ length job.now.signals * words }
     requires empty { (e : ℕ) → has rows.old e ≡ false }
     ensures marked { (e : ℕ) → IsTrue (has rows.new e) ↔ MarksCompletion (plan job.now) words e }
@@ -50,7 +50,7 @@ fn completing_row(
 /// For each signal the set of the packets that complete on it.
 pub fn completing(alloc: Global, job: &Job, words: usize) -> Result<Vec<Vec<u64>>, AllocError>
     requires room { length job.now.packets ≤ words * 64 }
-    requires few { words ≤ 17 }
+    requires few { words ≤ WORDS + 1 }
     ensures rows { IfOk result
         (λ rows. AllAre (λ s row. Completing (plan job.now) s row.items × (length row.items ≡ words)) rows.items) }
     ensures count { IfOk result (λ rows. length rows.items ≡ length job.now.signals) }
