@@ -10,9 +10,9 @@ ghost use Rattle.hq_judging.specs.Reports.{JobTextReport, ReaderReport, Reported
 
 use crate::replay::take_journal;
 use hq_chart::{ChartFault, chart};
+use hq_events::{Event, Journal};
 use hq_job::Job;
 use hq_judging::{Status, let_go, say_memory, take_job};
-use hq_events::{Event, Journal};
 use hq_timeline::{ReplayFault, replay};
 use std::alloc::Global;
 use std::io::{Read, Write};
