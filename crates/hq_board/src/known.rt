@@ -14,10 +14,10 @@ ghost use Rattle.hq_board.specs.Rule.{newcomer};
 ghost use Rattle.hq_board.specs.declared.entry.Entry.TheVariants.{DidEnter, DidComplete};
 
 use crate::words::Token;
-use hq_job::{Job, Placed};
 use hq_events::Phase;
 use hq_events::packets::dependency;
 use hq_events::starts::nothing_observed;
+use hq_job::{Job, Placed};
 use hq_packet::Packet;
 use std::alloc::{AllocError, Global};
 

@@ -14,9 +14,9 @@ use crate::entry::View;
 use crate::laws::histories_run;
 use crate::rule::{Adds, Asked, ByJob, NextQueue};
 use atomic_table::{Closed, Table};
-use hq_job::Job;
 use hq_events::packets::done_of;
 use hq_events::starts::signal_values;
+use hq_job::Job;
 use std::alloc::{AllocError, Global};
 use std::marker::Brand;
 

@@ -11,8 +11,8 @@ use crate::rows::{Row, rows_of};
 use crate::writing::{
     write_agents, write_closing, write_end, write_events, write_head, write_open, write_rows,
 };
-use hq_job::Job;
 use hq_events::Event;
+use hq_job::Job;
 use std::alloc::Global;
 use std::io;
 use std::io::Write;

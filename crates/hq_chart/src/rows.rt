@@ -5,8 +5,8 @@ ghost use Rattle.hq_chart.specs.Rows.{bar_of, bar_of_stage, copies_shape_if, cop
 ghost use Rattle.hq_chart.specs.Rows.{is_ahead, moved, rows_of, shape_of, with_stage};
 
 use crate::shape::{Mark, Phase, Shape};
-use hq_job::Placed;
 use hq_events::Event;
+use hq_job::Placed;
 use std::alloc::{AllocError, Global};
 
 /// What a packet does, and since which event.

@@ -10,7 +10,9 @@ ghost use Rattle.hq_machine.specs.View.{IsStateOf, state_of};
 ghost use Rattle.hq_machine.specs.WorkLeft.{IsLeft, NoneOf, WaitIdle, ActiveIdle, PacketIdle};
 
 use crate::state::State;
-use hq_events::packets::{agent_total, packet_total, queue_total, read_total, slot_count, write_total};
+use hq_events::packets::{
+    agent_total, packet_total, queue_total, read_total, slot_count, write_total,
+};
 use hq_events::{Event, Phase};
 use hq_job::Job;
 

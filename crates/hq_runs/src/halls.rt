@@ -7,10 +7,10 @@ use crate::driving::{in_order, work_of, works};
 use crate::jobs::{accepted, accepted_again};
 use crate::texts::{FILL_COPY, FILL_COPY_RING, WAIT};
 use hq_certcheck::Accepted;
+use hq_events::Event;
 use hq_footprint::{Task, Work};
 use hq_hall::{Hall, HallFault};
 use hq_ledger::Piece;
-use hq_events::Event;
 use std::alloc::{AllocError, Global};
 use std::test::*;
 

@@ -16,8 +16,8 @@ ghost use Rattle.hq_witness.specs.Traces.{Comes, Follows, IsTraceOf, Tells, Tell
 
 use crate::origin::Origin;
 use crate::table::Table;
-use hq_job::Job;
 use hq_events::packets::{read_at, write_at};
+use hq_job::Job;
 use hq_machine::{Event, State};
 use std::alloc::{AllocError, Global};
 
