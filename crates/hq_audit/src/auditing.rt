@@ -18,8 +18,8 @@ use hq_cert::Certificate;
 use hq_derive::lines_for;
 use hq_job::Job;
 use hq_order::Before;
-use hq_schedule::schedule;
 use hq_parts::Parts;
+use hq_schedule::schedule;
 use std::alloc::{AllocError, Global};
 
 /// The numbers in 32 bits.

@@ -12,8 +12,8 @@ use crate::directed::{Unshown, direct};
 use crate::fault::AuditNo;
 use hq_job::Job;
 use hq_order::Before;
-use hq_schedule::schedule;
 use hq_parts::Parts;
+use hq_schedule::schedule;
 use std::alloc::Global;
 
 /// Whether a and b are ordered, in one direction.

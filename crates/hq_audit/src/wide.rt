@@ -20,8 +20,8 @@ use hq_cert::{Certificate, Pair};
 use hq_derive::{Lines, Needs, lines_for};
 use hq_job::Job;
 use hq_order::Before;
-use hq_schedule::schedule;
 use hq_parts::Parts;
+use hq_schedule::schedule;
 use std::alloc::{AllocError, Global};
 use std::thread::Threads;
 

@@ -21,9 +21,9 @@ use crate::watch::Watch;
 use hq_audit::{AuditNo, all_shown};
 use hq_job::Job;
 use hq_order::{Before, Rounds};
-use hq_schedule::schedule;
 use hq_packet::{Head, Scope};
 use hq_parts::Parts;
+use hq_schedule::schedule;
 use std::alloc::{AllocError, Global};
 
 /// No bit and no fence.

@@ -15,8 +15,8 @@ use hq_bits::{WIDTH, covers, empty, first_from, insert, take_out};
 use hq_fence::have_conflict;
 use hq_job::Job;
 use hq_order::{Before, Rounds, sweep};
-use hq_rows::marks;
 use hq_parts::Parts;
+use hq_rows::marks;
 use std::alloc::{AllocError, Global};
 
 /// What foresight rests on, whatever heads the packets have.

@@ -2,9 +2,9 @@
 
 use hq_engines::{Aim, Changed};
 use hq_job::Job;
-use hq_status::Status;
 use hq_packet::{Head, Scope};
 use hq_report::ScopeWord;
+use hq_status::Status;
 use hq_text::Name;
 use std::fmt;
 

@@ -8,8 +8,8 @@ mod reading;
 mod running;
 
 use explaining::explain_asked;
-use hq_engines::Aim;
 use hq_commands::judged;
+use hq_engines::Aim;
 use hq_front::{exit_code, finished, say_words, texts_of, words_of};
 use hq_status::{Status, say_memory};
 use hq_words::{Asked, command_of};

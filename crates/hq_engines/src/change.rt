@@ -15,8 +15,8 @@ use hq_change::{Watch, fix, trim};
 use hq_job::{Job, rewrite};
 use hq_judging::laws::stuck_exactly;
 use hq_judging::say_no_certificate;
-use hq_status::{Status, let_go, say_text, take_job_text};
 use hq_packet::Head;
+use hq_status::{Status, let_go, say_text, take_job_text};
 use std::alloc::{AllocError, Global};
 use std::io::{Read, Write};
 

@@ -1,6 +1,6 @@
 use hq_audit::{AuditNo, audit};
-use hq_finding::{Kind, Why};
 use hq_cert::{Fences, Rule};
+use hq_finding::{Kind, Why};
 use hq_job::read_text;
 use std::test::*;
 

@@ -1,7 +1,7 @@
 use hq_engines::replay_engine;
 use hq_judging::audit_engine;
-use hq_showing::{pack_engine, show_engine};
 use hq_run_engine::accept;
+use hq_showing::{pack_engine, show_engine};
 use std::io;
 use std::io::{Read, Write};
 use std::test::*;
