@@ -24,19 +24,30 @@ use hq_parts::Parts;
 use hq_schedule::schedule;
 use std::alloc::{AllocError, Global};
 use std::thread::Threads;
+use std::{mem, thread};
 
 /// How many packets are worth more than one thread.
 const MANY: usize = 256;
 
-/// Adds the pair lines of a part, which loses them; answers whether there was memory for it.
-fn add_part(all: &mut Vec<Pair>, pairs: &mut Vec<Pair>) -> bool
+/// Adds the pair lines of a part, which loses them and their room; answers whether there was memory for it. The first
+/// ones stay where they are.
+fn add_part(alloc: Global, all: &mut Vec<Pair>, pairs: &mut Vec<Pair>) -> bool
     ensures { IsTrue result → all.new.items ≡ all.old.items ++ pairs.old.items }
 {
-    all.append(pairs).is_ok()
+    if all.is_empty() {
+        mem::swap(all, pairs);
+        return true;
+    }
+    if all.append(pairs).is_err() {
+        return false;
+    }
+    *pairs = Vec::new(alloc);
+    true
 }
 
 /// Adds the pair lines of all parts, one part behind another; answers whether all are there.
 fn join(
+    alloc: Global,
     all: &mut Vec<Pair>,
     before: &Before,
     lines: &Lines,
@@ -51,7 +62,7 @@ fn join(
         let Some(pairs) = part else {
             return false;
         };
-        if !add_part(all, pairs) {
+        if !add_part(alloc, all, pairs) {
             return false;
         }
     }
@@ -70,7 +81,7 @@ fn joined(
     ensures paired { IfSome result (λ all. RowsPaired before.now (pairs_of all) (length parts.items * 64)) }
 {
     let mut all = Vec::new(alloc);
-    if join(&mut all, before, lines, &mut parts) {
+    if join(alloc, &mut all, before, lines, &mut parts) {
         Some(all)
     } else {
         None
@@ -126,6 +137,14 @@ fn certified_wide<R: Threads + Sync>(
     Some(Certificate::new(order, lines.into_lines(), pairs))
 }
 
+/// Whether there are processors for more than one thread.
+fn has_processors(rt: &impl Threads) -> bool {
+    match thread::available_parallelism(rt) {
+        Ok(count) => count.get() > 1,
+        Err(_) => false,
+    }
+}
+
 /// What `certified_alone` answers, in many threads where that is worth it. What isn't ordered is told of by one thread.
 fn certified_by_all<R: Threads + Sync>(
     rt: &R,
@@ -139,7 +158,7 @@ fn certified_by_all<R: Threads + Sync>(
     ensures holds { IfOk result (λ c. CertHolds before.now c) }
     ensures refused { IfErr result (AllRefused before.now) }
 {
-    if before.len() >= MANY {
+    if before.len() >= MANY && has_processors(rt) {
         if let Some(certificate) = certified_wide(rt, alloc, before, parts, order) {
             return Ok(certificate);
         }
