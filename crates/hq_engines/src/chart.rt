@@ -10,7 +10,7 @@ ghost use Rattle.hq_status.specs.Reports.{JobTextReport, ReaderReport, Reported,
 
 use crate::replay::take_journal;
 use hq_chart::{ChartFault, chart};
-use hq_events::{Event, Event, Journal, Journal};
+use hq_events::{Event, Journal};
 use hq_job::Job;
 use hq_status::{Status, let_go, say_memory, take_job};
 use hq_timeline::{ReplayFault, replay};

@@ -8,7 +8,7 @@ ghost use Rattle.hq_engines.specs.Replay.{event_refusal, time_refusal, told_of};
 ghost use Rattle.hq_status.specs.Reports.{JobTextReport, OfReader, ReaderReport, Reported};
 
 use crate::buffers::say_buffers;
-use hq_events::{Journal, Journal};
+use hq_events::Journal;
 use hq_job::Job;
 use hq_status::{
     Status, TimelineFault, TimelineReason, let_go, say, say_file, say_memory, take_job,
