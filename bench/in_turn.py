@@ -12,7 +12,7 @@ HSAQ = os.path.join(HERE, '..', 'crates', 'hq_cli', 'out', 'hq_cli')
 def surroundings():
     """What the script `hsaq` asks the C library for."""
     with open(os.path.join(HERE, '..', 'hsaq')) as file:
-        tunables = [line.split(':-')[1].rstrip('}\n') for line in file if 'GLIBC_TUNABLES=' in line]
+        tunables = [line.split('=', 1)[1].strip() for line in file if line.strip().startswith('tunables=')]
     os.environ.setdefault('GLIBC_TUNABLES', tunables[0])
 
 
