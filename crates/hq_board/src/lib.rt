@@ -8,10 +8,7 @@ mod fault;
 mod known;
 pub mod laws;
 mod rule;
-mod seat;
-#[cfg(test)]
-mod tests;
-mod words;
+mod seat;mod words;
 
 pub use board::Board;
 pub use entry::{Entry, View};

@@ -28,6 +28,7 @@ impl Kinds {
 }
 
 /// Whether one of the ranges shares a byte with the other range.
+#[inline(always)]
 fn some_overlaps(ranges: &[Range; 2], other: Range) -> bool
     ensures { IsTrue result ↔ Any (λ range. Share (bytes_of range) (bytes_of other)) ranges.now }
 {
@@ -35,14 +36,16 @@ fn some_overlaps(ranges: &[Range; 2], other: Range) -> bool
 }
 
 /// Whether a byte of the entries of these ranges is in the other range.
+#[inline(always)]
 fn reads_overlap(reads: &[Range; 2], other: Range) -> bool
     ensures { IsTrue result ↔ Share (flat_map bytes_of reads.now) (bytes_of other) }
 {
     some_overlaps(reads, other)
 }
 
-/// The flags of two footprints, with `first` first.
-fn kinds_of(first: &Footprint, second: &Footprint) -> Kinds
+/// How the footprints share bytes, with `first` first: where they don't conflict, no flag is set.
+#[inline(always)]
+pub fn kinds_of(first: &Footprint, second: &Footprint) -> Kinds
     ensures { HasKinds first.now second.now result }
 {
     Kinds {

@@ -52,6 +52,7 @@ impl Range {
     }
 
     /// Whether some byte is in both ranges.
+    #[inline(always)]
     pub fn overlaps(self, other: Range) -> bool
         ensures { IsTrue result ↔ Share (bytes_of self) (bytes_of other) }
     {

@@ -11,12 +11,9 @@ mod task;
 mod work;
 
 pub use buffers::inside;
-pub use conflicts::{Kinds, conflict};
+pub use conflicts::{Kinds, conflict, kinds_of};
 pub use evaluating::{evaluate, evaluate_ranges};
 pub use fault::FootFault;
 pub use footprint::{Footprint, Range, Work};
 pub use task::{Code, Task};
 pub use work::{of_kernel, of_service};
-
-#[cfg(test)]
-mod tests;

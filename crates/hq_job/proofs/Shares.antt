@@ -1,10 +1,9 @@
 -- Bytes that two packets of a plan share are those that their footprints share.
-use Rattle.std.proofs.Common.{◌≡◌, ℕ, ◌<◌, ◌↔◌, inl, inr, List, length, sym, ◌∙◌, ap, subst, Contains, slice_index_or, IsTrue, false}
+use Rattle.std.proofs.Common.{◌≡◌, ℕ, ◌<◌, ◌↔◌, List, length, sym, ◌∙◌, ap, subst, Contains, slice_index_or}
 use Rattle.std.proofs.lemmas.List.{get_or-map}
-use Rattle.hq_footprint.specs.declared.footprint.Footprint.{Footprint}
 use Rattle.hq_footprint.specs.declared.conflicts.Kinds.{Kinds}
 use Rattle.hq_footprint.specs.Bytes as bytes
-use Rattle.hq_footprint.specs.Conflicts.{Conflict, HasKinds}
+use Rattle.hq_footprint.specs.Conflicts.{HasKinds}
 use Rattle.hq_job.specs.declared.rows.Placed.{Placed}
 use Rattle.hq_job.specs.Value.{JobValue}
 use Rattle.hq_job.specs.Plan.{plan, planned}
@@ -29,9 +28,6 @@ packet_at v p x l e = get_or-map planned v.packets p x no_packet l ∙ ap planne
 across : {A B C : Type 0} → A ↔ B → B ↔ C → A ↔ C
 across f g = (λ a. g.0 (f.0 a), λ c. f.1 (g.1 c))
 
-none_true : {B : Type 0} → ¬ B → IsTrue false ↔ B
-none_true n = (λ e. let never : ⊥ = cc in absurd never, λ b. absurd (n b))
-
 -- where these are the packets, the flags of their footprints are theirs
 pub flags : (job : Job) (p r : ℕ) (x y : Placed) (kinds : Kinds) → packet job p ≡ planned x → packet job r ≡ planned y → HasKinds x.bytes y.bytes kinds → HasConflicts job p r kinds
 flags job p r x y kinds e f h =
@@ -40,12 +36,3 @@ flags job p r x y kinds e f h =
       ww = across h.ww (across (shares (bytes.written_bytes x.bytes) (bytes.written_bytes y.bytes)) (subst (λ q. Share (bytes.written_bytes x.bytes) (bytes.written_bytes y.bytes) ↔ Share q.writes (packet job r).writes) (sym e) (subst (λ q. Share (bytes.written_bytes x.bytes) (bytes.written_bytes y.bytes) ↔ Share (planned x).writes q.writes) (sym f) (λ s. s, λ s. s))));
       rw = across h.rw (across (shares (bytes.read_entries x.bytes) (bytes.written_bytes y.bytes)) (subst (λ q. Share (bytes.read_entries x.bytes) (bytes.written_bytes y.bytes) ↔ Share q.reads (packet job r).writes) (sym e) (subst (λ q. Share (bytes.read_entries x.bytes) (bytes.written_bytes y.bytes) ↔ Share (planned x).reads q.writes) (sym f) (λ s. s, λ s. s))));
     }
-
--- where the footprints don't conflict, no flag is set
-pub no_flags : (first second : Footprint) (kinds : Kinds) → kinds ≡ record { wr = false; ww = false; rw = false } → ¬ Conflict first second → HasKinds first second kinds
-no_flags first second kinds e n =
-    subst (HasKinds first second) (sym e) (record {
-      wr = none_true (λ s. n (inl s));
-      ww = none_true (λ s. n (inr (inl s)));
-      rw = none_true (λ s. n (inr (inr s)));
-    })

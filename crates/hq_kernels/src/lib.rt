@@ -19,6 +19,3 @@ pub use fault::KernelFault;
 pub use kit::{Body, Kit};
 pub use kits::{kits_fit, stock_kits};
 pub use stock::{Stock, piece_count};
-
-#[cfg(test)]
-mod tests;

@@ -10,6 +10,3 @@ pub use fault::GrantFault;
 pub use grants::{Grant, Grants};
 pub use piece::Piece;
 pub use tray::{Home, Tray};
-
-#[cfg(test)]
-mod tests;

@@ -23,4 +23,6 @@ mod meetings;
 #[cfg(test)]
 mod rows;
 #[cfg(test)]
+mod seats;
+#[cfg(test)]
 mod texts;

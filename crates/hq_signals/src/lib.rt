@@ -9,6 +9,3 @@ mod table;
 pub use fault::{SignalFault, Undershoot};
 pub use signal::Signal;
 pub use table::SignalTable;
-
-#[cfg(test)]
-mod tests;

@@ -10,15 +10,9 @@ mod certificates;
 #[cfg(test)]
 mod checks;
 #[cfg(test)]
-mod copies;
-#[cfg(test)]
 mod engines;
 #[cfg(test)]
 mod fences;
-#[cfg(test)]
-mod jobs;
-#[cfg(test)]
-mod lines;
 #[cfg(test)]
 mod machines;
 #[cfg(test)]
@@ -26,10 +20,6 @@ mod orders;
 #[cfg(test)]
 mod readers;
 #[cfg(test)]
-mod reports;
-#[cfg(test)]
 mod timelines;
 #[cfg(test)]
 mod witnesses;
-#[cfg(test)]
-mod words;

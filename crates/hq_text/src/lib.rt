@@ -13,6 +13,3 @@ pub use name::Name;
 pub use number::number_of;
 pub use take::{Source, TURN_LEN, TURNS, TextFault, take_text};
 pub use words::{first_line, line_end, lines_of, words_of};
-
-#[cfg(test)]
-mod tests;

@@ -1,7 +1,7 @@
 ghost use Rattle.std.specs.Prelude.{◌<◌};
 
-use super::*;
 use hq_footprint::Task;
+use hq_kernels::{Body, KernelBody, KernelFault, Stock};
 use hq_ledger::{Piece, Tray};
 use std::alloc::{AllocError, Global};
 use std::test::*;

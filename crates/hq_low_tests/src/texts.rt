@@ -1,6 +1,9 @@
 ghost use Rattle.std.specs.Prelude.{◌≡◌, length};
 
-use super::*;
+use hq_text::{
+    Name, ReadFault, TakesLines, TextFault, first_line, lines_of, number_of, read_lines, take_text,
+    words_of,
+};
 use std::alloc::Global;
 use std::io;
 use std::io::Read;

@@ -1,4 +1,4 @@
-use super::*;
+use hq_signals::{Signal, SignalFault, SignalTable, Undershoot};
 use std::test::*;
 
 #[test]

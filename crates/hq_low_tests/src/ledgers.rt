@@ -1,7 +1,7 @@
 ghost use Rattle.std.specs.Prelude.{◌≡◌, ◌<◌, IfOk};
 
-use super::*;
 use hq_footprint::{Footprint, Range};
+use hq_ledger::{GrantFault, Grants, Home, Piece, Tray};
 use std::alloc::{AllocError, Global};
 use std::test::*;
 

@@ -1,7 +1,7 @@
 ghost use Rattle.std.specs.Prelude.{◌≡◌, ◌<◌, length, All, IfOk, IfSome, false};
 ghost use Rattle.hq_board.specs.Calls.{IsSeatOf};
 
-use super::*;
+use hq_board::{Board, BoardFault, Seat};
 use hq_certcheck::{Accepted, check};
 use std::alloc::{AllocError, Global};
 use std::test::*;

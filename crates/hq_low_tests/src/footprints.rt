@@ -1,4 +1,7 @@
-use super::*;
+use hq_footprint::{
+    Code, FootFault, Footprint, Kinds, Range, Task, Work, conflict, evaluate, evaluate_ranges,
+    inside, kinds_of, laws, of_kernel, of_service,
+};
 use std::test::*;
 
 fn footprint(first: Range, second: Range, write: Range) -> Footprint {
@@ -27,6 +30,7 @@ fn touching_ranges(rt: HostRuntime) {
         rw: false,
     };
     assert_eq!(rt; conflict(&write, &reads(Range::new(4100, 4))), Some(kinds));
+    assert_eq!(rt; kinds_of(&write, &reads(Range::new(4100, 4))), kinds);
     assert!(rt; Range::new(4096, 5).overlaps(Range::new(4100, 4)));
 }
 

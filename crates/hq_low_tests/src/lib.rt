@@ -1,0 +1,27 @@
+//! Tests of the lower crates by examples from outside: each public call once with ample memory, and what it refuses.
+//!
+//! They stand in one crate, so that the gate proves the crates that they are of only once.
+#![tactic(auto)]
+
+#[cfg(test)]
+mod copies;
+#[cfg(test)]
+mod footprints;
+#[cfg(test)]
+mod jobs;
+#[cfg(test)]
+mod kernels;
+#[cfg(test)]
+mod ledgers;
+#[cfg(test)]
+mod lines;
+#[cfg(test)]
+mod packets;
+#[cfg(test)]
+mod reports;
+#[cfg(test)]
+mod signals;
+#[cfg(test)]
+mod texts;
+#[cfg(test)]
+mod words;
