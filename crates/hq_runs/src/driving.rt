@@ -23,7 +23,7 @@ pub enum Step {
 }
 
 /// Asks for a step once.
-fn ask(hall: &mut Hall, step: Step) -> Result<(), HallFault> {
+pub fn ask(hall: &mut Hall, step: Step) -> Result<(), HallFault> {
     match step {
         Step::Submit => hall.submit(),
         Step::Launch(queue) => hall.launch(queue),

@@ -3,7 +3,7 @@
 ghost use Rattle.std.specs.Prelude.{IfOk, IsTrue};
 ghost use Rattle.hq_runner.specs.Pieces.{IsWorked};
 
-use crate::driving::{in_order, work_of, works};
+use crate::driving::{Step, ask, in_order, work_of, works};
 use crate::jobs::{accepted, accepted_again};
 use crate::texts::{FILL_COPY, FILL_COPY_RING, WAIT};
 use hq_certcheck::Accepted;
@@ -59,9 +59,24 @@ fn stands(hall: &Hall, count: usize, memory: &[u8]) -> bool {
     }
 }
 
-/// Whether a call was refused since its event isn't enabled.
-fn is_refused(answer: Result<(), HallFault>) -> bool {
-    answer == Err(HallFault::NotEnabled)
+/// Whether each of these steps happens, one behind the other.
+fn happen(hall: &mut Hall, steps: &[Step]) -> bool {
+    for step in steps {
+        if ask(hall, *step).is_err() {
+            return false;
+        }
+    }
+    true
+}
+
+/// Whether each of these steps is refused since its event isn't enabled.
+fn are_refused(hall: &mut Hall, steps: &[Step]) -> bool {
+    for step in steps {
+        if ask(hall, *step) != Err(HallFault::NotEnabled) {
+            return false;
+        }
+    }
+    true
 }
 
 /// Whether the packet can't be fetched, since that isn't enabled.
@@ -115,18 +130,23 @@ fn write_sevens(pieces: &mut [Piece]) {
 
 /// Whether the queue's next packet, which is this one, is launched and enters.
 fn enters(hall: &mut Hall, packet: u16) -> bool {
-    hall.launch(0).is_ok() && hall.enter(packet).is_ok()
+    happen(hall, &[Step::Launch(0), Step::Enter(packet)])
 }
 
 /// Whether the packet is delivered from these pieces once sevens stand in the last, and completes.
 fn ends(alloc: Global, hall: &mut Hall, packet: u16, mut pieces: Vec<Piece>) -> bool {
     write_sevens(&mut pieces);
-    deliver(alloc, hall, packet, pieces).is_ok() && hall.complete(packet).is_ok()
+    deliver(alloc, hall, packet, pieces).is_ok() && happen(hall, &[Step::Complete(packet)])
 }
 
 /// Whether the packet, which is active, is fetched, delivered and completed.
 fn completes(hall: &mut Hall, packet: u16) -> bool {
-    works(hall, packet) && hall.complete(packet).is_ok()
+    works(hall, packet) && happen(hall, &[Step::Complete(packet)])
+}
+
+/// Whether the queue's next packet, which is this one, is taken through all its events.
+fn passes(hall: &mut Hall, packet: u16) -> bool {
+    enters(hall, packet) && completes(hall, packet)
 }
 
 /// Whether the copy is handed sevens to read, and zeros to write over.
@@ -142,22 +162,57 @@ fn are_handed(pieces: &[Piece]) -> bool {
     }
 }
 
+/// The pieces, if these are the copy's two, exchanged.
+fn exchanged(mut pieces: Vec<Piece>, first: u8, second: u8) -> Option<Vec<Piece>> {
+    match pieces.as_slice() {
+        [one, other] if one.is_of(1, first) && other.is_of(1, second) => {
+            pieces.swap(0, 1);
+            Some(pieces)
+        }
+        _ => None,
+    }
+}
+
+/// The pieces that come back where the copy is delivered from these, since they are the wrong ones.
+fn sent_back(alloc: Global, hall: &mut Hall, pieces: Vec<Piece>) -> Option<Vec<Piece>> {
+    match deliver(alloc, hall, 1, pieces) {
+        Err((HallFault::WrongPieces, back)) => Some(back),
+        _ => None,
+    }
+}
+
 /// Delivers the copy's pieces in the wrong order, the last full of sevens. Answers those that came back as wrong,
 /// in order again.
 fn exchange(alloc: Global, hall: &mut Hall, mut pieces: Vec<Piece>) -> Option<Vec<Piece>> {
-    if pieces.len() != 2 {
-        return None;
-    }
     write_sevens(&mut pieces);
-    pieces.swap(0, 1);
-    let Err((HallFault::WrongPieces, mut back)) = deliver(alloc, hall, 1, pieces) else {
-        return None;
-    };
-    if back.len() != 2 || !back[0].is_of(1, 1) || !back[1].is_of(1, 0) {
-        return None;
+    let pieces = exchanged(pieces, 0, 1)?;
+    let back = sent_back(alloc, hall, pieces)?;
+    exchanged(back, 1, 0)
+}
+
+/// Fetches the copy, which is active, and delivers it in the wrong order, where it is handed what it should be.
+fn fetched_and_exchanged(alloc: Global, hall: &mut Hall) -> Option<Vec<Piece>> {
+    match hall.fetch(1) {
+        Ok(pieces) if are_handed(&pieces) => exchange(alloc, hall, pieces),
+        _ => None,
     }
-    back.swap(0, 1);
-    Some(back)
+}
+
+/// Whether the copy, which is active, changes nothing by pieces in the wrong order, and ends by those that come back.
+fn ends_exchanged(alloc: Global, hall: &mut Hall) -> bool {
+    match fetched_and_exchanged(alloc, hall) {
+        Some(back) => { stands(hall, 8, &[7, 7, 7, 7, 0, 0, 0, 0]) && ends(alloc, hall, 1, back) }
+        None => false,
+    }
+}
+
+/// Whether both packets end, the copy by pieces that were exchanged first.
+fn both_end(alloc: Global, hall: &mut Hall) -> bool {
+    passes(hall, 0)
+        && enters(hall, 1)
+        && !hall.all_complete()
+        && ends_exchanged(alloc, hall)
+        && hall.all_complete()
 }
 
 #[test]
@@ -166,18 +221,8 @@ fn a_fill_and_a_copy(rt: HostRuntime) -> Result<(), Fail> {
     let Ok(mut hall) = Hall::open(rt.alloc(), &accepted) else {
         return Err("there is memory".into());
     };
-    assert!(rt; enters(&mut hall, 0) && completes(&mut hall, 0));
-    assert!(rt; enters(&mut hall, 1) && !hall.all_complete());
-    let Ok(pieces) = hall.fetch(1) else {
-        return Err("the copy is fetched".into());
-    };
-    assert!(rt; are_handed(&pieces));
-    let Some(back) = exchange(rt.alloc(), &mut hall, pieces) else {
-        return Err("these are exchanged, and come back".into());
-    };
-    assert!(rt; stands(&hall, 8, &[7, 7, 7, 7, 0, 0, 0, 0]));
-    assert!(rt; ends(rt.alloc(), &mut hall, 1, back) && hall.all_complete());
-    assert!(rt; hall.rest().is_ok() && stands(&hall, 11, &[7; 8]));
+    assert!(rt; both_end(rt.alloc(), &mut hall));
+    assert!(rt; happen(&mut hall, &[Step::Rest]) && stands(&hall, 11, &[7; 8]));
     Ok(())
 }
 
@@ -192,34 +237,69 @@ fn delivers_nothing(alloc: Global, hall: &mut Hall, packet: u16) -> bool {
 /// Whether each call that asks for a packet is refused for this one, and a submission, and a launch from a queue
 /// that isn't there.
 fn refuses_all(alloc: Global, hall: &mut Hall, packet: u16) -> bool {
-    is_refused(hall.submit())
-        && is_refused(hall.launch(1))
-        && is_refused(hall.observe(packet, 0))
-        && is_refused(hall.enter(packet))
+    let steps = [
+        Step::Submit,
+        Step::Launch(1),
+        Step::Observe(packet, 0),
+        Step::Enter(packet),
+        Step::Complete(packet),
+    ];
+    are_refused(hall, &steps)
         && fetches_nothing(hall, packet)
         && delivers_nothing(alloc, hall, packet)
-        && is_refused(hall.complete(packet))
+}
+
+/// Whether the fill, which was launched and entered, enters no more, and neither completes nor is delivered before
+/// it is fetched.
+fn waits_for_its_fetch(alloc: Global, hall: &mut Hall) -> bool {
+    are_refused(hall, &[Step::Enter(0), Step::Complete(0)])
+        && delivers_nothing(alloc, hall, 0)
+        && stands(hall, 2, &[0; 8])
+}
+
+/// Whether the fill, which was fetched, is fetched no more, and doesn't complete before it is delivered.
+fn waits_for_its_delivery(hall: &mut Hall) -> bool {
+    fetches_nothing(hall, 0) && are_refused(hall, &[Step::Complete(0)]) && stands(hall, 3, &[0; 8])
+}
+
+/// Whether the fill, which is active, is fetched, waits for its delivery, and ends.
+fn ends_once_delivered(alloc: Global, hall: &mut Hall) -> bool {
+    match hall.fetch(0) {
+        Ok(pieces) => waits_for_its_delivery(hall) && ends(alloc, hall, 0, pieces),
+        Err(_) => false,
+    }
 }
 
 #[test]
-fn what_comes_too_early_or_too_late(rt: HostRuntime) -> Result<(), Fail> {
+fn what_comes_too_early(rt: HostRuntime) -> Result<(), Fail> {
     let accepted = accepted(rt.alloc(), FILL_COPY)?;
     let Ok(mut hall) = Hall::open(rt.alloc(), &accepted) else {
         return Err("there is memory".into());
     };
     assert!(rt; refuses_all(rt.alloc(), &mut hall, 0) && stands(&hall, 0, &[0; 8]));
     assert!(rt; refuses_all(rt.alloc(), &mut hall, 2) && stands(&hall, 0, &[0; 8]));
-    assert!(rt; enters(&mut hall, 0) && is_refused(hall.enter(0)) && is_refused(hall.complete(0)));
-    assert!(rt; delivers_nothing(rt.alloc(), &mut hall, 0) && stands(&hall, 2, &[0; 8]));
-    let Ok(pieces) = hall.fetch(0) else {
-        return Err("the fill is fetched".into());
-    };
-    assert!(rt; fetches_nothing(&mut hall, 0) && is_refused(hall.complete(0)));
-    assert!(rt; stands(&hall, 3, &[0; 8]) && ends(rt.alloc(), &mut hall, 0, pieces));
-    assert!(rt; enters(&mut hall, 1) && completes(&mut hall, 1));
-    assert!(rt; is_refused(hall.launch(0)) && refuses_all(rt.alloc(), &mut hall, 1));
-    assert!(rt; stands(&hall, 10, &[7; 8]));
+    assert!(rt; enters(&mut hall, 0) && waits_for_its_fetch(rt.alloc(), &mut hall));
+    assert!(rt; ends_once_delivered(rt.alloc(), &mut hall));
     Ok(())
+}
+
+#[test]
+fn what_comes_too_late(rt: HostRuntime) -> Result<(), Fail> {
+    let accepted = accepted(rt.alloc(), FILL_COPY)?;
+    let Ok(mut hall) = Hall::open(rt.alloc(), &accepted) else {
+        return Err("there is memory".into());
+    };
+    assert!(rt; passes(&mut hall, 0) && passes(&mut hall, 1));
+    assert!(rt; are_refused(&mut hall, &[Step::Launch(0)]));
+    assert!(rt; refuses_all(rt.alloc(), &mut hall, 1) && stands(&hall, 10, &[7; 8]));
+    Ok(())
+}
+
+/// Whether a packet of the ring is submitted, and then no other before it is launched.
+fn fills_the_ring(hall: &mut Hall) -> bool {
+    are_refused(hall, &[Step::Launch(0)])
+        && happen(hall, &[Step::Submit])
+        && are_refused(hall, &[Step::Submit])
 }
 
 #[test]
@@ -228,13 +308,10 @@ fn a_ring_with_one_place(rt: HostRuntime) -> Result<(), Fail> {
     let Ok(mut hall) = Hall::open(rt.alloc(), &accepted) else {
         return Err("there is memory".into());
     };
-    assert!(rt; is_refused(hall.launch(0)));
-    assert!(rt; hall.submit().is_ok() && is_refused(hall.submit()));
-    assert!(rt; enters(&mut hall, 0) && is_refused(hall.submit()));
-    assert!(rt; completes(&mut hall, 0) && is_refused(hall.launch(0)));
-    assert!(rt; hall.submit().is_ok() && is_refused(hall.submit()));
-    assert!(rt; enters(&mut hall, 1) && completes(&mut hall, 1));
-    assert!(rt; is_refused(hall.submit()) && hall.rest().is_ok());
+    assert!(rt; fills_the_ring(&mut hall) && enters(&mut hall, 0));
+    assert!(rt; are_refused(&mut hall, &[Step::Submit]) && completes(&mut hall, 0));
+    assert!(rt; fills_the_ring(&mut hall) && passes(&mut hall, 1));
+    assert!(rt; are_refused(&mut hall, &[Step::Submit]) && happen(&mut hall, &[Step::Rest]));
     assert!(rt; is_so(&hall, &RING_EVENTS, &[7; 8]));
     Ok(())
 }

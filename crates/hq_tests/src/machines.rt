@@ -91,24 +91,24 @@ fn stores_a_byte(alloc: Global, job: &Job) -> Result<bool, StepFault> {
     Ok(queued && launched && stored && shows(&state, job, 1, Phase::InQueue, None, 0))
 }
 
+/// The fill, and the copy up to its fetch.
+const UP_TO_THE_COPY: [Event; 7] = [
+    Event::Launch { queue: 0 },
+    Event::Enter { packet: 0 },
+    Event::Fetch { packet: 0 },
+    Event::Deliver { packet: 0 },
+    Event::Complete { packet: 0 },
+    Event::Launch { queue: 0 },
+    Event::Enter { packet: 1 },
+];
+
 /// Takes the fill to its end and the copy to its first read.
 fn reads_a_byte(alloc: Global, job: &Job) -> Result<bool, StepFault> {
     let mut state = State::start(alloc, job)?;
-    state.apply(job, Event::Launch { queue: 0 })?;
-    state.apply(job, Event::Enter { packet: 0 })?;
-    state.apply(job, Event::Fetch { packet: 0 })?;
-    state.apply(job, Event::Deliver { packet: 0 })?;
-    state.apply(job, Event::Complete { packet: 0 })?;
-    state.apply(job, Event::Launch { queue: 0 })?;
-    state.apply(job, Event::Enter { packet: 1 })?;
-    state.step(
-        job,
-        Event::Read {
-            packet: 1,
-            entry: 0,
-        },
-    )?;
-    Ok(shows(&state, job, 1, Phase::Active, Some(7), 7))
+    let walked = walk(&mut state, job, &UP_TO_THE_COPY);
+    let (packet, entry) = (1, 0);
+    state.step(job, Event::Read { packet, entry })?;
+    Ok(walked && shows(&state, job, 1, Phase::Active, Some(7), 7))
 }
 
 #[test]
