@@ -12,6 +12,7 @@ use Rattle.hq_job.specs.declared.rows.Placed.{Placed}
 use Rattle.hq_job.specs.Value.{JobValue}
 use Rattle.hq_job.specs.View.{WithinLimits, PacketIsRead}
 use Rattle.hq_job.specs.Plan.{plan}
+use Rattle.hq_model.specs.declared.limits.TheConstants.{BYTES}
 use Rattle.hq_model.specs.Machine.{IsByte}
 use Rattle.hq_model.specs.Theorems.{Valid}
 use Rattle.hq_certcheck.specs.Brief.{IsShort}
@@ -36,16 +37,16 @@ pub short_ranges : (xs : List Range) (n : ℕ) → All (λ b. b < n) (flat_map b
 short_ranges [] n all = λ k d l. absurd (omega arith)
 short_ranges (x ∷ xs) n all = All-cons (λ r. r.len ≤ n) x xs (short_range x n (all_left (λ b. b < n) (bytes_of x) (flat_map bytes_of xs) all)) (short_ranges xs n (all_right (λ b. b < n) (bytes_of x) (flat_map bytes_of xs) all))
 
-memory_few : (v : JobValue) → WithinLimits v → length (plan v).memory ≤ 65536
+memory_few : (v : JobValue) → WithinLimits v → length (plan v).memory ≤ BYTES
 memory_few v limits = omega (arith, limits.bytes, length-flat_map (λ b. b.bytes) v.buffers)
 
 -- no range of a packet of a job that was read has more bytes than memory
 pub is_short : (v : JobValue) (p : ℕ) (x : Placed) → WithinLimits v → All (PacketIsRead v) v.packets → Valid (plan v) → p < length v.packets → x ≡ slice_index_or v.packets p x → IsShort x
 is_short v p x limits read valid l e =
     let is : PacketIsRead v x = subst (PacketIsRead v) (sym e) (read p x l) in
-    let low : All (λ b. b < 65536) (read_entries x.bytes) = λ k d m. omega (arith, is.reads k d m, limits.bytes) in
+    let low : All (λ b. b < BYTES) (read_entries x.bytes) = λ k d m. omega (arith, is.reads k d m, limits.bytes) in
     let writes : All (IsByte (plan v)) (written_bytes x.bytes) = subst (λ q. All (IsByte (plan v)) q.writes) (packet_at v p x l e) (valid.writes p) in
     record {
-      reads = short_ranges x.bytes.reads 65536 low;
-      write = short_range x.bytes.write 65536 (λ k d m. omega (arith, writes k d m, memory_few v limits));
+      reads = short_ranges x.bytes.reads BYTES low;
+      write = short_range x.bytes.write BYTES (λ k d m. omega (arith, writes k d m, memory_few v limits));
     }

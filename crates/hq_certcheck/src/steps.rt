@@ -8,12 +8,13 @@ ghost use Rattle.hq_certcheck.specs.Brief.{IsShort};
 
 use hq_footprint::Range;
 use hq_job::{Job, Placed};
+use hq_model::BYTES;
 
 /// How many bytes two ranges have, one after the other.
 fn total(ranges: [Range; 2]) -> u64
-    requires { All (λ r. r.len ≤ 65536) ranges }
+    requires { All (λ r. r.len ≤ BYTES) ranges }
     ensures total { result ≡ sum_by (λ r. r.len) ranges }
-    ensures few { result ≤ 131072 }
+    ensures few { result ≤ 2 * BYTES }
 {
     ranges[0].len + ranges[1].len
 }
@@ -33,7 +34,7 @@ fn steps_of(own: u64, packet: &Placed) -> u64
     requires short { IsShort packet.now }
     ensures steps { let p = packet.now in result ≡ own + count_by is_some p.slots + length
         (read_entries p.bytes) + 3 * length (written_bytes p.bytes) }
-    ensures few { result ≤ 400000 }
+    ensures few { result ≤ 9 + 5 * BYTES }
 {
     let bytes = packet.bytes;
     own + dependencies(&packet.slots) + total(bytes.reads) + 3 * bytes.write.len

@@ -9,6 +9,7 @@ use Rattle.std.specs.FinMap as finite
 use Rattle.hq_packet.specs.declared.packet.Scope.{Scope}
 use Rattle.hq_packet.specs.declared.packet.Scope.TheVariants as scope
 use Rattle.hq_packet.specs.Scopes.{reaches}
+use Rattle.hq_model.specs.declared.limits.TheConstants.{BYTES}
 use Rattle.hq_model.specs.Machine.{Copy, value_or, is_dirty, listed}
 use Rattle.hq_model.specs.View.{Held, copies_of}
 use Rattle.hq_copies.specs.declared.span.Span.{Span}
@@ -25,7 +26,7 @@ pub record CopiesValue : Type 0 where
 -- Each byte's number is small, each lane has an agent that is there, and lanes that hold bytes are inside the spans.
 pub record IsCopies (memory : List ℕ) (agents lanes : List Held) (lane_agents : List ℕ)
     (holding marked : Span) : Type 0 where
-  pub bytes : length memory ≤ 65536
+  pub bytes : length memory ≤ BYTES
   pub lanes_agree : length lanes ≡ length lane_agents
   pub agents_there : All (λ a. a < length agents) lane_agents
   pub inside : AreInside lanes holding marked

@@ -16,6 +16,7 @@ ghost use Rattle.hq_copies.specs.Copies.{AgentReleased, Released, after_pushes, 
 use crate::fault::CopiesFault;
 use crate::level::Level;
 use crate::span::Span;
+use hq_model::BYTES;
 use hq_packet::Scope;
 use std::alloc::{AllocError, Global};
 use std::marker::Model;
@@ -56,7 +57,7 @@ impl Copies {
         lane_agents: Vec<u8>,
     ) -> Result<Copies, CopiesFault>
         requires agents { All (λ a. a < agents) lane_agents.items }
-        requires bytes { length memory.items ≤ 65536 }
+        requires bytes { length memory.items ≤ BYTES }
         ensures ok { IfOk result (λ c. c ≡ opened memory.items agents lane_agents.items) }
         ensures memory { IfErr result (λ e. e ≡ CopiesFault.Memory) }
     {
@@ -107,7 +108,7 @@ impl Copies {
     fn number(&self, byte: usize) -> u32
         requires { byte ≤ length self.now.memory }
         ensures number { result ≡ byte }
-        ensures small { result ≤ 65536 }
+        ensures small { result ≤ BYTES }
     {
         let _ = self.memory.len();
         byte as u32

@@ -4,6 +4,7 @@ use Rattle.std.proofs.lemmas.Bool.{cases_lt, eq-eqb, ne_eqb}
 use Rattle.std.specs.List.{flat_map}
 use Rattle.std.proofs.lemmas.List.{get_or_append_left, get_or-append-add, get_or-append_right, get_or-map}
 use Rattle.std.proofs.lemmas.Option.{slice_get-get_or}
+use Rattle.hq_model.specs.declared.limits.TheConstants.{BYTES}
 use Rattle.hq_model.proofs.Places.{got}
 use Rattle.hq_events.specs.Packets.{IsEntry}
 use Rattle.hq_footprint.specs.declared.footprint.Range.{Range}
@@ -132,11 +133,11 @@ entry_within r rest limit i all l =
     let here = bytes_counted r in
     subst (λ b. b < limit) (get_or_append_left (bytes_of r) rest 0 i (omega arith) ∙ bytes_placed r i 0 l) (all i 0 (omega arith))
 
-pub entry_low : (r : Range) (rest : List ℕ) (i : ℕ) → All (λ b. b < 65536) (bytes_of r ++ rest) → i < r.len → r.at + i < 65536
-entry_low r rest i all l = entry_within r rest 65536 i all l
+pub entry_low : (r : Range) (rest : List ℕ) (i : ℕ) → All (λ b. b < BYTES) (bytes_of r ++ rest) → i < r.len → r.at + i < BYTES
+entry_low r rest i all l = entry_within r rest BYTES i all l
 
-pub entries_rest : (r : Range) (rest : List ℕ) → All (λ b. b < 65536) (bytes_of r ++ rest) → All (λ b. b < 65536) rest
-entries_rest r rest all = rest_all (bytes_of r) rest 65536 all
+pub entries_rest : (r : Range) (rest : List ℕ) → All (λ b. b < BYTES) (bytes_of r ++ rest) → All (λ b. b < BYTES) rest
+entries_rest r rest all = rest_all (bytes_of r) rest BYTES all
 
 pub later_match : (r : Range) (rest : List ℕ) (i : ℕ) (o : Option ℕ) → r.len ≤ i → MatchOption o (length rest ≤ i - r.len) (λ b. slice_get rest (i - r.len) ≡ Some b) → MatchOption o (length (bytes_of r ++ rest) ≤ i) (λ b. slice_get (bytes_of r ++ rest) i ≡ Some b)
 later_match r rest i None l h = let whole = entries_length r rest in omega arith

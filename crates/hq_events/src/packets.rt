@@ -14,6 +14,7 @@ ghost use Rattle.hq_model.specs.Machine.{IsByte};
 use hq_footprint::laws::{bytes_counted, entries_counted};
 use hq_footprint::{Range as ByteRange, Task};
 use hq_job::Job;
+use hq_model::BYTES;
 use std::alloc::{AllocError, Global};
 use std::ops::Range;
 
@@ -106,7 +107,7 @@ pub fn done_of(job: &Job, number: usize) -> Option<u16>
 /// The byte of an entry of these ranges, laid end to end, if there are so many.
 #[tactic(auto, using(crate::proofs::Jobs::entry_first, crate::proofs::Jobs::entry_later, crate::proofs::Jobs::entries_length, crate::proofs::Jobs::entry_low, crate::proofs::Jobs::entries_rest))]
 fn entry_of(ranges: &[ByteRange], entry: usize) -> Option<usize>
-    requires { All (λ b. b < 65536) (flat_map bytes_of ranges.now) }
+    requires { All (λ b. b < BYTES) (flat_map bytes_of ranges.now) }
     ensures { MatchOption result (length (flat_map bytes_of ranges.now) ≤ entry)
         (λ b. slice_get (flat_map bytes_of ranges.now) entry ≡ Some b) }
 {

@@ -6,8 +6,8 @@ use Rattle.hq_footprint.specs.Tasks.{Suits}
 use Rattle.hq_signals.specs.Table.{OpenSignal, handles}
 use Rattle.hq_model.specs.Job.{is_signal}
 use Rattle.hq_model.specs.Job.Kind.{BarrierOr}
-use Rattle.hq_model.specs.declared.limits.TheConstants.{PACKETS}
-use Rattle.hq_job.specs.declared.limits.TheConstants.{AGENTS, BLOCKS, BUFFERS, BYTES, KERNELS, QUEUES, SIGNALS}
+use Rattle.hq_model.specs.declared.limits.TheConstants.{BYTES, PACKETS}
+use Rattle.hq_job.specs.declared.limits.TheConstants.{AGENTS, BLOCKS, BUFFERS, KERNELS, QUEUES, SIGNALS}
 use Rattle.hq_job.specs.declared.rows.Placed.{Placed}
 use Rattle.hq_job.specs.Plan.{kind_of}
 use Rattle.hq_job.specs.Ranges.{RangesSuit}

@@ -23,8 +23,8 @@ use Rattle.hq_lines.specs.Meaning as says
 use Rattle.hq_lines.specs.Meaning.{Meaning}
 use Rattle.hq_job.specs.declared.fault.Reason.{Reason}
 use Rattle.hq_job.specs.declared.fault.Reason.TheVariants as reason
-use Rattle.hq_model.specs.declared.limits.TheConstants.{PACKETS}
-use Rattle.hq_job.specs.declared.limits.TheConstants.{AGENTS, BLOCKS, BUFFERS, BYTES, ITEMS, KERNELS, QUEUES, SIGNALS}
+use Rattle.hq_model.specs.declared.limits.TheConstants.{BYTES, PACKETS}
+use Rattle.hq_job.specs.declared.limits.TheConstants.{AGENTS, BLOCKS, BUFFERS, ITEMS, KERNELS, QUEUES, SIGNALS}
 use Rattle.hq_job.specs.declared.rows.Kernel.{Kernel}
 use Rattle.hq_job.specs.declared.rows.Queue.{Queue}
 use Rattle.hq_job.specs.declared.rows.Placed.{Placed}

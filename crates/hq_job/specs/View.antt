@@ -5,8 +5,8 @@ use Rattle.hq_job.specs.TablesView.{tables_of}
 use Rattle.hq_job.specs.Value.{JobValue}
 use Rattle.hq_footprint.specs.Bytes.{read_entries, written_bytes}
 use Rattle.hq_footprint.specs.Tasks.{Suits}
-use Rattle.hq_model.specs.declared.limits.TheConstants.{PACKETS}
-use Rattle.hq_job.specs.declared.limits.TheConstants.{AGENTS, BLOCKS, BUFFERS, BYTES, KERNELS, QUEUES, SIGNALS}
+use Rattle.hq_model.specs.declared.limits.TheConstants.{BYTES, PACKETS}
+use Rattle.hq_job.specs.declared.limits.TheConstants.{AGENTS, BLOCKS, BUFFERS, KERNELS, QUEUES, SIGNALS}
 use Rattle.hq_job.specs.declared.rows.Placed.{Placed}
 use Rattle.hq_job.specs.Tables.{total_of}
 use Rattle.hq_job.specs.Plan.{plan}

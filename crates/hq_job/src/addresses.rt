@@ -4,9 +4,9 @@ ghost use Rattle.std.specs.Prelude.{◌≡◌, ◌≤◌, map, IfOk};
 ghost use Rattle.hq_job.specs.Blocks.{blocks_of};
 ghost use Rattle.hq_job.specs.Tables.{byte_number, in_bytes, range_in_bytes, range_of, total_of};
 
-use crate::limits::BYTES;
 use crate::rows::Block;
 use hq_footprint::{Footprint, Range};
+use hq_model::BYTES;
 use std::alloc::{AllocError, Global};
 
 /// Where the bytes of the buffers lie.

@@ -7,9 +7,9 @@ ghost use Rattle.hq_footprint.specs.Bytes.{bytes_of as range_bytes, Share};
 ghost use Rattle.hq_job.specs.Blocks.{bytes_of, blocks_of};
 ghost use Rattle.hq_job.specs.Tables.{names_of, range_of, total_of, number_of_name};
 
-use crate::limits::BYTES;
 use crate::rows::{Block, Kernel, Queue};
 use hq_footprint::Range;
+use hq_model::BYTES;
 use hq_text::Name;
 
 impl Block {

@@ -5,8 +5,8 @@ ghost use Rattle.hq_job.specs.JobText.{OneJob, FaultlessWhereJob, OneFirstFault}
 ghost use Rattle.hq_job.specs.Rewritten.{RewrittenIsJob, OneRewritten, OwnHeads, OtherHeads, LastHeads};
 ghost use Rattle.hq_job.specs.LineMeans.{ByteMeans, WordMeans, NumberMeans, PacketMeans, HexMeans, QueueSizeMeans};
 
-use crate::limits::{AGENTS, BLOCKS, BUFFERS, BYTES, ITEMS, KERNELS, QUEUES, SIGNALS};
-use hq_model::PACKETS;
+use crate::limits::{AGENTS, BLOCKS, BUFFERS, ITEMS, KERNELS, QUEUES, SIGNALS};
+use hq_model::{BYTES, PACKETS};
 
 /// A text is one job's.
 pub fn one_job()

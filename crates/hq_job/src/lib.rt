@@ -35,7 +35,7 @@ mod tables;
 pub use fault::{JobFault, Reason};
 pub use hq_text::{TextFault, take_text};
 pub use job::Job;
-pub use limits::{AGENTS, BLOCKS, BUFFERS, BYTES, ITEMS, KERNELS, QUEUES, SIGNALS};
+pub use limits::{AGENTS, BLOCKS, BUFFERS, ITEMS, KERNELS, QUEUES, SIGNALS};
 pub use reader::{read, read_text};
 pub use rewriting::rewrite;
 pub use rows::{Block, Kernel, Placed, Queue};

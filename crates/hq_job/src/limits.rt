@@ -1,4 +1,5 @@
-//! How much a job may have. Each limit is named here, and the definitions of this crate and of those above cite it.
+//! How much a job may have, but for packets and bytes, which `hq_model` limits. Each limit is named once, and the
+//! definitions of this crate and of those above cite it.
 
 /// How many agents.
 pub const AGENTS: usize = 16;
@@ -8,9 +9,6 @@ pub const QUEUES: usize = 32;
 
 /// How many buffers.
 pub const BUFFERS: usize = 64;
-
-/// How many bytes its buffers have together.
-pub const BYTES: usize = 65_536;
 
 /// How many signals.
 pub const SIGNALS: usize = 1_024;

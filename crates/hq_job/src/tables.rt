@@ -6,9 +6,10 @@ ghost use Rattle.hq_job.specs.Fits.{TablesFit};
 
 use crate::fault::Reason;
 use crate::finding;
-use crate::limits::{AGENTS, BLOCKS, BUFFERS, BYTES, KERNELS, QUEUES, SIGNALS};
+use crate::limits::{AGENTS, BLOCKS, BUFFERS, KERNELS, QUEUES, SIGNALS};
 use crate::rows::{Block, Kernel, Placed, Queue, copied};
 use hq_footprint::{Code, Range};
+use hq_model::BYTES;
 use hq_signals::{SignalFault, SignalTable};
 use hq_text::Name;
 use indexmap::IndexSet;
