@@ -170,7 +170,7 @@ fn sevens(alloc: Global, count: usize) -> Option<Vec<u64>>
 }
 
 /// Whether the board, once these seats are handed over in queue order, ends with these values.
-fn ends_with(alloc: Global, board: Board, seats: Vec<Seat>, values: &[u64]) -> bool
+pub fn ends_with(alloc: Global, board: Board, seats: Vec<Seat>, values: &[u64]) -> bool
     requires { All (IsSeatOf board) seats.items }
 {
     let Some(mut ends) = sevens(alloc, board.signals()) else {
@@ -212,7 +212,7 @@ fn each_queue_in_a_thread_of_its_own(rt: HostRuntime) -> Result<(), Fail> {
 }
 
 /// The two seats that are there.
-fn both(board: &Board, mut seats: Vec<Seat>) -> Option<(Seat, Seat)>
+pub fn both(board: &Board, mut seats: Vec<Seat>) -> Option<(Seat, Seat)>
     requires { All (IsSeatOf board.now) seats.items }
     ensures { IfSome result (λ pair. IsSeatOf board.now pair.0 × IsSeatOf board.now pair.1) }
 {
@@ -222,7 +222,12 @@ fn both(board: &Board, mut seats: Vec<Seat>) -> Option<(Seat, Seat)>
 }
 
 /// The seats in this order.
-fn listed(alloc: Global, board: &Board, first: Seat, second: Seat) -> Result<Vec<Seat>, AllocError>
+pub fn listed(
+    alloc: Global,
+    board: &Board,
+    first: Seat,
+    second: Seat,
+) -> Result<Vec<Seat>, AllocError>
     requires first { IsSeatOf board.now first }
     requires second { IsSeatOf board.now second }
     ensures { IfOk result (λ seats. All (IsSeatOf board.now) seats.items) }
