@@ -1,6 +1,5 @@
 //! A board call by call, on one thread: a fill in one queue; in the other a barrier-AND that waits for it, and a copy.
 
-ghost use Rattle.std.specs.Prelude.{All};
 ghost use Rattle.hq_board.specs.Calls.{IsSeatOf};
 
 use crate::boards::{both, ends_with, listed};
