@@ -11,7 +11,7 @@ ghost use Rattle.hq_parts.specs.Parts.{AreParts};
 ghost use Rattle.hq_fence.specs.Judgement.{HaveConflict};
 ghost use Rattle.hq_change.specs.Foresight.{AreConflicts, HaveConflicts};
 
-use hq_bits::{WIDTH, covers, empty, first_from, insert, take_out};
+use hq_bits::{WIDTH, WORDS, covers, empty, first_from, insert, take_out};
 use hq_fence::have_conflict;
 use hq_job::Job;
 use hq_order::{Before, Rounds, sweep};
@@ -93,7 +93,7 @@ fn has_apart(
     conflicts: &[u64],
     a: usize,
 ) -> Result<bool, AllocError>
-    requires few { length conflicts.now ≤ 16 }
+    requires few { length conflicts.now ≤ WORDS }
     requires width { length (row rows.now a) ≡ length conflicts.now }
     requires a_is { a < length rows.now }
     ensures { IfOk result

@@ -13,7 +13,7 @@ ghost use Rattle.hq_explain.specs.declared.fault.ExplainFault.TheVariants.{Memor
 use crate::change::{Change, changed};
 use crate::fault::ExplainFault;
 use crate::scopes::{is_ordered, let_go};
-use hq_bits::insert;
+use hq_bits::{WORDS, insert};
 use hq_job::Job;
 use hq_order::Before;
 use std::alloc::Global;
@@ -90,7 +90,7 @@ pub fn note_bits(
     requires a_is { IsPacket (plan job.now) a }
     requires b_is { IsPacket (plan job.now) b }
     requires few { hi ≤ length job.now.packets }
-    requires room { length set.old ≡ 16 }
+    requires room { length set.old ≡ WORDS }
     ensures memory { IfErr result (λ e. e ≡ Memory) }
     ensures noted { OnOk result (Noted (plan job.now) a b lo hi set.old set.new) }
 {

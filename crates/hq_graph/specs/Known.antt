@@ -5,6 +5,7 @@ use Rattle.hq_model.specs.Job.{Job, IsPacket, Dependency, Decrements, Frees}
 use Rattle.hq_model.specs.Order as order
 use Rattle.hq_model.specs.Order.{OrderList, place}
 use Rattle.hq_model.specs.declared.limits.TheConstants.{PACKETS}
+use Rattle.hq_bits.specs.declared.TheConstants.{WORDS}
 use Rattle.hq_bits.specs.Bits.{has}
 use Rattle.hq_rows.specs.Matrix.{Marks, row}
 use Rattle.hq_rows.specs.Lists.{AllAre}
@@ -16,7 +17,7 @@ use Rattle.hq_graph.specs.declared.sight.Sight.{Sight}
 -- the row of each packet has the packets from which a step leads to it
 pub record AreSteps (job : Job) (rows : List (Vec ℕ)) : Type 0 where
   pub height : length rows ≡ length job.packets
-  pub width : (r : ℕ) → IsPacket job r → length (row rows r) ≤ 16
+  pub width : (r : ℕ) → IsPacket job r → length (row rows r) ≤ WORDS
   pub exact : (p r : ℕ) → IsPacket job r → Marks rows p r ↔ IsStep job p r
 
 -- a packet of the set has the slot of r

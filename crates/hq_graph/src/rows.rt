@@ -46,7 +46,7 @@ fn leave_last(row: &mut [u64], before: &Before)
 /// The packets from which a step leads to a packet.
 fn step_row(alloc: Global, before: &Before, r: usize) -> Result<Vec<u64>, AllocError>
     requires { IsPacket before.now r }
-    ensures width { IfOk result (λ row. length row.items ≤ 16) }
+    ensures width { IfOk result (λ row. length row.items ≤ WORDS) }
     ensures exact { IfOk result (λ row. (p : ℕ) → IsTrue (has row.items p) ↔ IsStep before.now p r) }
 {
     before.job().valid();

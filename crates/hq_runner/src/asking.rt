@@ -1,6 +1,6 @@
 //! Events that are asked for, and the list of those that were answered.
 
-ghost use Rattle.std.specs.Prelude.{◌≡◌, ℕ, ◌<◌, ◌++◌, ◌∷◌, [], Some, IfOk, OnOk, length, map, slice_get};
+ghost use Rattle.std.specs.Prelude.{◌≡◌, ℕ, ◌<◌, ◌^◌, ◌++◌, ◌∷◌, [], Some, IfOk, OnOk, length, map, slice_get};
 ghost use Rattle.hq_events.specs.declared.event.Event.TheVariants as event;
 ghost use Rattle.hq_events.specs.Events.{coarse_of};
 ghost use Rattle.hq_model.specs.Journal.{observations};
@@ -65,7 +65,7 @@ fn make_one<R: Wait>(
     packet: u16,
     slots: &[Option<u16>],
 ) -> Result<u16, Fault>
-    requires { length slots.now < 65536 }
+    requires { length slots.now < 2 ^ 16 }
     ensures { IfOk result (λ slot. (s : ℕ) × (slice_get slots.now slot ≡ Some (Some s))) }
 {
     match seated {
@@ -91,7 +91,7 @@ pub fn ask_one<R: Wait>(
     packet: u16,
     slots: &[Option<u16>],
 ) -> Result<u16, Fault>
-    requires { length slots.now < 65536 }
+    requires { length slots.now < 2 ^ 16 }
     ensures slot { IfOk result (λ slot. (s : ℕ) × (slice_get slots.now slot ≡ Some (Some s))) }
     ensures list { IfOk result
         (λ slot. desk.new.events.items ≡ desk.old.events.items ++ event.Observe packet slot ∷ []) }
@@ -110,7 +110,7 @@ pub fn ask_all<R: Wait>(
     packet: u16,
     slots: &[Option<u16>],
 ) -> Result<(), Fault>
-    requires { length slots.now < 65536 }
+    requires { length slots.now < 2 ^ 16 }
     ensures { OnOk result
         (map coarse_of desk.new.events.items ≡ map coarse_of desk.old.events.items ++ observations packet 0 slots.now) }
 {

@@ -1,6 +1,6 @@
 //! The end of a run: what the processors did is compared with the journal.
 
-ghost use Rattle.std.specs.Prelude.{◌≡◌, ℕ, ◌<◌, List, None, IfOk, IfErr, IfNone, OnOk, length};
+ghost use Rattle.std.specs.Prelude.{◌≡◌, ℕ, ◌<◌, ◌^◌, List, None, IfOk, IfErr, IfNone, OnOk, length};
 ghost use Rattle.hq_hall.specs.View.{AddsAlone};
 ghost use Rattle.hq_job.specs.Plan.{plan};
 ghost use Rattle.hq_job.specs.declared.rows.Placed.{Placed};
@@ -63,7 +63,7 @@ fn first_fault(all: &[Ended], host: Option<Fault>) -> Option<Fault>
 
 /// The first queue whose list isn't the journal's; the number of queues stands for the host.
 fn wrong_receipt(job: &Job, journal: &[Event], host: &[Event], all: &[Ended]) -> Option<u16>
-    requires { length all.now < 65536 }
+    requires { length all.now < 2 ^ 16 }
     ensures all { IfNone result (AreReceipts (plan job.now) journal.now all.now) }
     ensures host { IfNone result (host_events journal.now ≡ host.now) }
 {
@@ -109,7 +109,7 @@ fn check(job: &Job, hall: &Hall, host: &Hosted, all: &[Ended]) -> Result<(), Run
     ensures programs { OnOk result (ArePrograms (plan job.now) hall.now.events) }
     ensures counted { IfErr result (λ e. IsCounted job.now.packets e) }
 {
-    if all.len() >= 65536 {
+    if all.len() >= 1 << 16 {
         return Err(RunFault::Unfinished);
     }
     if !hall.job().same(job) || !hall.all_complete() {

@@ -1,6 +1,6 @@
 //! A queue's processor at the board: it waits for signals by their words alone, without a lock.
 
-ghost use Rattle.std.specs.Prelude.{◌≡◌, ℕ, ◌<◌, Some, true, IfOk, IfSome, OnOk, length, slice_get};
+ghost use Rattle.std.specs.Prelude.{◌≡◌, ℕ, ◌<◌, ◌^◌, Some, true, IfOk, IfSome, OnOk, length, slice_get};
 ghost use Rattle.hq_board.specs.Calls.{IsSeatOf};
 
 use crate::fault::Fault;
@@ -123,7 +123,7 @@ impl<'b> Seated<'b> {
     /// Looks at the slots in turn up to the first whose signal isn't above 0, if there is one. Answers which, and
     /// whether the packet may observe it.
     fn first(&mut self, packet: u16, slots: &[Option<u16>]) -> Option<(u16, bool)>
-        requires { length slots.now < 65536 }
+        requires { length slots.now < 2 ^ 16 }
         ensures { IfSome result (λ found. (s : ℕ) × (slice_get slots.now found.0 ≡ Some (Some s))) }
     {
         let mut slot = 0u16;
@@ -148,7 +148,7 @@ impl<'b> Seated<'b> {
         packet: u16,
         slots: &[Option<u16>],
     ) -> Result<u16, Fault>
-        requires { length slots.now < 65536 }
+        requires { length slots.now < 2 ^ 16 }
         ensures { IfOk result (λ slot. (s : ℕ) × (slice_get slots.now slot ≡ Some (Some s))) }
     {
         for _ in rt.forever() {

@@ -1,6 +1,6 @@
 //! What the processors share, and how those of rings wait.
 
-ghost use Rattle.std.specs.Prelude.{◌≡◌, ℕ, ◌<◌, Some, IsTrue, IfOk, IfSome, length, slice_get};
+ghost use Rattle.std.specs.Prelude.{◌≡◌, ℕ, ◌<◌, ◌^◌, Some, IsTrue, IfOk, IfSome, length, slice_get};
 ghost use Rattle.hq_hall.specs.View.{work_in};
 ghost use Rattle.hq_runner.specs.Pieces.{AreFor, IsWorked};
 
@@ -24,7 +24,7 @@ pub struct Shared<'a> {
 
 /// Observes the first slot that may be observed, if there is one.
 fn observe_one(hall: &mut Hall, packet: u16, slots: &[Option<u16>]) -> Result<Option<u16>, Fault>
-    requires { length slots.now < 65536 }
+    requires { length slots.now < 2 ^ 16 }
     ensures { IfOk result (λ found. IfSome found (λ slot. (s : ℕ) × (slice_get slots.now slot ≡ Some (Some s)))) }
 {
     let mut slot = 0u16;
@@ -139,7 +139,7 @@ impl<'a> Shared<'a> {
         packet: u16,
         slots: &[Option<u16>],
     ) -> Result<u16, Fault>
-        requires { length slots.now < 65536 }
+        requires { length slots.now < 2 ^ 16 }
         ensures { IfOk result (λ slot. (s : ℕ) × (slice_get slots.now slot ≡ Some (Some s))) }
     {
         let mut guard = self.hall.lock(rt);

@@ -10,6 +10,7 @@ use Rattle.hq_job.specs.declared.rows.Placed.{Placed}
 use Rattle.hq_job.specs.Plan.{plan, planned}
 use Rattle.hq_job.specs.Value.{JobValue}
 use Rattle.hq_job.specs.View.{WithinLimits}
+use Rattle.hq_model.specs.declared.limits.TheConstants.{BYTES}
 use Rattle.hq_model.specs.Job.{packet, no_packet}
 use Rattle.hq_model.specs.Machine.{IsByte}
 use Rattle.hq_footprint.specs.declared.footprint.Range.{Range}
@@ -43,13 +44,13 @@ packet_at v packets p x same low is =
     let there : p < length v.packets = subst (λ (xs : List Placed). p < length xs) same (ltb-true p (length packets) (sym low)) in
     sym (get_or-map planned v.packets p x no_packet there ∙ ap planned (sym (subst (λ (xs : List Placed). x ≡ slice_index_or xs p x) same is)))
 
-memory_few : (v : JobValue) → WithinLimits v → length (plan v).memory ≤ 65536
+memory_few : (v : JobValue) → WithinLimits v → length (plan v).memory ≤ BYTES
 memory_few v limits = omega (arith, limits.bytes, length-flat_map (λ b. b.bytes) v.buffers)
 
-byte_low : (v : JobValue) (xs : List ℕ) (b : ℕ) → WithinLimits v → All (IsByte (plan v)) xs → Contains xs b → b < 65536
+byte_low : (v : JobValue) (xs : List ℕ) (b : ℕ) → WithinLimits v → All (IsByte (plan v)) xs → Contains xs b → b < BYTES
 byte_low v xs b limits bytes (k, low, is) = omega (arith, is, bytes k b low, memory_few v limits)
 
-pub written_are : (v : JobValue) (xs : List ℕ) (r : Range) (start stop : ℕ) → WithinLimits v → All (IsByte (plan v)) xs → bytes_of r ≡ xs → stop ≤ 65536 → ((b : ℕ) → b < 65536 → ((start ≤ b) × (b < stop)) ↔ Contains (bytes_of r) b) → (b : ℕ) → ((start ≤ b) × (b < stop)) ↔ Contains xs b
+pub written_are : (v : JobValue) (xs : List ℕ) (r : Range) (start stop : ℕ) → WithinLimits v → All (IsByte (plan v)) xs → bytes_of r ≡ xs → stop ≤ BYTES → ((b : ℕ) → b < BYTES → ((start ≤ b) × (b < stop)) ↔ Contains (bytes_of r) b) → (b : ℕ) → ((start ≤ b) × (b < stop)) ↔ Contains xs b
 written_are v xs r start stop limits bytes is few are b = (
   λ h. subst (λ (ys : List ℕ). Contains ys b) is ((are b (omega (arith, h.1, few))).0 h),
   λ has. (are b (byte_low v xs b limits bytes has)).1 (subst (λ (ys : List ℕ). Contains ys b) (sym is) has),

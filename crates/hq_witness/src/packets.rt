@@ -9,11 +9,9 @@ ghost use Rattle.hq_model.specs.Job.{agent_of, packet as packet_of};
 use hq_footprint::Range as ByteRange;
 use hq_footprint::laws::bytes_bounded;
 use hq_job::Job;
+use hq_model::BYTES;
 use hq_packet::Scope;
 use std::ops::Range;
-
-/// No job has more bytes than these.
-const MOST_BYTES: u64 = 65_536;
 
 /// How many packets the job has.
 pub fn packet_total(job: &Job) -> u32
@@ -88,12 +86,13 @@ pub fn acquire_of(job: &Job, packet: u32) -> Scope
 
 /// The numbers of the bytes of a range, as far as a job may have them.
 fn numbers(range: ByteRange) -> Range<u32>
-    ensures few { result.end ≤ 65536 }
-    ensures are { (b : ℕ) → b < 65536 → ((result.start ≤ b) × (b < result.end)) ↔ Contains (bytes_of range) b }
+    ensures few { result.end ≤ BYTES }
+    ensures are { (b : ℕ) → b < BYTES → ((result.start ≤ b) × (b < result.end)) ↔ Contains (bytes_of range) b }
 {
     bytes_bounded();
-    let end = range.at.saturating_add(range.len).min(MOST_BYTES);
-    let start = range.at.min(MOST_BYTES);
+    let most = BYTES as u64;
+    let end = range.at.saturating_add(range.len).min(most);
+    let start = range.at.min(most);
     start as u32..end as u32
 }
 
