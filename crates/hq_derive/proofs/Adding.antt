@@ -58,14 +58,18 @@ says_added old new p r rule k a = record {
   second = refl;
 }
 
+pub kept_added : (job : Job) (old new : Lines) (p r : ℕ) (rule : Rule) → Kept job old → Follows job (lines_of old) (length (lines_of old)) p r (rule_of rule)
+    → lines_of new ≡ lines_of old ++ line_by p r rule ∷ [] → Kept job new
+kept_added job old new p r rule kept f added = record {
+  few = kept.few;
+  follow = subst (AllFollow job) (sym added) (follow_more job (lines_of old) (line_by p r rule) kept.follow f);
+}
+
 pub numbered_added : (job : Job) (old new : Lines) (p r : ℕ) (rule : Rule) (k : ℕ) → Kept job old → IsPacket job p → IsPacket job r
     → Follows job (lines_of old) (length (lines_of old)) p r (rule_of rule) → Added old new p r rule k → k + 1 < 2 ^ 32 → Numbered job old new p r k
 numbered_added job old new p r rule k kept a b f added small = record {
   goes = record {
-    kept = record {
-      few = kept.few;
-      follow = subst (AllFollow job) (sym added.lines) (follow_more job (lines_of old) (line_by p r rule) kept.follow f);
-    };
+    kept = kept_added job old new p r rule kept f added.lines;
     grown = grown_added old new p r rule k added;
   };
   says = says_added old new p r rule k added;

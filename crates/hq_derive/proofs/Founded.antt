@@ -3,7 +3,7 @@ use Rattle.std.proofs.Common.{ℕ, zero, suc, inl, inr, refl, sym, subst, arith,
 use Rattle.std.specs.Prelude.{MatchOption, IsSome}
 use Rattle.std.proofs.lemmas.Bool.{cases_lt}
 use Rattle.hq_model.specs.Job.{Job, IsPacket}
-use Rattle.hq_model.specs.Order.{ByBit, ByQueue, ByAnd, Before, Branch}
+use Rattle.hq_model.specs.Order.{Before, Branch}
 use Rattle.hq_model.specs.Order.Before.{by_bit as bit_behind, by_queue as queued, by_and as waits_one, by_or as waits_each, through}
 use Rattle.hq_model.specs.Order.Branch.{itself, after}
 use Rattle.hq_order.specs.Rounds.{Direct, Next, Within, Reaches, ByOr, IsFirstWithin, Between}
@@ -14,7 +14,7 @@ use Rattle.hq_model.proofs.Orders.{bit_packet, earlier_packet}
 use Rattle.hq_order.proofs.Single.{direct_packet, direct_packet_r}
 use Rattle.hq_order.proofs.Closure.{within_before}
 use Rattle.hq_order.proofs.Middles.{within_le}
-use Rattle.hq_derive.specs.Rests.{Below, ByBranch, ByMiddle}
+use Rattle.hq_derive.specs.Rests.{Below, ByBranch, ByMiddle, NoneAlone}
 
 -- ---- what is within a round is of packets
 
@@ -73,16 +73,14 @@ pub reaches_branch : (job : Job) (round p s : ℕ) (x : Reaches job (Below job r
 reaches_branch job round p s x = record { decrements = x.decrements; upto = x.upto }
 
 pub record Refuted (job : Job) (round p r : ℕ) : Type 0 where
-  pub no_bit : (j : ℕ) → ByBit job p r j → ⊥
-  pub no_queue : ByQueue job p r → ⊥
-  pub no_slot : (slot s : ℕ) → ByAnd job p r slot s → ⊥
+  pub alone : NoneAlone job p r
   pub no_either : ByOr job (Below job round) p r → ⊥
   pub no_middle : (m : ℕ) → ByMiddle job round p r m → ⊥
 
 not_direct : (job : Job) (round p r : ℕ) → Refuted job round p r → Direct job p r → ⊥
-not_direct job round p r n (inl (by_bit {j} by)) = n.no_bit j by
-not_direct job round p r n (inl (by_queue by)) = n.no_queue by
-not_direct job round p r n (inr (by_and {slot} {s} by)) = n.no_slot slot s by
+not_direct job round p r n (inl (by_bit {j} by)) = n.alone.no_bit j by
+not_direct job round p r n (inl (by_queue by)) = n.alone.no_queue by
+not_direct job round p r n (inr (by_and {slot} {s} by)) = n.alone.no_slot slot s by
 not_direct job round p r n (inr (by_or any all)) =
     n.no_either (record { any = any; each = λ slot s d. record { d = p; decrements = all slot s d; upto = inl refl } })
 

@@ -1,9 +1,11 @@
 //! A line for each that is needed.
 
 ghost use Rattle.std.specs.Prelude.{All, IfOk, OnOk, ◌+◌, ◌<◌, ◌≤◌};
+ghost use Rattle.hq_model.specs.Job.{IsPacket};
 ghost use Rattle.hq_derive.specs.Derived.{AllDerived, IsDerived};
 ghost use Rattle.hq_derive.specs.Kept.{Kept};
 
+use crate::grounds::rule_alone;
 use crate::lines::Lines;
 use crate::needs::Needs;
 use crate::resting::{Derivations, Derived, derive_all};
@@ -14,6 +16,27 @@ use std::alloc::{AllocError, Global};
 /// Adds the line that p is before r, if that is so; those that it cites are there.
 #[inline(always)]
 fn add_one(
+    lines: &mut Lines,
+    alloc: Global,
+    before: &Before,
+    p: usize,
+    r: usize,
+) -> Result<(), AllocError>
+    requires kept { Kept before.now lines.old }
+    requires p_is { IsPacket before.now p }
+    ensures { OnOk result (Kept before.now lines.new) }
+{
+    if r >= before.len() {
+        return Ok(());
+    }
+    match rule_alone(before.job(), p, r) {
+        Some(rule) => lines.add_alone(before, p, r, rule),
+        None => add_by_round(lines, alloc, before, p, r),
+    }
+}
+
+/// Adds the line that p is before r, if that is so, by the round in which it comes first.
+fn add_by_round(
     lines: &mut Lines,
     alloc: Global,
     before: &Before,
@@ -39,6 +62,7 @@ fn add_word(
     first: usize,
 ) -> Result<(), AllocError>
     requires first { first + 64 ≤ WIDTH }
+    requires p_is { IsPacket before.now p }
     requires kept { Kept before.now lines.old }
     ensures { OnOk result (Kept before.now lines.new) }
 {
@@ -59,7 +83,7 @@ fn add_row(
     round: usize,
     p: usize,
 ) -> Result<(), AllocError>
-    requires p { p < WIDTH }
+    requires p_is { IsPacket before.now p }
     requires kept { Kept before.now lines.old }
     ensures { OnOk result (Kept before.now lines.new) }
 {
@@ -104,7 +128,7 @@ fn add_line(
 {
     let (p, r) = (line.p as usize, line.r as usize);
     let Some(m) = line.middle else {
-        return add_one(lines, alloc, before, p, r);
+        return add_by_round(lines, alloc, before, p, r);
     };
     lines.between(alloc, before, round, p, m as usize, r)?;
     Ok(())

@@ -2,23 +2,44 @@
 
 ghost use Rattle.std.specs.Prelude.{◌≡◌, ℕ, ◌<◌, ◌↔◌, IsTrue, MatchOption, Some, slice_get};
 ghost use Rattle.hq_model.specs.Job.{IsPacket, Decrements};
+ghost use Rattle.hq_job.specs.Plan.{plan};
 ghost use Rattle.hq_order.specs.Rounds.{IsFirstWithin, Reaches, ByOr};
-ghost use Rattle.hq_derive.specs.Rests.{Below, ByBranch, IsGround};
+ghost use Rattle.hq_derive.specs.Rests.{Below, ByBranch, FollowsAlone, NoneAlone, IsGround};
 
+use hq_cert::Rule;
+use hq_job::Job;
 use hq_order::Before;
 use hq_order::rules::{bit_between, is_held, slot_of};
 use hq_packet::Packet;
 
-/// Why packet p comes before packet r: by the barrier bit of a packet; since p is a barrier packet ahead of r;
-/// since p completes on the dependency in a slot of the barrier-AND r; since p is complete whichever dependency of
-/// the barrier-OR r is over; or since p comes before a packet that comes before r.
-#[derive(Clone, Copy, Debug)]
+/// Why packet p comes before packet r: by a rule that cites no line; since p is complete whichever dependency of the
+/// barrier-OR r is over; or since p comes before a packet that comes before r.
+#[derive(Debug, Drop)]
 pub enum Ground {
-    Bit(usize),
-    Queue,
-    And(usize),
+    Alone(Rule),
     Or,
     Through(usize),
+}
+
+/// The rule by which p is before r, where it is one that cites no line: by the barrier bit of a packet; since p is a
+/// barrier packet ahead of r; since p completes on the dependency in a slot of the barrier-AND r.
+#[inline(always)]
+pub fn rule_alone(job: &Job, p: usize, r: usize) -> Option<Rule>
+    requires p_is { IsPacket (plan job.now) p }
+    requires r_is { IsPacket (plan job.now) r }
+    ensures { MatchOption result (NoneAlone (plan job.now) p r) (FollowsAlone (plan job.now) p r) }
+{
+    job.valid();
+    if let Some(j) = bit_between(job, p, r) {
+        return Some(Rule::Bit(j as u32));
+    }
+    if is_held(job, p, r) {
+        return Some(Rule::Queue);
+    }
+    match slot_of(job, p, r) {
+        Some(slot) => Some(Rule::And(slot as u32)),
+        None => None,
+    }
 }
 
 /// Whether p is before r by rounds below this one. That it is before r at all costs less to find out.
@@ -109,15 +130,8 @@ pub fn ground_of(before: &Before, round: usize, p: usize, r: usize) -> Ground
     requires { IsFirstWithin before.now round p r }
     ensures { IsGround before.now round p r result }
 {
-    let job = before.job();
-    if let Some(j) = bit_between(job, p, r) {
-        return Ground::Bit(j);
-    }
-    if is_held(job, p, r) {
-        return Ground::Queue;
-    }
-    if let Some(slot) = slot_of(job, p, r) {
-        return Ground::And(slot);
+    if let Some(rule) = rule_alone(before.job(), p, r) {
+        return Ground::Alone(rule);
     }
     if is_either(before, round, p, r) {
         return Ground::Or;

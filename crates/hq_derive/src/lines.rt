@@ -1,6 +1,6 @@
 //! The lines of a certificate, gathered.
 
-ghost use Rattle.std.specs.Prelude.{◌≡◌, ℕ, ◌+◌, ◌*◌, ◌^◌, ◌<◌, ◌++◌, ◌∷◌, [], IfOk, IfSome, MatchOption, Some, length};
+ghost use Rattle.std.specs.Prelude.{◌≡◌, ℕ, ◌+◌, ◌*◌, ◌^◌, ◌<◌, ◌++◌, ◌∷◌, [], IfOk, IfSome, MatchOption, OnOk, Some, length};
 ghost use Rattle.std.specs.Prelude.{slice_get};
 ghost use Rattle.hq_cert.specs.View.{rule_of};
 ghost use Rattle.hq_model.specs.Job.{packet};
@@ -8,7 +8,7 @@ ghost use Rattle.hq_model.specs.Job.{IsPacket};
 ghost use Rattle.hq_model.specs.Certificate.{Says, signals};
 ghost use Rattle.hq_model.specs.Order as order;
 ghost use Rattle.hq_order.specs.Rounds.{IsFirstWithin, Reaches, ByOr};
-ghost use Rattle.hq_derive.specs.Rests.{Below, ByMiddle};
+ghost use Rattle.hq_derive.specs.Rests.{Below, ByMiddle, FollowsAlone};
 ghost use Rattle.hq_derive.specs.Kept.{items_of, lines_of, Kept, Numbered, Ruled, Branched, AllBranched};
 
 use crate::grounds::{Ground, branch_of, ground_of};
@@ -132,6 +132,25 @@ impl Lines {
         let number = number as u32;
         self.remember(p, r, number);
         Ok(number)
+    }
+
+    /// Adds the line that p is before r by a rule that cites no line.
+    #[inline(always)]
+    pub(crate) fn add_alone(
+        &mut self,
+        before: &Before,
+        p: usize,
+        r: usize,
+        rule: Rule,
+    ) -> Result<(), AllocError>
+        requires kept { Kept before.now self.old }
+        requires p_is { IsPacket before.now p }
+        requires r_is { IsPacket before.now r }
+        requires rule { FollowsAlone before.now p r rule }
+        ensures { OnOk result (Kept before.now self.new) }
+    {
+        self.add(p, r, rule)?;
+        Ok(())
     }
 
     /// The number of the line that p is before r. Where there is none yet, it goes in, behind those that it cites.
@@ -260,9 +279,7 @@ impl Lines {
         ensures { IfOk result (λ rule. Ruled before.now self.old self.new p r rule) }
     {
         match ground_of(before, round, p, r) {
-            Ground::Bit(j) => Ok(Rule::Bit(j as u32)),
-            Ground::Queue => Ok(Rule::Queue),
-            Ground::And(slot) => Ok(Rule::And(slot as u32)),
+            Ground::Alone(rule) => Ok(rule),
             Ground::Or => self.either(alloc, before, round, p, r),
             Ground::Through(m) => self.through(alloc, before, round, p, m, r),
         }

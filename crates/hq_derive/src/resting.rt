@@ -151,7 +151,7 @@ fn derive_either(
             need_each(needs, before, round, p, before.job().slots(r));
             add_plain(lines, before, round, p, r)
         }
-        Ground::Bit(_) | Ground::Queue | Ground::And(_) => Ok(()),
+        Ground::Alone(_) => Ok(()),
     }
 }
 
