@@ -1,14 +1,19 @@
-use hq_job::{JobFault, Reason, read, read_text, rewrite};
+use hq_job::{Job, JobFault, Reason, read, read_text, rewrite};
 use hq_packet::{Head, Scope};
 use std::alloc::{AllocError, Global};
 use std::io;
 use std::io::Read;
 use std::test::*;
 
+/// The job of a text. It has no contract, so that no test is proved over the bytes of its text.
+fn job_of(alloc: Global, text: &[u8]) -> Result<Job, Fail> {
+    Ok(read_text(alloc, text)?)
+}
+
 #[test]
 fn a_job(rt: HostRuntime) -> Result<(), Fail> {
     let text = b"hsaq 2\nagent a\nbuffer b 16 3 0aFf10\nqueue q a 4\nend\n";
-    let job = read_text(rt.alloc(), text)?;
+    let job = job_of(rt.alloc(), text)?;
     job.valid();
     assert!(rt; job.rings());
     assert_eq!(rt; job.agents(), 1);
@@ -24,11 +29,16 @@ fn a_job(rt: HostRuntime) -> Result<(), Fail> {
 
 #[test]
 fn the_same_job(rt: HostRuntime) -> Result<(), Fail> {
-    let job = read_text(rt.alloc(), b"hsaq 1\nagent a\nend\n")?;
-    let other = read_text(rt.alloc(), b"hsaq 2\nagent a\nend\n")?;
+    let job = job_of(rt.alloc(), b"hsaq 1\nagent a\nend\n")?;
+    let other = job_of(rt.alloc(), b"hsaq 2\nagent a\nend\n")?;
     assert!(rt; job.same(&job));
     assert!(rt; !job.same(&other));
     Ok(())
+}
+
+/// The first fault of a text, without a contract too.
+fn fault_of(alloc: Global, text: &[u8]) -> Option<JobFault> {
+    read_text(alloc, text).err()
 }
 
 #[test]
@@ -40,8 +50,7 @@ fn first_faults(rt: HostRuntime) {
         (b"hsaq 1\nqueue q a 1\nend", 2, Reason::Unknown),
         (b"hsaq 1\nto q\nend", 2, Reason::Word),
     ] {
-        let fault = read_text(rt.alloc(), text).err();
-        assert_eq!(rt; fault, Some(JobFault { line, reason }));
+        assert_eq!(rt; fault_of(rt.alloc(), text), Some(JobFault { line, reason }));
     }
 }
 
@@ -90,7 +99,7 @@ fn two_packets(alloc: Global, first: &[u8], second: &[u8]) -> Result<Vec<u8>, Al
 
 /// The text of such a job with other heads, by number.
 fn with_heads(alloc: Global, text: &[u8], heads: &[Head]) -> Result<Vec<u8>, Fail> {
-    let job = read_text(alloc, text)?;
+    let job = job_of(alloc, text)?;
     if heads.len() != job.packets().len() {
         return Err("another number of packets".into());
     }
@@ -99,7 +108,7 @@ fn with_heads(alloc: Global, text: &[u8], heads: &[Head]) -> Result<Vec<u8>, Fai
 
 /// The same with its own.
 fn with_own_heads(alloc: Global, text: &[u8]) -> Result<Vec<u8>, Fail> {
-    let job = read_text(alloc, text)?;
+    let job = job_of(alloc, text)?;
     let heads = job.heads(alloc)?;
     Ok(rewrite(alloc, text, &job, &heads)?)
 }

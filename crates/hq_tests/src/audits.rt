@@ -1,14 +1,14 @@
+use crate::jobs::job_of;
 use hq_audit::{AuditNo, audit};
 use hq_cert::{Fences, Rule};
 use hq_finding::{Kind, Why};
-use hq_job::read_text;
 use std::test::*;
 
 #[test]
 fn two_stores_with_a_barrier_bit(rt: HostRuntime) -> Result<(), Fail> {
     let text =
         b"hsaq 1\nagent a\nbuffer b 16 16\nqueue q a 4\npacket 04150080000000001000000000000000000000000000000000000000000000000000000000000000000000000000000000000000000000000000000000000000\npacket 04150080000000001000000000000000000000000000000000000000000000000000000000000000000000000000000000000000000000000000000000000000\nend";
-    let job = read_text(rt.alloc(), text)?;
+    let job = job_of(rt.alloc(), text)?;
     let certificate = audit(rt.alloc(), &job)?;
     assert_eq!(rt; certificate.order(), [0, 1].as_slice());
     let [line] = certificate.lines() else {
@@ -32,7 +32,7 @@ fn two_stores_with_a_barrier_bit(rt: HostRuntime) -> Result<(), Fail> {
 fn two_stores_in_no_order(rt: HostRuntime) -> Result<(), Fail> {
     let text =
         b"hsaq 1\nagent a\nbuffer b 16 16\nqueue q a 4\npacket 04140080000000001000000000000000000000000000000000000000000000000000000000000000000000000000000000000000000000000000000000000000\npacket 04140080000000001000000000000000000000000000000000000000000000000000000000000000000000000000000000000000000000000000000000000000\nend";
-    let job = read_text(rt.alloc(), text)?;
+    let job = job_of(rt.alloc(), text)?;
     let Err(AuditNo::Conflict { p, r, kind, why }) = audit(rt.alloc(), &job) else {
         return Err("no conflict".into());
     };

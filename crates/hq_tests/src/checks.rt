@@ -1,13 +1,13 @@
+use crate::jobs::job_of;
 use hq_cert::{Certificate, Fences, Line, Pair, Rule};
 use hq_certcheck::{CheckNo, check, check_wide};
-use hq_job::read_text;
 use std::test::*;
 
 #[test]
 fn two_barrier_packets(rt: HostRuntime) -> Result<(), Fail> {
     let packet = format!(in rt.alloc(); "packet 03{:0126}\n", 0)?;
     let text = format!(in rt.alloc(); "hsaq 1\nagent a\nqueue q a 4\n{packet}{packet}end")?;
-    let job = read_text(rt.alloc(), text.as_bytes())?;
+    let job = job_of(rt.alloc(), text.as_bytes())?;
     let lines = vec![in rt.alloc();
         Line {
             p: 0,
@@ -33,7 +33,7 @@ fn two_barrier_packets(rt: HostRuntime) -> Result<(), Fail> {
 
 #[test]
 fn a_line_that_cites_itself(rt: HostRuntime) -> Result<(), Fail> {
-    let job = read_text(rt.alloc(), b"hsaq 1\nend")?;
+    let job = job_of(rt.alloc(), b"hsaq 1\nend")?;
     let lines = vec![in rt.alloc();
         Line {
             p: 0,

@@ -1,3 +1,4 @@
+use crate::jobs::job_of;
 use hq_engines::replay_engine;
 use hq_judging::audit_engine;
 use hq_run_engine::accept;
@@ -127,7 +128,7 @@ fn a_writer_that_fails_at_each_write(rt: HostRuntime) {
 
 #[test]
 fn accepts_what_it_audits(rt: HostRuntime) -> Result<(), Fail> {
-    let job = hq_job::read_text(rt.alloc(), EMPTY)?;
+    let job = job_of(rt.alloc(), EMPTY)?;
     let Ok(accepted) = accept(&rt, rt.alloc(), job) else {
         return Err("a job without packets is ordered".into());
     };

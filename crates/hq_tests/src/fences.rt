@@ -1,6 +1,6 @@
+use crate::jobs::job_of;
 use hq_fence::{Acquire, NotShown, Release, Shown, judge};
 use hq_finding::{Kind, Why};
-use hq_job::read_text;
 use hq_order::Before;
 use std::test::*;
 
@@ -8,7 +8,7 @@ use std::test::*;
 fn a_store_and_a_count_of_it(rt: HostRuntime) -> Result<(), Fail> {
     let text =
         b"hsaq 1\nagent a\nbuffer b 16 16\nqueue q a 4\npacket 04140080000000001000000000000000000000000000000000000000000000000000000000000000000000000000000000000000000000000000000000000000\npacket 04150180000000001800000000000000100000000000000008000000000000000000000000000000000000000000000000000000000000000000000000000000\nend";
-    let job = read_text(rt.alloc(), text)?;
+    let job = job_of(rt.alloc(), text)?;
     let before = Before::build(rt.alloc(), &job)?;
     if before.len() != 2 {
         return Err("two packets".into());
@@ -26,7 +26,7 @@ fn a_store_and_a_count_of_it(rt: HostRuntime) -> Result<(), Fail> {
 fn a_count_that_does_not_acquire(rt: HostRuntime) -> Result<(), Fail> {
     let text =
         b"hsaq 1\nagent a\nbuffer b 16 16\nqueue q a 4\npacket 04140080000000001000000000000000000000000000000000000000000000000000000000000000000000000000000000000000000000000000000000000000\npacket 04110180000000001800000000000000100000000000000008000000000000000000000000000000000000000000000000000000000000000000000000000000\nend";
-    let job = read_text(rt.alloc(), text)?;
+    let job = job_of(rt.alloc(), text)?;
     let before = Before::build(rt.alloc(), &job)?;
     if before.len() != 2 {
         return Err("two packets".into());

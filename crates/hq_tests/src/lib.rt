@@ -14,6 +14,8 @@ mod engines;
 #[cfg(test)]
 mod fences;
 #[cfg(test)]
+mod jobs;
+#[cfg(test)]
 mod machines;
 #[cfg(test)]
 mod orders;

@@ -1,9 +1,10 @@
 ghost use Rattle.hq_job.specs.Plan.{plan};
 ghost use Rattle.hq_machine.specs.View.{IsStateOf};
 
+use crate::jobs::job_of;
 use hq_footprint::evaluate;
 use hq_footprint::laws::{bytes_counted, entries_counted};
-use hq_job::{Job, read_text};
+use hq_job::Job;
 use hq_machine::{Event, Journal, Phase, State, StepFault};
 use std::alloc::{AllocError, Global};
 use std::test::*;
@@ -56,7 +57,7 @@ fn ends(alloc: Global, job: &Job, journal: &Journal) -> Result<bool, StepFault> 
 
 #[test]
 fn work_is_left_until_the_end(rt: HostRuntime) -> Result<(), Fail> {
-    let job = read_text(rt.alloc(), JOB)?;
+    let job = job_of(rt.alloc(), JOB)?;
     let mut journal = Journal::new(rt.alloc());
     add_steps(&mut journal, 0, 0, 0)?;
     add_steps(&mut journal, 1, 4, 4)?;
@@ -113,7 +114,7 @@ fn reads_a_byte(alloc: Global, job: &Job) -> Result<bool, StepFault> {
 
 #[test]
 fn single_steps_show(rt: HostRuntime) -> Result<(), Fail> {
-    let job = read_text(rt.alloc(), JOB)?;
+    let job = job_of(rt.alloc(), JOB)?;
     assert!(rt; stores_a_byte(rt.alloc(), &job)?);
     assert!(rt; reads_a_byte(rt.alloc(), &job)?);
     Ok(())
@@ -155,7 +156,7 @@ fn runs_from_outside(alloc: Global, job: &Job) -> Result<bool, StepFault> {
 
 #[test]
 fn bytes_from_outside_are_delivered(rt: HostRuntime) -> Result<(), Fail> {
-    let job = read_text(rt.alloc(), JOB)?;
+    let job = job_of(rt.alloc(), JOB)?;
     assert!(rt; runs_from_outside(rt.alloc(), &job)?);
     Ok(())
 }

@@ -1,4 +1,4 @@
-use hq_job::read_text;
+use crate::jobs::job_of;
 use hq_order::Before;
 use hq_schedule::schedule;
 use hq_waits::OrderFault;
@@ -6,7 +6,7 @@ use std::test::*;
 
 #[test]
 fn no_packets(rt: HostRuntime) -> Result<(), Fail> {
-    let job = read_text(rt.alloc(), b"hsaq 1\nend")?;
+    let job = job_of(rt.alloc(), b"hsaq 1\nend")?;
     assert_eq!(rt; schedule(rt.alloc(), &job)?.len(), 0);
     let before = Before::build(rt.alloc(), &job)?;
     assert_eq!(rt; before.len(), 0);
@@ -19,7 +19,7 @@ fn no_packets(rt: HostRuntime) -> Result<(), Fail> {
 fn a_barrier_that_waits_for_itself(rt: HostRuntime) -> Result<(), Fail> {
     let text =
         b"hsaq 1\nagent a\nsignal s 9 1\nqueue q a 4\npacket 03000000000000000900000000000000000000000000000000000000000000000000000000000000000000000000000000000000000000000900000000000000\nend";
-    let job = read_text(rt.alloc(), text)?;
+    let job = job_of(rt.alloc(), text)?;
     let Err(OrderFault::Stuck(packets)) = schedule(rt.alloc(), &job) else {
         return Err("no packet is stuck".into());
     };

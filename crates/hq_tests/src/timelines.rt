@@ -8,9 +8,14 @@ use std::test::*;
 /// Lines of no, one and two numbers.
 const TEXT: &[u8] = b"hsat 1\nsubmit\nlaunch 0\nobserve 1 4294967295\npushlane 1023 65535\nend\n";
 
+/// The journal of a text. It has no contract, so that no test is proved over the bytes of its text.
+fn journal_of(alloc: Global, text: &[u8]) -> Result<Journal, Fail> {
+    Ok(parse(alloc, text)?)
+}
+
 #[test]
 fn printed_again(rt: HostRuntime) -> Result<(), Fail> {
-    let journal = parse(rt.alloc(), TEXT)?;
+    let journal = journal_of(rt.alloc(), TEXT)?;
     assert_eq!(rt; journal.events().len(), 4);
     let mut text = Vec::new(rt.alloc());
     print(rt.alloc(), &journal, &mut text)?;
@@ -29,7 +34,7 @@ fn each_event(rt: HostRuntime) -> Result<(), Fail> {
     assert!(rt;
         text.as_slice() == b"hsat 1\ncomplete 7\nfinish 7\ndropagent 1 2\nend\n".as_slice()
     );
-    let read = parse(rt.alloc(), &text)?;
+    let read = journal_of(rt.alloc(), &text)?;
     assert!(rt; read.events() == journal.events());
     Ok(())
 }
