@@ -1,7 +1,33 @@
 use crate::jobs::job_of;
 use hq_cert::{Certificate, Fences, Line, Pair, Rule};
-use hq_certcheck::{CheckNo, check, check_wide};
+use hq_certcheck::{Accepted, CheckNo, check, check_wide};
+use hq_job::Job;
+use std::alloc::Global;
 use std::test::*;
+use std::thread::Threads;
+
+/// What a check accepts, without a contract, so that no test is proved over the lines of its certificate.
+fn accepted(alloc: Global, job: Job, certificate: &Certificate) -> Option<Accepted> {
+    check(alloc, job, certificate).ok()
+}
+
+/// Why a check refuses, and the job.
+fn refused(alloc: Global, job: Job, certificate: &Certificate) -> Option<(CheckNo, Job)> {
+    check(alloc, job, certificate).err()
+}
+
+/// The same of a check in many threads.
+fn refused_wide<R: Threads + Sync>(
+    rt: &R,
+    alloc: Global,
+    job: Job,
+    certificate: &Certificate,
+) -> Option<CheckNo> {
+    match check_wide(rt, alloc, job, certificate) {
+        Ok(_) => None,
+        Err((no, _job)) => Some(no),
+    }
+}
 
 #[test]
 fn two_barrier_packets(rt: HostRuntime) -> Result<(), Fail> {
@@ -23,7 +49,7 @@ fn two_barrier_packets(rt: HostRuntime) -> Result<(), Fail> {
         },
     ]?;
     let certificate = Certificate::new(vec![in rt.alloc(); 0, 1]?, lines, pairs);
-    let Ok(accepted) = check(rt.alloc(), job, &certificate) else {
+    let Some(accepted) = accepted(rt.alloc(), job, &certificate) else {
         return Err("a certificate that holds".into());
     };
     assert_eq!(rt; accepted.order(), [0, 1].as_slice());
@@ -42,13 +68,11 @@ fn a_line_that_cites_itself(rt: HostRuntime) -> Result<(), Fail> {
         },
     ]?;
     let certificate = Certificate::new(Vec::new(rt.alloc()), lines, Vec::new(rt.alloc()));
-    let Err((no, job)) = check(rt.alloc(), job, &certificate) else {
+    let Some((no, job)) = refused(rt.alloc(), job, &certificate) else {
         return Err("a line that holds".into());
     };
     assert!(rt; matches!(&no, CheckNo::BadLine(0)));
-    let Err((wide, _job)) = check_wide(&rt, rt.alloc(), job, &certificate) else {
-        return Err("a line that holds".into());
-    };
-    assert!(rt; matches!(&wide, CheckNo::BadLine(0)));
+    let wide = refused_wide(&rt, rt.alloc(), job, &certificate);
+    assert!(rt; matches!(&wide, Some(CheckNo::BadLine(0))));
     Ok(())
 }
