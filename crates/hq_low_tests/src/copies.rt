@@ -2,6 +2,7 @@
 
 ghost use Rattle.std.specs.Prelude.{◌≡◌, length, IsTrue};
 
+use crate::calls::good;
 use hq_copies::{Copies, CopiesFault};
 use hq_packet::Scope;
 use std::alloc::Global;
@@ -12,7 +13,9 @@ const COUNT: usize = 4;
 
 /// Memory of zeros.
 fn zeros(alloc: Global) -> Result<Copies, Fail> {
-    Ok(Copies::new(alloc, vec![in alloc; 0; COUNT]?, 1, vec![in alloc; 0]?)?)
+    let memory = good(vec![in alloc; 0; COUNT])?;
+    let lanes = good(vec![in alloc; 0])?;
+    good(Copies::new(alloc, memory, 1, lanes))
 }
 
 /// Whether there are four bytes of memory, one agent and one lane.
@@ -113,7 +116,10 @@ fn a_byte_goes_down_to_memory(rt: HostRuntime) -> Result<(), Fail> {
     assert_eq!(rt; seen(&copies, 0), Some(9));
     assert!(rt; answer_so(&mut copies, &[(Call::PushAgent, 0, Ok(()))]));
     assert_eq!(rt; copies.memory(), [9, 0, 0, 0].as_slice());
-    assert_eq!(rt; copies.copy(rt.alloc())?.memory(), [9, 0, 0, 0].as_slice());
+    assert_eq!(rt;
+        good(copies.copy(rt.alloc()))?.memory(),
+        [9, 0, 0, 0].as_slice()
+    );
     Ok(())
 }
 

@@ -1,3 +1,4 @@
+use crate::calls::good;
 use hq_footprint::{
     Code, FootFault, Footprint, Kinds, Range, Task, Work, conflict, evaluate, evaluate_ranges,
     inside, kinds_of, laws, of_kernel, of_service,
@@ -166,7 +167,7 @@ fn laws_hold_as_calls(_rt: HostRuntime) {
 
 #[test]
 fn faults_are_told(rt: HostRuntime) -> Result<(), Fail> {
-    let text = FootFault::OutsideBuffer.to_string(rt.alloc())?;
+    let text = good(FootFault::OutsideBuffer.to_string(rt.alloc()))?;
     assert_eq!(rt; text.as_str(), "a range outside the buffers");
     Ok(())
 }

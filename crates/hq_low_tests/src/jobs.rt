@@ -1,3 +1,4 @@
+use crate::calls::good;
 use hq_job::{Job, JobFault, Reason, read, read_text, rewrite};
 use hq_packet::{Head, Scope};
 use std::alloc::{AllocError, Global};
@@ -5,9 +6,9 @@ use std::io;
 use std::io::Read;
 use std::test::*;
 
-/// The job of a text. It has no contract, so that no test is proved over the bytes of its text.
+/// The job of a text.
 fn job_of(alloc: Global, text: &[u8]) -> Result<Job, Fail> {
-    Ok(read_text(alloc, text)?)
+    good(read_text(alloc, text))
 }
 
 #[test]
@@ -21,7 +22,7 @@ fn a_job(rt: HostRuntime) -> Result<(), Fail> {
     assert_eq!(rt; job.byte_of(19), None);
     assert_eq!(rt; job.number(0, 0), None);
     assert_eq!(rt;
-        job.memory(rt.alloc())?.as_slice(),
+        good(job.memory(rt.alloc()))?.as_slice(),
         [10, 255, 16].as_slice()
     );
     Ok(())
@@ -36,7 +37,7 @@ fn the_same_job(rt: HostRuntime) -> Result<(), Fail> {
     Ok(())
 }
 
-/// The first fault of a text, without a contract too.
+/// The first fault of a text.
 fn fault_of(alloc: Global, text: &[u8]) -> Option<JobFault> {
     read_text(alloc, text).err()
 }
@@ -103,19 +104,19 @@ fn with_heads(alloc: Global, text: &[u8], heads: &[Head]) -> Result<Vec<u8>, Fai
     if heads.len() != job.packets().len() {
         return Err("another number of packets".into());
     }
-    Ok(rewrite(alloc, text, &job, heads)?)
+    good(rewrite(alloc, text, &job, heads))
 }
 
 /// The same with its own.
 fn with_own_heads(alloc: Global, text: &[u8]) -> Result<Vec<u8>, Fail> {
     let job = job_of(alloc, text)?;
-    let heads = job.heads(alloc)?;
-    Ok(rewrite(alloc, text, &job, &heads)?)
+    let heads = good(job.heads(alloc))?;
+    good(rewrite(alloc, text, &job, &heads))
 }
 
 #[test]
 fn a_text_with_its_own_heads(rt: HostRuntime) -> Result<(), Fail> {
-    let text = two_packets(rt.alloc(), b"00".as_slice(), b"0B".as_slice())?;
+    let text = good(two_packets(rt.alloc(), b"00".as_slice(), b"0B".as_slice()))?;
     let same = with_own_heads(rt.alloc(), &text)?;
     assert_eq!(rt; same.as_slice(), text.as_slice());
     Ok(())
@@ -123,7 +124,7 @@ fn a_text_with_its_own_heads(rt: HostRuntime) -> Result<(), Fail> {
 
 #[test]
 fn a_text_with_other_heads(rt: HostRuntime) -> Result<(), Fail> {
-    let text = two_packets(rt.alloc(), b"00".as_slice(), b"0B".as_slice())?;
+    let text = good(two_packets(rt.alloc(), b"00".as_slice(), b"0B".as_slice()))?;
     let lower = Head {
         barrier: false,
         acquire: Scope::Agent,
@@ -135,14 +136,14 @@ fn a_text_with_other_heads(rt: HostRuntime) -> Result<(), Fail> {
         release: Scope::System,
     };
     let new = with_heads(rt.alloc(), &text, &[lower, higher])?;
-    let wanted = two_packets(rt.alloc(), b"15".as_slice(), b"0a".as_slice())?;
+    let wanted = good(two_packets(rt.alloc(), b"15".as_slice(), b"0a".as_slice()))?;
     assert_eq!(rt; new.as_slice(), wanted.as_slice());
     Ok(())
 }
 
 #[test]
 fn a_text_with_one_other_head(rt: HostRuntime) -> Result<(), Fail> {
-    let text = two_packets(rt.alloc(), b"00".as_slice(), b"0B".as_slice())?;
+    let text = good(two_packets(rt.alloc(), b"00".as_slice(), b"0B".as_slice()))?;
     let same = Head {
         barrier: true,
         acquire: Scope::Agent,
@@ -154,7 +155,7 @@ fn a_text_with_one_other_head(rt: HostRuntime) -> Result<(), Fail> {
         release: Scope::None,
     };
     let new = with_heads(rt.alloc(), &text, &[same, other])?;
-    let wanted = two_packets(rt.alloc(), b"01".as_slice(), b"0B".as_slice())?;
+    let wanted = good(two_packets(rt.alloc(), b"01".as_slice(), b"0B".as_slice()))?;
     assert_eq!(rt; new.as_slice(), wanted.as_slice());
     Ok(())
 }

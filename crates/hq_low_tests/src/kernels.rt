@@ -1,17 +1,19 @@
 ghost use Rattle.std.specs.Prelude.{◌<◌};
 
+use crate::calls::good;
 use hq_footprint::Task;
 use hq_kernels::{Body, KernelBody, KernelFault, Stock};
 use hq_ledger::{Piece, Tray};
-use std::alloc::{AllocError, Global};
+use std::alloc::Global;
 use std::test::*;
 
 /// A piece of packet 0.
-fn piece_of(alloc: Global, tray: &Tray, place: u8, bytes: &[u8]) -> Result<Piece, AllocError>
+fn piece_of(alloc: Global, tray: &Tray, place: u8, bytes: &[u8]) -> Result<Piece, Fail>
     requires packet { 0 < tray.now.packets }
     requires place { place < 3 }
 {
-    Piece::new(alloc, tray, 0, place, 4096, bytes.to_vec(alloc)?)
+    let bytes = good(bytes.to_vec(alloc))?;
+    good(Piece::new(alloc, tray, 0, place, 4096, bytes))
 }
 
 /// Whether the body, which hasn't run, runs and says so, and these are then the bytes of the last piece that it
@@ -35,7 +37,7 @@ fn writes(stock: Stock, wanted: &[u8]) -> bool {
 
 #[test]
 fn bodies_that_read_nothing(rt: HostRuntime) -> Result<(), Fail> {
-    let tray = Tray::open(rt.alloc(), 1)?;
+    let tray = good(Tray::open(rt.alloc(), 1))?;
     let mut fill = Stock::new(Task::Fill(7));
     assert!(rt; fill.load(piece_of(rt.alloc(), &tray, 0, &[9; 3])?).is_ok());
     assert!(rt; writes(fill, &[7, 7, 7]));
@@ -50,7 +52,7 @@ fn bodies_that_read_nothing(rt: HostRuntime) -> Result<(), Fail> {
 
 #[test]
 fn bodies_that_read_one_range(rt: HostRuntime) -> Result<(), Fail> {
-    let tray = Tray::open(rt.alloc(), 1)?;
+    let tray = good(Tray::open(rt.alloc(), 1))?;
     for (task, read, wrote) in [
         (Task::Copy, [1, 2, 3].as_slice(), [1, 2, 3].as_slice()),
         (Task::Rev, [1, 2, 3].as_slice(), [3, 2, 1].as_slice()),
@@ -67,7 +69,7 @@ fn bodies_that_read_one_range(rt: HostRuntime) -> Result<(), Fail> {
     ] {
         let mut stock = Stock::new(task);
         assert!(rt; stock.load(piece_of(rt.alloc(), &tray, 0, read)?).is_ok());
-        let write = Vec::from_elem(rt.alloc(), 9, wrote.len())?;
+        let write = good(Vec::from_elem(rt.alloc(), 9, wrote.len()))?;
         assert!(rt; stock.load(piece_of(rt.alloc(), &tray, 1, &write)?).is_ok());
         assert!(rt; writes(stock, wrote));
     }
@@ -76,7 +78,7 @@ fn bodies_that_read_one_range(rt: HostRuntime) -> Result<(), Fail> {
 
 #[test]
 fn bodies_that_read_two_ranges(rt: HostRuntime) -> Result<(), Fail> {
-    let tray = Tray::open(rt.alloc(), 1)?;
+    let tray = good(Tray::open(rt.alloc(), 1))?;
     for (task, wrote) in [(Task::Xor, [253, 2]), (Task::Add, [1, 4])] {
         let mut stock = Stock::new(task);
         assert!(rt;
@@ -93,7 +95,7 @@ fn bodies_that_read_two_ranges(rt: HostRuntime) -> Result<(), Fail> {
 
 #[test]
 fn a_piece_is_missing(rt: HostRuntime) -> Result<(), Fail> {
-    let tray = Tray::open(rt.alloc(), 1)?;
+    let tray = good(Tray::open(rt.alloc(), 1))?;
     let mut add = Stock::new(Task::Add);
     assert!(rt; add.load(piece_of(rt.alloc(), &tray, 0, &[255, 1])?).is_ok());
     assert!(rt; add.load(piece_of(rt.alloc(), &tray, 1, &[2, 3])?).is_ok());
@@ -106,12 +108,12 @@ fn a_piece_is_missing(rt: HostRuntime) -> Result<(), Fail> {
 
 #[test]
 fn a_body_performs(rt: HostRuntime) -> Result<(), Fail> {
-    let tray = Tray::open(rt.alloc(), 1)?;
+    let tray = good(Tray::open(rt.alloc(), 1))?;
     let mut body = Body::Stock(Stock::new(Task::Add));
     let mut pieces = Vec::new(rt.alloc());
-    pieces.push(piece_of(rt.alloc(), &tray, 0, &[255, 1])?)?;
-    pieces.push(piece_of(rt.alloc(), &tray, 1, &[2, 3])?)?;
-    pieces.push(piece_of(rt.alloc(), &tray, 2, &[0, 0])?)?;
+    good(pieces.push(piece_of(rt.alloc(), &tray, 0, &[255, 1])?))?;
+    good(pieces.push(piece_of(rt.alloc(), &tray, 1, &[2, 3])?))?;
+    good(pieces.push(piece_of(rt.alloc(), &tray, 2, &[0, 0])?))?;
     match body.perform(pieces) {
         Ok(back) => {
             assert!(rt; back.len() == 3 && body.has_run());
@@ -124,15 +126,15 @@ fn a_body_performs(rt: HostRuntime) -> Result<(), Fail> {
 
 #[test]
 fn a_dropped_body_sends_its_pieces_home(rt: HostRuntime) -> Result<(), Fail> {
-    let mut tray = Tray::open(rt.alloc(), 1)?;
-    let mut body: Box<dyn KernelBody + Send> = Box::new(rt.alloc(), Stock::new(Task::Copy))?;
+    let mut tray = good(Tray::open(rt.alloc(), 1))?;
+    let mut body: Box<dyn KernelBody + Send> = good(Box::new(rt.alloc(), Stock::new(Task::Copy)))?;
     assert!(rt; body.load(piece_of(rt.alloc(), &tray, 0, &[7])?).is_ok());
     assert!(rt; body.load(piece_of(rt.alloc(), &tray, 1, &[8])?).is_ok());
     assert!(rt; body.run().is_ok());
     drop(body);
-    let homes = tray.gather(rt.alloc())?;
+    let homes = good(tray.gather(rt.alloc()))?;
     assert!(rt; homes.len() == 2 && homes[1].bytes.as_slice() == [7].as_slice());
-    let homes = tray.gather(rt.alloc())?;
+    let homes = good(tray.gather(rt.alloc()))?;
     assert!(rt; homes.len() == 2 && homes[0].place == 0 && homes[1].place == 1);
     Ok(())
 }

@@ -1,5 +1,6 @@
 ghost use Rattle.std.specs.Prelude.{◌≡◌, ◌<◌, IfOk};
 
+use crate::calls::good;
 use hq_footprint::{Footprint, Range};
 use hq_ledger::{GrantFault, Grants, Home, Piece, Tray};
 use std::alloc::{AllocError, Global};
@@ -95,8 +96,8 @@ fn a_packet_in_the_way_is_named(rt: HostRuntime) -> Result<(), Fail> {
 
 #[test]
 fn a_piece_gives_its_bytes(rt: HostRuntime) -> Result<(), Fail> {
-    let tray = Tray::open(rt.alloc(), 4)?;
-    let mut piece = piece_of(rt.alloc(), &tray, 3, 2, 7)?;
+    let tray = good(Tray::open(rt.alloc(), 4))?;
+    let mut piece = good(piece_of(rt.alloc(), &tray, 3, 2, 7))?;
     assert!(rt; piece.is_of(3, 2) && !piece.is_of(3, 1) && !piece.is_of(2, 2));
     assert_eq!(rt; piece.at(), 4096);
     assert!(rt; piece.bytes() == [7, 7, 7, 7].as_slice());
@@ -108,20 +109,20 @@ fn a_piece_gives_its_bytes(rt: HostRuntime) -> Result<(), Fail> {
 
 #[test]
 fn dropped_pieces_come_home(rt: HostRuntime) -> Result<(), Fail> {
-    let mut tray = Tray::open(rt.alloc(), 4)?;
-    let late = piece_of(rt.alloc(), &tray, 1, 2, 8)?;
-    let opened = piece_of(rt.alloc(), &tray, 3, 0, 6)?;
-    drop(piece_of(rt.alloc(), &tray, 2, 1, 7)?);
-    drop(piece_of(rt.alloc(), &tray, 2, 0, 5)?);
+    let mut tray = good(Tray::open(rt.alloc(), 4))?;
+    let late = good(piece_of(rt.alloc(), &tray, 1, 2, 8))?;
+    let opened = good(piece_of(rt.alloc(), &tray, 3, 0, 6))?;
+    drop(good(piece_of(rt.alloc(), &tray, 2, 1, 7))?);
+    drop(good(piece_of(rt.alloc(), &tray, 2, 0, 5))?);
     assert_eq!(rt; opened.open().len(), 4);
-    let homes = tray.gather(rt.alloc())?;
+    let homes = good(tray.gather(rt.alloc()))?;
     assert_eq!(rt; homes.len(), 2);
     assert!(rt; homes[0].packet == 2 && homes[0].place == 0 && homes[0].at == 4096);
     assert!(rt; homes[0].bytes.as_slice() == [5, 5, 5, 5].as_slice());
     assert!(rt; homes[1].packet == 2 && homes[1].place == 1);
     assert!(rt; homes[1].bytes.as_slice() == [7, 7, 7, 7].as_slice());
     drop(late);
-    let homes = tray.gather(rt.alloc())?;
+    let homes = good(tray.gather(rt.alloc()))?;
     assert_eq!(rt; homes.len(), 3);
     assert!(rt; homes[0].packet == 1 && homes[0].place == 2 && homes[2].place == 1);
     Ok(())
@@ -139,11 +140,11 @@ fn what_is_refused_is_asked_for_once_more(rt: HostRuntime) -> Result<(), Fail> {
         assert_eq!(rt; grants.grant(0, &writer(4096, 4)), Ok(()));
     }
     assert!(rt; grants.is_out(0));
-    let mut tray = tray_of(rt.alloc(), 4)?;
-    drop_one(rt.alloc(), &tray, 2, 1, 7)?;
-    drop_one(rt.alloc(), &tray, 1, 2, 8)?;
-    drop_one(rt.alloc(), &tray, 2, 0, 5)?;
-    let homes = gathered(rt.alloc(), &mut tray)?;
+    let mut tray = good(tray_of(rt.alloc(), 4))?;
+    good(drop_one(rt.alloc(), &tray, 2, 1, 7))?;
+    good(drop_one(rt.alloc(), &tray, 1, 2, 8))?;
+    good(drop_one(rt.alloc(), &tray, 2, 0, 5))?;
+    let homes = good(gathered(rt.alloc(), &mut tray))?;
     assert_eq!(rt; homes.len(), 3);
     assert!(rt; homes[0].packet == 1 && homes[0].place == 2);
     assert!(rt; homes[0].bytes.as_slice() == [8, 8, 8, 8].as_slice());

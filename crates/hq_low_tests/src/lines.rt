@@ -1,3 +1,4 @@
+use crate::calls::good;
 use hq_footprint::Code;
 use hq_lines::{Line, LineFault, Version, first_line, line_behind_end, read_line};
 use hq_packet::{Packet, PacketFault};
@@ -10,9 +11,9 @@ use std::test::*;
 const PACKET: &[u8] =
     b"packet 02150100010001000100000004000000010000000100000000000000000000000100000000000000000100000000000000000000000000000000000000000000";
 
-/// What a line says. It has no contract, so that no test is proved over the bytes of its line.
-fn line_of(alloc: Global, line: &[u8]) -> Result<Line, LineFault> {
-    read_line(alloc, line)
+/// What a line says.
+fn line_of(alloc: Global, line: &[u8]) -> Result<Line, Fail> {
+    good(read_line(alloc, line))
 }
 
 fn is_name(name: Name, word: &str) -> bool {
@@ -182,7 +183,7 @@ fn faults(rt: HostRuntime) {
 
 /// A line with one of its bytes changed.
 fn changed(alloc: Global, line: &[u8], at: usize, byte: u8) -> Result<Vec<u8>, Fail> {
-    let mut line = Vec::from_slice(alloc, line)?;
+    let mut line = good(Vec::from_slice(alloc, line))?;
     if let Some(place) = line.get_mut(at) {
         *place = byte;
     }
@@ -208,18 +209,18 @@ fn packets(rt: HostRuntime) -> Result<(), Fail> {
 
 /// A line with 64 bytes, and more digits.
 fn long_line(alloc: Global, more: &[u8]) -> Result<Vec<u8>, Fail> {
-    let mut line = Vec::from_slice(alloc, b"args k 1 ")?;
+    let mut line = good(Vec::from_slice(alloc, b"args k 1 "))?;
     for _ in 0..64 {
-        line.extend_from_slice(b"aB")?;
+        good(line.extend_from_slice(b"aB"))?;
     }
-    line.extend_from_slice(more)?;
+    good(line.extend_from_slice(more))?;
     Ok(line)
 }
 
 #[test]
 fn long_args(rt: HostRuntime) -> Result<(), Fail> {
     let line = long_line(rt.alloc(), b"")?;
-    assert!(rt; line_of(rt.alloc(), &line).is_ok());
+    assert!(rt; read_line(rt.alloc(), &line).is_ok());
     for (more, fault) in [
         (b"0".as_slice(), LineFault::Hex),
         (b"00", LineFault::TooLong),

@@ -1,5 +1,6 @@
 ghost use Rattle.std.specs.Prelude.{◌≡◌, length};
 
+use crate::calls::good;
 use hq_text::{
     Name, ReadFault, TakesLines, TextFault, first_line, lines_of, number_of, read_lines, take_text,
     words_of,
@@ -33,13 +34,13 @@ impl Read for OneByOne {
 #[test]
 fn takes(rt: HostRuntime) -> Result<(), Fail> {
     let mut slice: &[u8] = b"hsaq 1\nend\n";
-    let text = take_text(rt.alloc(), &mut slice)?;
+    let text = good(take_text(rt.alloc(), &mut slice))?;
     assert_eq!(rt; text.as_slice(), b"hsaq 1\nend\n".as_slice());
     let mut reader = OneByOne {
         left: 1_999_999,
         fails: false,
     };
-    assert_eq!(rt; take_text(rt.alloc(), &mut reader)?.len(), 1_999_999);
+    assert_eq!(rt; good(take_text(rt.alloc(), &mut reader))?.len(), 1_999_999);
     for (left, fails) in [(2_000_000, false), (3, true), (0, true)] {
         let mut reader = OneByOne { left, fails };
         let taken = take_text(rt.alloc(), &mut reader);
@@ -142,20 +143,20 @@ fn takes_lines(rt: HostRuntime) {
 
 #[test]
 fn cuts(rt: HostRuntime) -> Result<(), Fail> {
-    assert_eq!(rt; lines_of(rt.alloc(), b"")?.len(), 0);
-    assert_eq!(rt; lines_of(rt.alloc(), b"a\nb")?.len(), 2);
-    let lines = lines_of(rt.alloc(), b"a\n\nb c\n")?;
+    assert_eq!(rt; good(lines_of(rt.alloc(), b""))?.len(), 0);
+    assert_eq!(rt; good(lines_of(rt.alloc(), b"a\nb"))?.len(), 2);
+    let lines = good(lines_of(rt.alloc(), b"a\n\nb c\n"))?;
     assert_eq!(rt; lines.as_slice(), [b"a".as_slice(), b"", b"b c"].as_slice());
-    assert_eq!(rt; lines_of(rt.alloc(), b"\n\n")?.len(), 2);
+    assert_eq!(rt; good(lines_of(rt.alloc(), b"\n\n"))?.len(), 2);
     assert!(rt; first_line(b"a\nb\n") == (b"a".as_slice(), b"b\n".as_slice()));
     assert!(rt; first_line(b"\n") == (b"".as_slice(), b"".as_slice()));
     assert!(rt; first_line(b"a b") == (b"a b".as_slice(), b"".as_slice()));
-    let words = words_of(rt.alloc(), b"a  b ")?;
+    let words = good(words_of(rt.alloc(), b"a  b "))?;
     assert_eq!(rt;
         words.as_slice(),
         [b"a".as_slice(), b"", b"b", b""].as_slice()
     );
-    assert_eq!(rt; words_of(rt.alloc(), b"")?.len(), 1);
+    assert_eq!(rt; good(words_of(rt.alloc(), b""))?.len(), 1);
     Ok(())
 }
 

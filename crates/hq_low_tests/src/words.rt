@@ -1,20 +1,21 @@
+use crate::calls::good;
 use hq_words::{Asked, WordsFault, command_of};
 use std::test::*;
 
 #[test]
 fn no_words_ask_for_an_audit(rt: HostRuntime) -> Result<(), Fail> {
-    let asked = command_of(rt.alloc(), &[])?;
+    let asked = good(command_of(rt.alloc(), &[]))?;
     assert!(rt; matches!(asked, Asked::Audit { job: "@" }));
     Ok(())
 }
 
 #[test]
 fn each_command_is_taken(rt: HostRuntime) -> Result<(), Fail> {
-    let asked = command_of(rt.alloc(), &["show", "a"])?;
+    let asked = good(command_of(rt.alloc(), &["show", "a"]))?;
     assert!(rt; matches!(asked, Asked::Show { job: "a" }));
-    let asked = command_of(rt.alloc(), &["audit", "a"])?;
+    let asked = good(command_of(rt.alloc(), &["audit", "a"]))?;
     assert!(rt; matches!(asked, Asked::Audit { job: "a" }));
-    let asked = command_of(rt.alloc(), &["check", "a", "b"])?;
+    let asked = good(command_of(rt.alloc(), &["check", "a", "b"]))?;
     assert!(rt;
         matches!(
             asked,
@@ -24,7 +25,7 @@ fn each_command_is_taken(rt: HostRuntime) -> Result<(), Fail> {
             }
         )
     );
-    let asked = command_of(rt.alloc(), &["replay", "a", "b"])?;
+    let asked = good(command_of(rt.alloc(), &["replay", "a", "b"]))?;
     assert!(rt;
         matches!(
             asked,
@@ -34,7 +35,7 @@ fn each_command_is_taken(rt: HostRuntime) -> Result<(), Fail> {
             }
         )
     );
-    let asked = command_of(rt.alloc(), &["chart", "a", "b"])?;
+    let asked = good(command_of(rt.alloc(), &["chart", "a", "b"]))?;
     assert!(rt;
         matches!(
             asked,
@@ -45,7 +46,7 @@ fn each_command_is_taken(rt: HostRuntime) -> Result<(), Fail> {
             }
         )
     );
-    let asked = command_of(rt.alloc(), &["chart", "a", "b", "--copies"])?;
+    let asked = good(command_of(rt.alloc(), &["chart", "a", "b", "--copies"]))?;
     assert!(rt;
         matches!(
             asked,
@@ -56,16 +57,16 @@ fn each_command_is_taken(rt: HostRuntime) -> Result<(), Fail> {
             }
         )
     );
-    let asked = command_of(rt.alloc(), &["graph", "a"])?;
+    let asked = good(command_of(rt.alloc(), &["graph", "a"]))?;
     assert!(rt; matches!(asked, Asked::Graph { job: "a" }));
-    let asked = command_of(rt.alloc(), &["pack", "and", "0"])?;
+    let asked = good(command_of(rt.alloc(), &["pack", "and", "0"]))?;
     assert!(rt; matches!(asked, Asked::Pack { .. }));
     Ok(())
 }
 
 #[test]
 fn what_changes_a_job_is_taken(rt: HostRuntime) -> Result<(), Fail> {
-    let asked = command_of(rt.alloc(), &["explain", "a", "--pair", "0", "2"])?;
+    let asked = good(command_of(rt.alloc(), &["explain", "a", "--pair", "0", "2"]))?;
     assert!(rt;
         matches!(
             asked,
@@ -77,7 +78,7 @@ fn what_changes_a_job_is_taken(rt: HostRuntime) -> Result<(), Fail> {
             }
         )
     );
-    let asked = command_of(rt.alloc(), &["explain", "a", "--all"])?;
+    let asked = good(command_of(rt.alloc(), &["explain", "a", "--all"]))?;
     assert!(rt;
         matches!(
             asked,
@@ -89,9 +90,9 @@ fn what_changes_a_job_is_taken(rt: HostRuntime) -> Result<(), Fail> {
             }
         )
     );
-    let asked = command_of(rt.alloc(), &["fix", "a"])?;
+    let asked = good(command_of(rt.alloc(), &["fix", "a"]))?;
     assert!(rt; matches!(asked, Asked::Fix { job: "a" }));
-    let asked = command_of(rt.alloc(), &["trim", "a"])?;
+    let asked = good(command_of(rt.alloc(), &["trim", "a"]))?;
     assert!(rt; matches!(asked, Asked::Trim { job: "a" }));
     Ok(())
 }

@@ -1,6 +1,7 @@
 //! Runs in which bodies fail.
 
 use crate::bodies::{Faulting, Opening, Refusing};
+use crate::calls::good;
 use crate::jobs::{accepted, run_with};
 use crate::texts::{EITHER, FILL_COPY_COPY};
 use hq_certcheck::Accepted;
@@ -27,7 +28,7 @@ fn fault_of<R: Threads + Wait + Sync>(
     accepted: &Accepted,
     bodies: Vec<(Place, Box<dyn KernelBody + Send>)>,
 ) -> Result<Told, Fail> {
-    let mut kits = stock_kits(alloc, accepted.job())?;
+    let mut kits = good(stock_kits(alloc, accepted.job()))?;
     for ((queue, place), body) in bodies {
         let Some(kit) = kits.get_mut(queue) else {
             return Err("there is this queue".into());
@@ -54,7 +55,10 @@ fn fault_of<R: Threads + Wait + Sync>(
 fn a_body_that_faults(rt: HostRuntime) -> Result<(), Fail> {
     let accepted = accepted(rt.alloc(), FILL_COPY_COPY)?;
     let mut bodies: Vec<(Place, Box<dyn KernelBody + Send>)> = Vec::new(rt.alloc());
-    bodies.push(((0, 2), Box::new(rt.alloc(), Faulting::new(Task::Copy))?))?;
+    good(bodies.push((
+        (0, 2),
+        good(Box::new(rt.alloc(), Faulting::new(Task::Copy)))?,
+    )))?;
     assert_eq!(rt; fault_of(&rt, rt.alloc(), &accepted, bodies)?, (2, 2, 0, 2));
     Ok(())
 }
@@ -63,7 +67,10 @@ fn a_body_that_faults(rt: HostRuntime) -> Result<(), Fail> {
 fn a_body_that_refuses_a_piece(rt: HostRuntime) -> Result<(), Fail> {
     let accepted = accepted(rt.alloc(), FILL_COPY_COPY)?;
     let mut bodies: Vec<(Place, Box<dyn KernelBody + Send>)> = Vec::new(rt.alloc());
-    bodies.push(((0, 2), Box::new(rt.alloc(), Refusing::new(Task::Copy))?))?;
+    good(bodies.push((
+        (0, 2),
+        good(Box::new(rt.alloc(), Refusing::new(Task::Copy)))?,
+    )))?;
     assert_eq!(rt; fault_of(&rt, rt.alloc(), &accepted, bodies)?, (2, 2, 0, 2));
     Ok(())
 }
@@ -72,7 +79,10 @@ fn a_body_that_refuses_a_piece(rt: HostRuntime) -> Result<(), Fail> {
 fn a_fault_ends_the_wait_of_others(rt: HostRuntime) -> Result<(), Fail> {
     let accepted = accepted(rt.alloc(), EITHER)?;
     let mut bodies: Vec<(Place, Box<dyn KernelBody + Send>)> = Vec::new(rt.alloc());
-    bodies.push(((0, 0), Box::new(rt.alloc(), Faulting::new(Task::Fill(7)))?))?;
+    good(bodies.push((
+        (0, 0),
+        good(Box::new(rt.alloc(), Faulting::new(Task::Fill(7))))?,
+    )))?;
     assert_eq!(rt; fault_of(&rt, rt.alloc(), &accepted, bodies)?, (0, 1, 0, 1));
     Ok(())
 }
@@ -81,7 +91,10 @@ fn a_fault_ends_the_wait_of_others(rt: HostRuntime) -> Result<(), Fail> {
 fn the_last_packet_faults(rt: HostRuntime) -> Result<(), Fail> {
     let accepted = accepted(rt.alloc(), EITHER)?;
     let mut bodies: Vec<(Place, Box<dyn KernelBody + Send>)> = Vec::new(rt.alloc());
-    bodies.push(((3, 0), Box::new(rt.alloc(), Faulting::new(Task::Copy))?))?;
+    good(bodies.push((
+        (3, 0),
+        good(Box::new(rt.alloc(), Faulting::new(Task::Copy)))?,
+    )))?;
     assert_eq!(rt; fault_of(&rt, rt.alloc(), &accepted, bodies)?, (4, 2, 0, 2));
     Ok(())
 }
@@ -90,7 +103,10 @@ fn the_last_packet_faults(rt: HostRuntime) -> Result<(), Fail> {
 fn a_piece_that_is_opened_is_lost(rt: HostRuntime) -> Result<(), Fail> {
     let accepted = accepted(rt.alloc(), FILL_COPY_COPY)?;
     let mut bodies: Vec<(Place, Box<dyn KernelBody + Send>)> = Vec::new(rt.alloc());
-    bodies.push(((0, 2), Box::new(rt.alloc(), Opening::new(Task::Copy))?))?;
+    good(bodies.push((
+        (0, 2),
+        good(Box::new(rt.alloc(), Opening::new(Task::Copy)))?,
+    )))?;
     assert_eq!(rt; fault_of(&rt, rt.alloc(), &accepted, bodies)?, (2, 1, 1, 1));
     Ok(())
 }
@@ -98,21 +114,21 @@ fn a_piece_that_is_opened_is_lost(rt: HostRuntime) -> Result<(), Fail> {
 #[test]
 fn a_body_that_holds_a_piece_of_another_tray(rt: HostRuntime) -> Result<(), Fail> {
     let accepted = accepted(rt.alloc(), FILL_COPY_COPY)?;
-    let mut tray = Tray::open(rt.alloc(), 1)?;
+    let mut tray = good(Tray::open(rt.alloc(), 1))?;
     let mut stock = Stock::new(Task::Copy);
-    let piece = Piece::new(
+    let piece = good(Piece::new(
         rt.alloc(),
         &tray,
         0,
         0,
         4096,
-        [7u8].as_slice().to_vec(rt.alloc())?,
-    )?;
+        good([7u8].as_slice().to_vec(rt.alloc()))?,
+    ))?;
     assert!(rt; stock.load(piece).is_ok());
     let mut bodies: Vec<(Place, Box<dyn KernelBody + Send>)> = Vec::new(rt.alloc());
-    bodies.push(((0, 2), Box::new(rt.alloc(), stock)?))?;
+    good(bodies.push(((0, 2), good(Box::new(rt.alloc(), stock))?)))?;
     assert_eq!(rt; fault_of(&rt, rt.alloc(), &accepted, bodies)?, (2, 2, 0, 2));
-    let homes = tray.gather(rt.alloc())?;
+    let homes = good(tray.gather(rt.alloc()))?;
     assert!(rt; homes.len() == 1 && homes[0].bytes.as_slice() == [7u8].as_slice());
     Ok(())
 }

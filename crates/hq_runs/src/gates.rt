@@ -1,5 +1,6 @@
 //! Gates that hold packets back.
 
+use crate::calls::good;
 use crate::jobs::{accepted, run_with};
 use crate::texts::TWO_FILLS;
 use hq_kernels::stock_kits;
@@ -39,7 +40,7 @@ impl Gate for SecondFirst {
 #[test]
 fn a_queue_that_is_held_back_holds_back_no_other(rt: HostRuntime) -> Result<(), Fail> {
     let accepted = accepted(rt.alloc(), TWO_FILLS)?;
-    let kits = stock_kits(rt.alloc(), accepted.job())?;
+    let kits = good(stock_kits(rt.alloc(), accepted.job()))?;
     let gate = SecondFirst {
         passed: AtomicBool::new(false),
         opened: AtomicBool::new(false),

@@ -9,6 +9,8 @@ mod boards;
 #[cfg(test)]
 mod bodies;
 #[cfg(test)]
+mod calls;
+#[cfg(test)]
 mod driving;
 #[cfg(test)]
 mod faults;

@@ -1,5 +1,6 @@
 //! Bodies that wait for each other, each in its own queue.
 
+use crate::calls::good;
 use crate::jobs::{accepted, run_with};
 use crate::texts::TWO_FILLS;
 use hq_footprint::Task;
@@ -95,7 +96,7 @@ fn two_that_meet(alloc: Global, faults: bool) -> Result<Vec<Kit>, AllocError> {
 #[test]
 fn bodies_run_side_by_side(rt: HostRuntime) -> Result<(), Fail> {
     let accepted = accepted(rt.alloc(), TWO_FILLS)?;
-    let kits = two_that_meet(rt.alloc(), false)?;
+    let kits = good(two_that_meet(rt.alloc(), false))?;
     let Ok(outcome) = run_with(&rt, rt.alloc(), &accepted, kits, &OpenGate)? else {
         return Err("both flags are up".into());
     };
@@ -106,7 +107,7 @@ fn bodies_run_side_by_side(rt: HostRuntime) -> Result<(), Fail> {
 #[test]
 fn of_two_faults_the_least_packet_is_told(rt: HostRuntime) -> Result<(), Fail> {
     let accepted = accepted(rt.alloc(), TWO_FILLS)?;
-    let kits = two_that_meet(rt.alloc(), true)?;
+    let kits = good(two_that_meet(rt.alloc(), true))?;
     let Err(
         RunFault::Kernel {
             packet,

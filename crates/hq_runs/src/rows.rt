@@ -1,5 +1,6 @@
 //! Worked jobs, each driven through the hall by one thread, in two orders.
 
+use crate::calls::good;
 use crate::driving::{in_order, leaves, side_by_side};
 use crate::jobs::accept_text;
 use crate::texts::*;
@@ -61,7 +62,7 @@ fn holds(alloc: Global, text: &[u8], memory: &[u8]) -> bool {
 #[test]
 fn each_worked_job_leaves_its_memory(rt: HostRuntime) -> Result<(), Fail> {
     for (place, row) in ROWS.iter().enumerate() {
-        let text = joined(rt.alloc(), row.0)?;
+        let text = good(joined(rt.alloc(), row.0))?;
         assert!(rt; holds(rt.alloc(), &text, row.1), "row {place}");
     }
     Ok(())
@@ -69,11 +70,11 @@ fn each_worked_job_leaves_its_memory(rt: HostRuntime) -> Result<(), Fail> {
 
 #[test]
 fn sixty_five_fills(rt: HostRuntime) -> Result<(), Fail> {
-    let mut text = joined(rt.alloc(), &[HEAD, BUFFER, b"queue q a 128\n"])?;
+    let mut text = good(joined(rt.alloc(), &[HEAD, BUFFER, b"queue q a 128\n"]))?;
     for _ in 0..65 {
-        text.extend_from_slice(FILL)?;
+        good(text.extend_from_slice(FILL))?;
     }
-    text.extend_from_slice(b"end\n")?;
+    good(text.extend_from_slice(b"end\n"))?;
     assert!(rt; holds(rt.alloc(), &text, &[7, 7, 7, 7, 0, 0, 0, 0]));
     Ok(())
 }

@@ -1,3 +1,4 @@
+use crate::calls::good;
 use crate::readers::Pieces;
 use hq_cert::Certificate;
 use hq_certread::{CertFault, CertReason, ReadFault, parse, read};
@@ -10,9 +11,9 @@ use std::test::*;
 const TEXT: &[u8] =
     b"hsac 2\norder 0 1 2 3\nline 0 0 1 bit 0\nline 1 1 2 queue\nline 2 2 3 and 0\nline 3 0 2 or = 1\nline 4 0 2 through 0 1\npair 0 1 rw 0\npair 0 3 ww 0 = 2\npair 1 3 wr 1 2 = 1 2\npair 0 3 wwc 0 1 = 0 2\npair 0 3 wrc 0 1 2 3 = 0 1 2 =\nend\n";
 
-/// The certificate of a text. It has no contract, so that no test is proved over the bytes of its text.
+/// The certificate of a text.
 fn certificate_of(alloc: Global, text: &[u8]) -> Result<Certificate, Fail> {
-    Ok(parse(alloc, text)?)
+    good(parse(alloc, text))
 }
 
 #[test]
@@ -22,7 +23,7 @@ fn printed_again(rt: HostRuntime) -> Result<(), Fail> {
     assert_eq!(rt; certificate.lines().len(), 5);
     assert_eq!(rt; certificate.pairs().len(), 5);
     let mut text = Vec::new(rt.alloc());
-    print(rt.alloc(), &certificate, &mut text)?;
+    good(print(rt.alloc(), &certificate, &mut text))?;
     assert!(rt; text.as_slice() == TEXT);
     Ok(())
 }
@@ -31,7 +32,7 @@ fn printed_again(rt: HostRuntime) -> Result<(), Fail> {
 fn plain_head(rt: HostRuntime) -> Result<(), Fail> {
     let certificate = certificate_of(rt.alloc(), b"hsac 2\norder\nend")?;
     let mut text = Vec::new(rt.alloc());
-    print(rt.alloc(), &certificate, &mut text)?;
+    good(print(rt.alloc(), &certificate, &mut text))?;
     assert!(rt; text.as_slice() == b"hsac 1\norder\nend\n".as_slice());
     Ok(())
 }
@@ -82,9 +83,9 @@ fn faults(rt: HostRuntime) {
 fn read_in_pieces(rt: HostRuntime) -> Result<(), Fail> {
     for len in 1..40 {
         let mut reader = Pieces::new(TEXT, len, 1000);
-        let certificate = read(rt.alloc(), &mut reader)?;
+        let certificate = good(read(rt.alloc(), &mut reader))?;
         let mut text = Vec::new(rt.alloc());
-        print(rt.alloc(), &certificate, &mut text)?;
+        good(print(rt.alloc(), &certificate, &mut text))?;
         assert!(rt; text.as_slice() == TEXT);
     }
     Ok(())

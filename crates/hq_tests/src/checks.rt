@@ -1,3 +1,4 @@
+use crate::calls::good;
 use crate::jobs::job_of;
 use hq_cert::{Certificate, Fences, Line, Pair, Rule};
 use hq_certcheck::{Accepted, CheckNo, check, check_wide};
@@ -31,24 +32,24 @@ fn refused_wide<R: Threads + Sync>(
 
 #[test]
 fn two_barrier_packets(rt: HostRuntime) -> Result<(), Fail> {
-    let packet = format!(in rt.alloc(); "packet 03{:0126}\n", 0)?;
-    let text = format!(in rt.alloc(); "hsaq 1\nagent a\nqueue q a 4\n{packet}{packet}end")?;
+    let packet = good(format!(in rt.alloc(); "packet 03{:0126}\n", 0))?;
+    let text = good(format!(in rt.alloc(); "hsaq 1\nagent a\nqueue q a 4\n{packet}{packet}end"))?;
     let job = job_of(rt.alloc(), text.as_bytes())?;
-    let lines = vec![in rt.alloc();
+    let lines = good(vec![in rt.alloc();
         Line {
             p: 0,
             r: 1,
             rule: Rule::Queue
         },
-    ]?;
-    let pairs = vec![in rt.alloc();
+    ])?;
+    let pairs = good(vec![in rt.alloc();
         Pair {
             p: 0,
             r: 1,
             fences: Fences::ReadWrite(0)
         },
-    ]?;
-    let certificate = Certificate::new(vec![in rt.alloc(); 0, 1]?, lines, pairs);
+    ])?;
+    let certificate = Certificate::new(good(vec![in rt.alloc(); 0, 1])?, lines, pairs);
     let Some(accepted) = accepted(rt.alloc(), job, &certificate) else {
         return Err("a certificate that holds".into());
     };
@@ -60,13 +61,13 @@ fn two_barrier_packets(rt: HostRuntime) -> Result<(), Fail> {
 #[test]
 fn a_line_that_cites_itself(rt: HostRuntime) -> Result<(), Fail> {
     let job = job_of(rt.alloc(), b"hsaq 1\nend")?;
-    let lines = vec![in rt.alloc();
+    let lines = good(vec![in rt.alloc();
         Line {
             p: 0,
             r: 0,
             rule: Rule::Through(0, 0)
         },
-    ]?;
+    ])?;
     let certificate = Certificate::new(Vec::new(rt.alloc()), lines, Vec::new(rt.alloc()));
     let Some((no, job)) = refused(rt.alloc(), job, &certificate) else {
         return Err("a line that holds".into());

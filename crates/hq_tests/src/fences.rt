@@ -1,3 +1,4 @@
+use crate::calls::good;
 use crate::jobs::job_of;
 use hq_fence::{Acquire, NotShown, Release, Shown, judge};
 use hq_finding::{Kind, Why};
@@ -9,7 +10,7 @@ fn a_store_and_a_count_of_it(rt: HostRuntime) -> Result<(), Fail> {
     let text =
         b"hsaq 1\nagent a\nbuffer b 16 16\nqueue q a 4\npacket 04140080000000001000000000000000000000000000000000000000000000000000000000000000000000000000000000000000000000000000000000000000\npacket 04150180000000001800000000000000100000000000000008000000000000000000000000000000000000000000000000000000000000000000000000000000\nend";
     let job = job_of(rt.alloc(), text)?;
-    let before = Before::build(rt.alloc(), &job)?;
+    let before = good(Before::build(rt.alloc(), &job))?;
     if before.len() != 2 {
         return Err("two packets".into());
     }
@@ -27,7 +28,7 @@ fn a_count_that_does_not_acquire(rt: HostRuntime) -> Result<(), Fail> {
     let text =
         b"hsaq 1\nagent a\nbuffer b 16 16\nqueue q a 4\npacket 04140080000000001000000000000000000000000000000000000000000000000000000000000000000000000000000000000000000000000000000000000000\npacket 04110180000000001800000000000000100000000000000008000000000000000000000000000000000000000000000000000000000000000000000000000000\nend";
     let job = job_of(rt.alloc(), text)?;
-    let before = Before::build(rt.alloc(), &job)?;
+    let before = good(Before::build(rt.alloc(), &job))?;
     if before.len() != 2 {
         return Err("two packets".into());
     }

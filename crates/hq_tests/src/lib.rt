@@ -6,6 +6,8 @@
 #[cfg(test)]
 mod audits;
 #[cfg(test)]
+mod calls;
+#[cfg(test)]
 mod certificates;
 #[cfg(test)]
 mod checks;

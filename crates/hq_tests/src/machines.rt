@@ -1,6 +1,7 @@
 ghost use Rattle.hq_job.specs.Plan.{plan};
 ghost use Rattle.hq_machine.specs.View.{IsStateOf};
 
+use crate::calls::good;
 use crate::jobs::job_of;
 use hq_footprint::evaluate;
 use hq_footprint::laws::{bytes_counted, entries_counted};
@@ -59,10 +60,10 @@ fn ends(alloc: Global, job: &Job, journal: &Journal) -> Result<bool, StepFault> 
 fn work_is_left_until_the_end(rt: HostRuntime) -> Result<(), Fail> {
     let job = job_of(rt.alloc(), JOB)?;
     let mut journal = Journal::new(rt.alloc());
-    add_steps(&mut journal, 0, 0, 0)?;
-    add_steps(&mut journal, 1, 4, 4)?;
+    good(add_steps(&mut journal, 0, 0, 0))?;
+    good(add_steps(&mut journal, 1, 4, 4))?;
     assert_eq!(rt; journal.events().len(), 34);
-    assert!(rt; ends(rt.alloc(), &job, &journal)?);
+    assert!(rt; good(ends(rt.alloc(), &job, &journal))?);
     Ok(())
 }
 
@@ -115,8 +116,8 @@ fn reads_a_byte(alloc: Global, job: &Job) -> Result<bool, StepFault> {
 #[test]
 fn single_steps_show(rt: HostRuntime) -> Result<(), Fail> {
     let job = job_of(rt.alloc(), JOB)?;
-    assert!(rt; stores_a_byte(rt.alloc(), &job)?);
-    assert!(rt; reads_a_byte(rt.alloc(), &job)?);
+    assert!(rt; good(stores_a_byte(rt.alloc(), &job))?);
+    assert!(rt; good(reads_a_byte(rt.alloc(), &job))?);
     Ok(())
 }
 
@@ -157,6 +158,6 @@ fn runs_from_outside(alloc: Global, job: &Job) -> Result<bool, StepFault> {
 #[test]
 fn bytes_from_outside_are_delivered(rt: HostRuntime) -> Result<(), Fail> {
     let job = job_of(rt.alloc(), JOB)?;
-    assert!(rt; runs_from_outside(rt.alloc(), &job)?);
+    assert!(rt; good(runs_from_outside(rt.alloc(), &job))?);
     Ok(())
 }

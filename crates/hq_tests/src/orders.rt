@@ -1,3 +1,4 @@
+use crate::calls::good;
 use crate::jobs::job_of;
 use hq_order::Before;
 use hq_schedule::schedule;
@@ -7,8 +8,8 @@ use std::test::*;
 #[test]
 fn no_packets(rt: HostRuntime) -> Result<(), Fail> {
     let job = job_of(rt.alloc(), b"hsaq 1\nend")?;
-    assert_eq!(rt; schedule(rt.alloc(), &job)?.len(), 0);
-    let before = Before::build(rt.alloc(), &job)?;
+    assert_eq!(rt; good(schedule(rt.alloc(), &job))?.len(), 0);
+    let before = good(Before::build(rt.alloc(), &job))?;
     assert_eq!(rt; before.len(), 0);
     assert!(rt; !before.holds(0, 0));
     assert_eq!(rt; before.round(0, 0), None);
@@ -24,7 +25,7 @@ fn a_barrier_that_waits_for_itself(rt: HostRuntime) -> Result<(), Fail> {
         return Err("no packet is stuck".into());
     };
     assert_eq!(rt; packets.as_slice(), [0].as_slice());
-    let before = Before::build(rt.alloc(), &job)?;
+    let before = good(Before::build(rt.alloc(), &job))?;
     assert!(rt; before.holds(0, 0));
     assert_eq!(rt; before.round(0, 0), Some(0));
     Ok(())

@@ -1,3 +1,4 @@
+use crate::calls::good;
 use crate::readers::Pieces;
 use hq_machine::{Event, Journal};
 use hq_timeline::{ReadFault, TimeFault, TimeReason, parse, print, read};
@@ -8,9 +9,9 @@ use std::test::*;
 /// Lines of no, one and two numbers.
 const TEXT: &[u8] = b"hsat 1\nsubmit\nlaunch 0\nobserve 1 4294967295\npushlane 1023 65535\nend\n";
 
-/// The journal of a text. It has no contract, so that no test is proved over the bytes of its text.
+/// The journal of a text.
 fn journal_of(alloc: Global, text: &[u8]) -> Result<Journal, Fail> {
-    Ok(parse(alloc, text)?)
+    good(parse(alloc, text))
 }
 
 #[test]
@@ -18,7 +19,7 @@ fn printed_again(rt: HostRuntime) -> Result<(), Fail> {
     let journal = journal_of(rt.alloc(), TEXT)?;
     assert_eq!(rt; journal.events().len(), 4);
     let mut text = Vec::new(rt.alloc());
-    print(rt.alloc(), &journal, &mut text)?;
+    good(print(rt.alloc(), &journal, &mut text))?;
     assert!(rt; text.as_slice() == TEXT);
     Ok(())
 }
@@ -26,11 +27,11 @@ fn printed_again(rt: HostRuntime) -> Result<(), Fail> {
 #[test]
 fn each_event(rt: HostRuntime) -> Result<(), Fail> {
     let mut journal = Journal::new(rt.alloc());
-    journal.push(Event::Complete { packet: 7 })?;
-    journal.push(Event::Finish { packet: 7 })?;
-    journal.push(Event::DropAgent { agent: 1, byte: 2 })?;
+    good(journal.push(Event::Complete { packet: 7 }))?;
+    good(journal.push(Event::Finish { packet: 7 }))?;
+    good(journal.push(Event::DropAgent { agent: 1, byte: 2 }))?;
     let mut text = Vec::new(rt.alloc());
-    print(rt.alloc(), &journal, &mut text)?;
+    good(print(rt.alloc(), &journal, &mut text))?;
     assert!(rt;
         text.as_slice() == b"hsat 1\ncomplete 7\nfinish 7\ndropagent 1 2\nend\n".as_slice()
     );
@@ -66,9 +67,9 @@ fn faults(rt: HostRuntime) {
 #[test]
 fn read_in_pieces(rt: HostRuntime) -> Result<(), Fail> {
     for len in 1..40 {
-        let journal = read(rt.alloc(), &mut Pieces::new(TEXT, len, 1000))?;
+        let journal = good(read(rt.alloc(), &mut Pieces::new(TEXT, len, 1000)))?;
         let mut text = Vec::new(rt.alloc());
-        print(rt.alloc(), &journal, &mut text)?;
+        good(print(rt.alloc(), &journal, &mut text))?;
         assert!(rt; text.as_slice() == TEXT);
     }
     Ok(())

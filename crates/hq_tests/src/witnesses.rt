@@ -1,6 +1,7 @@
 ghost use Rattle.hq_job.specs.Plan.{plan};
 ghost use Rattle.hq_machine.specs.View.{IsStateOf};
 
+use crate::calls::good;
 use hq_job::{Job, read_text};
 use hq_machine::{Event, Journal, State, StepFault};
 use hq_timeline::replay;
