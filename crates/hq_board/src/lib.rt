@@ -8,7 +8,8 @@ mod fault;
 mod known;
 pub mod laws;
 mod rule;
-mod seat;mod words;
+mod seat;
+mod words;
 
 pub use board::Board;
 pub use entry::{Entry, View};
