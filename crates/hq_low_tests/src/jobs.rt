@@ -1,7 +1,6 @@
 use crate::calls::good;
-use hq_job::{Job, JobFault, Reason, read, read_text, rewrite};
-use hq_packet::{Head, Scope};
-use std::alloc::{AllocError, Global};
+use hq_job::{Job, JobFault, Reason, read, read_text};
+use std::alloc::Global;
 use std::io;
 use std::io::Read;
 use std::test::*;
@@ -75,87 +74,4 @@ fn a_failing_reader(rt: HostRuntime) {
             reason: Reason::Read
         })
     );
-}
-
-/// Appends the line of a barrier packet that waits for nothing and completes on nothing, whose head has these digits.
-fn push_packet(text: &mut Vec<u8>, head: &[u8]) -> Result<(), AllocError> {
-    text.extend_from_slice(b"packet 03".as_slice())?;
-    text.extend_from_slice(head)?;
-    text.extend_from_slice([b'0'; 124].as_slice())?;
-    text.extend_from_slice(b"\n".as_slice())?;
-    Ok(())
-}
-
-/// A job of two queues with a packet each, of which that of the second queue is submitted first, and these digits for
-/// their heads, in the order of the lines. The last line has no line feed.
-fn two_packets(alloc: Global, first: &[u8], second: &[u8]) -> Result<Vec<u8>, AllocError> {
-    let mut text = Vec::new(alloc);
-    text.extend_from_slice(b"hsaq 2\nagent a\nqueue q a 2\nqueue r a 2\n".as_slice())?;
-    push_packet(&mut text, first)?;
-    text.extend_from_slice(b"to q\n".as_slice())?;
-    push_packet(&mut text, second)?;
-    text.extend_from_slice(b"end".as_slice())?;
-    Ok(text)
-}
-
-/// The text of such a job with other heads, by number.
-fn with_heads(alloc: Global, text: &[u8], heads: &[Head]) -> Result<Vec<u8>, Fail> {
-    let job = job_of(alloc, text)?;
-    if heads.len() != job.packets().len() {
-        return Err("another number of packets".into());
-    }
-    good(rewrite(alloc, text, &job, heads))
-}
-
-/// The same with its own.
-fn with_own_heads(alloc: Global, text: &[u8]) -> Result<Vec<u8>, Fail> {
-    let job = job_of(alloc, text)?;
-    let heads = good(job.heads(alloc))?;
-    good(rewrite(alloc, text, &job, &heads))
-}
-
-#[test]
-fn a_text_with_its_own_heads(rt: HostRuntime) -> Result<(), Fail> {
-    let text = good(two_packets(rt.alloc(), b"00".as_slice(), b"0B".as_slice()))?;
-    let same = with_own_heads(rt.alloc(), &text)?;
-    assert_eq!(rt; same.as_slice(), text.as_slice());
-    Ok(())
-}
-
-#[test]
-fn a_text_with_other_heads(rt: HostRuntime) -> Result<(), Fail> {
-    let text = good(two_packets(rt.alloc(), b"00".as_slice(), b"0B".as_slice()))?;
-    let lower = Head {
-        barrier: false,
-        acquire: Scope::Agent,
-        release: Scope::Agent,
-    };
-    let higher = Head {
-        barrier: true,
-        acquire: Scope::System,
-        release: Scope::System,
-    };
-    let new = with_heads(rt.alloc(), &text, &[lower, higher])?;
-    let wanted = good(two_packets(rt.alloc(), b"15".as_slice(), b"0a".as_slice()))?;
-    assert_eq!(rt; new.as_slice(), wanted.as_slice());
-    Ok(())
-}
-
-#[test]
-fn a_text_with_one_other_head(rt: HostRuntime) -> Result<(), Fail> {
-    let text = good(two_packets(rt.alloc(), b"00".as_slice(), b"0B".as_slice()))?;
-    let same = Head {
-        barrier: true,
-        acquire: Scope::Agent,
-        release: Scope::Agent,
-    };
-    let other = Head {
-        barrier: true,
-        acquire: Scope::None,
-        release: Scope::None,
-    };
-    let new = with_heads(rt.alloc(), &text, &[same, other])?;
-    let wanted = good(two_packets(rt.alloc(), b"01".as_slice(), b"0B".as_slice()))?;
-    assert_eq!(rt; new.as_slice(), wanted.as_slice());
-    Ok(())
 }
