@@ -96,7 +96,9 @@ fn a_packet_in_the_way_is_named(rt: HostRuntime) -> Result<(), Fail> {
 
 #[test]
 fn a_piece_gives_its_bytes(rt: HostRuntime) -> Result<(), Fail> {
-    let tray = good(Tray::open(rt.alloc(), 4))?;
+    let Ok(tray) = Tray::open(rt.alloc(), 4) else {
+        return Err("there is memory".into());
+    };
     let mut piece = good(piece_of(rt.alloc(), &tray, 3, 2, 7))?;
     assert!(rt; piece.is_of(3, 2) && !piece.is_of(3, 1) && !piece.is_of(2, 2));
     assert_eq!(rt; piece.at(), 4096);
@@ -109,7 +111,9 @@ fn a_piece_gives_its_bytes(rt: HostRuntime) -> Result<(), Fail> {
 
 #[test]
 fn dropped_pieces_come_home(rt: HostRuntime) -> Result<(), Fail> {
-    let mut tray = good(Tray::open(rt.alloc(), 4))?;
+    let Ok(mut tray) = Tray::open(rt.alloc(), 4) else {
+        return Err("there is memory".into());
+    };
     let late = good(piece_of(rt.alloc(), &tray, 1, 2, 8))?;
     let opened = good(piece_of(rt.alloc(), &tray, 3, 0, 6))?;
     drop(good(piece_of(rt.alloc(), &tray, 2, 1, 7))?);
@@ -140,7 +144,9 @@ fn what_is_refused_is_asked_for_once_more(rt: HostRuntime) -> Result<(), Fail> {
         assert_eq!(rt; grants.grant(0, &writer(4096, 4)), Ok(()));
     }
     assert!(rt; grants.is_out(0));
-    let mut tray = good(tray_of(rt.alloc(), 4))?;
+    let Ok(mut tray) = tray_of(rt.alloc(), 4) else {
+        return Err("there is memory".into());
+    };
     good(drop_one(rt.alloc(), &tray, 2, 1, 7))?;
     good(drop_one(rt.alloc(), &tray, 1, 2, 8))?;
     good(drop_one(rt.alloc(), &tray, 2, 0, 5))?;
