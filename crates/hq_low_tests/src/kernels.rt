@@ -121,9 +121,15 @@ fn a_body_performs(rt: HostRuntime) -> Result<(), Fail> {
     };
     let mut body = Body::Stock(Stock::new(Task::Add));
     let mut pieces = Vec::new(rt.alloc());
-    good(pieces.push(piece_of(rt.alloc(), &tray, 0, &[255, 1])?))?;
-    good(pieces.push(piece_of(rt.alloc(), &tray, 1, &[2, 3])?))?;
-    good(pieces.push(piece_of(rt.alloc(), &tray, 2, &[0, 0])?))?;
+    let Ok(()) = pieces.push(piece_of(rt.alloc(), &tray, 0, &[255, 1])?) else {
+        return Err("there is memory".into());
+    };
+    let Ok(()) = pieces.push(piece_of(rt.alloc(), &tray, 1, &[2, 3])?) else {
+        return Err("there is memory".into());
+    };
+    let Ok(()) = pieces.push(piece_of(rt.alloc(), &tray, 2, &[0, 0])?) else {
+        return Err("there is memory".into());
+    };
     match body.perform(pieces) {
         Ok(back) => {
             assert!(rt; back.len() == 3 && body.has_run());

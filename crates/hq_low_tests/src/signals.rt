@@ -1,4 +1,3 @@
-use crate::calls::good;
 use hq_signals::{Signal, SignalFault, SignalTable, Undershoot};
 use std::test::*;
 
@@ -18,7 +17,9 @@ fn a_signal_counts_down(rt: HostRuntime) {
 fn more_decrementers_than_the_start(rt: HostRuntime) -> Result<(), Fail> {
     let mut table = SignalTable::new(rt.alloc());
     assert!(rt; table.is_empty());
-    good(table.open(9, 2))?;
+    let Ok(()) = table.open(9, 2) else {
+        return Err("there is memory".into());
+    };
     table.note_decrement(9);
     table.note_decrement(9);
     assert_eq!(rt; table.verdict(), Ok(()));
@@ -30,7 +31,9 @@ fn more_decrementers_than_the_start(rt: HostRuntime) -> Result<(), Fail> {
 #[test]
 fn a_waited_signal_with_too_few_decrementers(rt: HostRuntime) -> Result<(), Fail> {
     let mut table = SignalTable::new(rt.alloc());
-    good(table.open(9, 2))?;
+    let Ok(()) = table.open(9, 2) else {
+        return Err("there is memory".into());
+    };
     table.note_decrement(9);
     assert_eq!(rt; table.verdict(), Ok(()));
     table.note_wait(9);
@@ -43,8 +46,12 @@ fn a_waited_signal_with_too_few_decrementers(rt: HostRuntime) -> Result<(), Fail
 #[test]
 fn places_in_order_of_opening(rt: HostRuntime) -> Result<(), Fail> {
     let mut table = SignalTable::new(rt.alloc());
-    good(table.open(10, 0))?;
-    good(table.open(9, 9223372036854775807))?;
+    let Ok(()) = table.open(10, 0) else {
+        return Err("there is memory".into());
+    };
+    let Ok(()) = table.open(9, 9223372036854775807) else {
+        return Err("there is memory".into());
+    };
     assert_eq!(rt; table.len(), 2);
     assert!(rt; table.has(9));
     assert!(rt; !table.has(8));
@@ -58,8 +65,12 @@ fn places_in_order_of_opening(rt: HostRuntime) -> Result<(), Fail> {
 #[test]
 fn an_undershot_signal_comes_first(rt: HostRuntime) -> Result<(), Fail> {
     let mut table = SignalTable::new(rt.alloc());
-    good(table.open(12, 1))?;
-    good(table.open(10, 0))?;
+    let Ok(()) = table.open(12, 1) else {
+        return Err("there is memory".into());
+    };
+    let Ok(()) = table.open(10, 0) else {
+        return Err("there is memory".into());
+    };
     table.note_wait(12);
     assert_eq!(rt; table.verdict(), Err(SignalFault::NeverZero(12)));
     assert!(rt; table.has(10));
