@@ -1,14 +1,15 @@
 //! The lines that pair lines cite, where these are there.
 
-ghost use Rattle.std.specs.Prelude.{◌≡◌, ℕ, IfSome, IsTrue, length, map};
-ghost use Rattle.hq_model.specs.Order as order;
+ghost use Rattle.std.specs.Prelude.{◌≡◌, ℕ, IfSome, IsTrue, false, length, map};
 ghost use Rattle.hq_model.specs.Fence as model;
-ghost use Rattle.hq_model.specs.Certificate.{Cites, kind_of};
+ghost use Rattle.hq_model.specs.Certificate.{Cites, FencesHold, kind_of};
+ghost use Rattle.hq_model.specs.Certificate.Fences.{ForWriteWrite, ForWriteRead, ForWriteWriteChained};
+ghost use Rattle.hq_model.specs.Certificate.Fences.{ForWriteReadChained};
 ghost use Rattle.hq_cert.specs.View.{cited, fences_of, pair_of};
 ghost use Rattle.hq_fence.specs.Judgement.{IsRelease, IsAcquire, ReleasesBefore, ReleasesToAcquire};
 ghost use Rattle.hq_fence.specs.declared.shown.Release.TheVariants as release;
 ghost use Rattle.hq_packet.specs.declared.packet.Scope.TheVariants as scope;
-ghost use Rattle.hq_derive.specs.Kept.{lines_of, Kept};
+ghost use Rattle.hq_derive.specs.Kept.{lines_of, AllEntered, Kept};
 ghost use Rattle.hq_audit.specs.Drafted.{acquire_by, release_by, Drafted, AllDrafted};
 ghost use Rattle.hq_audit.specs.Paired.{pairs_of, ReleaseCited, AcquireCited, AllHold, SameHeads};
 ghost use Rattle.hq_audit.specs.Rowed.{Holds, AllMayDraft, AllMayCite, CitesPart, CitesRows, DraftsRows};
@@ -17,7 +18,6 @@ use crate::drafting::Drafts;
 use hq_cert::{Citation, Fences, Pair, ReadChain, WriteChain};
 use hq_derive::Lines;
 use hq_order::Before;
-use std::alloc::Global;
 use std::thread;
 use std::thread::Threads;
 
@@ -41,6 +41,7 @@ pub struct CitedAcquire {
 
 /// The citation that p is x, or before it, if its line is there.
 fn cite(lines: &Lines, p: usize, x: usize) -> Option<Citation>
+    requires { AllEntered lines.now }
     ensures { IfSome result
         (λ citation. Cites (lines_of lines.now) (length (lines_of lines.now)) (cited citation) p x) }
 {
@@ -51,43 +52,49 @@ fn cite(lines: &Lines, p: usize, x: usize) -> Option<Citation>
     Some(Citation::line(number))
 }
 
-/// What orders two writes, where x alone releases p.
-fn write_write(lines: &Lines, before: &Before, p: usize, r: usize, x: u32) -> Option<Fences>
-    requires released { ReleasesBefore before.now p r (release.Alone x) }
-    ensures { IfSome result (Holds before.now (lines_of lines.now) model.Conflict.WriteWrite p r) }
-{
-    let from = cite(lines, p, x as usize)?;
-    let on = lines.known(x as usize, r)?;
-    Some(Fences::WriteWrite { x, from, on })
-}
-
-/// What orders two writes, where a release of p goes on from x to x2.
-fn write_chain(
+/// The numbers of the lines by which x, which alone releases p, orders two writes, if these are there.
+#[inline(always)]
+fn write_write(
     lines: &Lines,
-    alloc: Global,
     before: &Before,
     p: usize,
     r: usize,
     x: u32,
-    x2: u32,
-) -> Option<Fences>
-    requires released { ReleasesBefore before.now p r (release.Chained x x2) }
-    ensures { IfSome result (Holds before.now (lines_of lines.now) model.Conflict.WriteWrite p r) }
+) -> Option<(Citation, u32)>
+    requires entered { AllEntered lines.now }
+    requires released { ReleasesBefore before.now p r (release.Alone x) }
+    ensures { IfSome result
+        (λ n. FencesHold before.now (lines_of lines.now) p r (ForWriteWrite x (cited n.0) n.1)) }
 {
     let from = cite(lines, p, x as usize)?;
-    let link = lines.known(x as usize, x2 as usize)?;
-    let on = lines.known(x2 as usize, r)?;
-    let chain = WriteChain {
-        x,
-        x2,
+    let on = lines.known(x as usize, r)?;
+    Some((from, on))
+}
+
+/// A release of p that goes on from x to x2, with the numbers of the lines by which it orders two writes, if these are
+/// there.
+fn write_chain(
+    lines: &Lines,
+    before: &Before,
+    p: usize,
+    r: usize,
+    chain: WriteChain,
+) -> Option<WriteChain>
+    requires entered { AllEntered lines.now }
+    requires released { ReleasesBefore before.now p r (release.Chained chain.x chain.x2) }
+    ensures { IfSome result
+        (λ c. FencesHold before.now (lines_of lines.now) p r (ForWriteWriteChained c.x c.x2 (cited c.from) c.link c.on)) }
+{
+    let from = cite(lines, p, chain.x as usize)?;
+    let link = lines.known(chain.x as usize, chain.x2 as usize)?;
+    let on = lines.known(chain.x2 as usize, r)?;
+    Some(WriteChain {
+        x: chain.x,
+        x2: chain.x2,
         from,
         link,
         on,
-    };
-    match Box::new(alloc, chain) {
-        Ok(chain) => Some(Fences::WriteWriteChained(chain)),
-        Err(_) => None,
-    }
+    })
 }
 
 /// What is cited for a release of p: by x alone where the link is `=`, else from x to x2.
@@ -100,6 +107,7 @@ fn cite_release(
     x2: u32,
     link: Citation,
 ) -> Option<CitedRelease>
+    requires entered { AllEntered lines.now }
     requires release { IsRelease before.now p r (release_by x x2 (cited link)) }
     ensures { IfSome result (λ c. ReleaseCited before.now (lines_of lines.now) p r (release_by x x2 (cited link)) c) }
 {
@@ -133,6 +141,7 @@ fn cite_acquire(
     y: u32,
     link2: Citation,
 ) -> Option<CitedAcquire>
+    requires entered { AllEntered lines.now }
     requires acquire { IsAcquire before.now p r (acquire_by y2 y (cited link2)) }
     ensures { IfSome result (λ c. AcquireCited before.now (lines_of lines.now) p r (acquire_by y2 y (cited link2)) c) }
 {
@@ -156,24 +165,27 @@ fn cite_acquire(
     }
 }
 
-/// What orders a write and a read, where one of the fences is chained.
+/// A release and an acquire of which one is chained, with the numbers of the lines by which they order a write and a
+/// read, if these are there.
 fn read_chain(
     lines: &Lines,
-    alloc: Global,
     before: &Before,
     p: usize,
     r: usize,
     chain: ReadChain,
-) -> Option<Fences>
+) -> Option<ReadChain>
+    requires entered { AllEntered lines.now }
     requires system { model.need before.now p r ≡ scope.System }
     requires fences { ReleasesToAcquire before.now p r
         (release_by chain.x chain.x2 (cited chain.link), acquire_by chain.y2 chain.y (cited chain.link2)) }
-    ensures { IfSome result (Holds before.now (lines_of lines.now) model.Conflict.WriteRead p r) }
+    ensures { IfSome result
+        (λ c. FencesHold before.now (lines_of lines.now) p r
+        (ForWriteReadChained c.x c.x2 c.y2 c.y (cited c.from) (cited c.link) c.between (cited c.link2) (cited c.to))) }
 {
     let release = cite_release(lines, before, p, r, chain.x, chain.x2, chain.link)?;
     let acquire = cite_acquire(lines, before, p, r, chain.y2, chain.y, chain.link2)?;
     let between = lines.known(release.x2 as usize, acquire.y2 as usize)?;
-    let chain = ReadChain {
+    Some(ReadChain {
         x: release.x,
         x2: release.x2,
         y2: acquire.y2,
@@ -183,64 +195,87 @@ fn read_chain(
         between,
         link2: acquire.link2,
         to: acquire.to,
-    };
-    match Box::new(alloc, chain) {
-        Ok(chain) => Some(Fences::WriteReadChained(chain)),
-        Err(_) => None,
-    }
+    })
 }
 
-/// What orders a write and a read, where x alone releases and y alone acquires.
-fn write_read(lines: &Lines, before: &Before, p: usize, r: usize, x: u32, y: u32) -> Option<Fences>
+/// The numbers of the lines by which x, which alone releases, and y, which alone acquires, order a write and a read, if
+/// these are there.
+fn write_read(
+    lines: &Lines,
+    before: &Before,
+    p: usize,
+    r: usize,
+    x: u32,
+    y: u32,
+) -> Option<(Citation, u32, Citation)>
+    requires entered { AllEntered lines.now }
     requires releases { model.Releases before.now p x (model.need before.now p r) }
     requires acquires { model.Acquires before.now r y (model.need before.now p r) }
-    ensures { IfSome result (Holds before.now (lines_of lines.now) model.Conflict.WriteRead p r) }
+    ensures { IfSome result
+        (λ n. FencesHold before.now (lines_of lines.now) p r (ForWriteRead x y (cited n.0) n.1 (cited n.2))) }
 {
     let from = cite(lines, p, x as usize)?;
     let between = lines.known(x as usize, y as usize)?;
     let to = cite(lines, y as usize, r)?;
-    Some(Fences::WriteRead {
-        x,
-        y,
-        from,
-        between,
-        to,
-    })
+    Some((from, between, to))
 }
 
-/// What orders a read and a write.
-fn read_write(lines: &Lines, before: &Before, p: usize, r: usize) -> Option<Fences>
-    ensures { IfSome result (Holds before.now (lines_of lines.now) model.Conflict.ReadWrite p r) }
-{
-    Some(Fences::ReadWrite(lines.known(p, r)?))
-}
-
-/// The fences with the numbers of the lines that they cite, if these are there.
+/// Puts in the numbers of the lines that the fences cite, where these are there; answers whether they are. Where one
+/// isn't, the fences stay as they were.
 #[inline(always)]
-pub fn cite_fences(
-    lines: &Lines,
-    alloc: Global,
-    before: &Before,
-    p: usize,
-    r: usize,
-    fences: &Fences,
-) -> Option<Fences>
-    requires drafted { Drafted before.now p r (fences_of fences.now) }
-    ensures { IfSome result (Holds before.now (lines_of lines.now) (kind_of (fences_of fences.now)) p r) }
+pub fn cite_fences(lines: &Lines, before: &Before, p: usize, r: usize, fences: &mut Fences) -> bool
+    requires entered { AllEntered lines.now }
+    requires drafted { Drafted before.now p r (fences_of fences.old) }
+    ensures holds { IsTrue result
+        → Holds before.now (lines_of lines.now) (kind_of (fences_of fences.old)) p r fences.new }
+    ensures same { result ≡ false → fences.new ≡ fences.old }
 {
     match fences {
-        Fences::ReadWrite(_) => read_write(lines, before, p, r),
-        Fences::WriteWrite { x, .. } => write_write(lines, before, p, r, *x),
-        Fences::WriteRead { x, y, .. } => write_read(lines, before, p, r, *x, *y),
-        Fences::WriteWriteChained(chain) => {
-            write_chain(lines, alloc, before, p, r, chain.x, chain.x2)
+        Fences::ReadWrite(line) => {
+            let Some(number) = lines.known(p, r) else {
+                return false;
+            };
+            *line = number;
         }
-        Fences::WriteReadChained(chain) => read_chain(lines, alloc, before, p, r, **chain),
+        Fences::WriteWrite { x, from, on } => {
+            let Some(numbers) = write_write(lines, before, p, r, *x) else {
+                return false;
+            };
+            *from = numbers.0;
+            *on = numbers.1;
+        }
+        Fences::WriteRead {
+            x,
+            y,
+            from,
+            between,
+            to,
+        } => {
+            let Some(numbers) = write_read(lines, before, p, r, *x, *y) else {
+                return false;
+            };
+            *from = numbers.0;
+            *between = numbers.1;
+            *to = numbers.2;
+        }
+        Fences::WriteWriteChained(chain) => {
+            let Some(numbered) = write_chain(lines, before, p, r, **chain) else {
+                return false;
+            };
+            **chain = numbered;
+        }
+        Fences::WriteReadChained(chain) => {
+            let Some(numbered) = read_chain(lines, before, p, r, **chain) else {
+                return false;
+            };
+            **chain = numbered;
+        }
     }
+    true
 }
 
 /// Gives each pair line the numbers of the lines that it cites, or answers that one of these isn't there.
-fn cite_known(pairs: &mut [Pair], lines: &Lines, alloc: Global, before: &Before) -> bool
+fn cite_known(pairs: &mut [Pair], lines: &Lines, before: &Before) -> bool
     requires kept { Kept before.now lines.now }
     requires drafted { AllDrafted before.now (map pair_of pairs.old) }
     ensures hold { IsTrue result → AllHold before.now (lines_of lines.now) (map pair_of pairs.new) }
@@ -248,23 +283,22 @@ fn cite_known(pairs: &mut [Pair], lines: &Lines, alloc: Global, before: &Before)
 {
     for pair in pairs.iter_mut() {
         let (p, r) = (pair.p as usize, pair.r as usize);
-        match cite_fences(lines, alloc, before, p, r, &pair.fences) {
-            Some(fences) => pair.fences = fences,
-            None => return false,
+        if !cite_fences(lines, before, p, r, &mut pair.fences) {
+            return false;
         }
     }
     true
 }
 
 /// The pair lines with the numbers of the lines that they cite, if these are there.
-fn cite_drafts(lines: &Lines, alloc: Global, before: &Before, drafts: Drafts) -> Option<Vec<Pair>>
+fn cite_drafts(lines: &Lines, before: &Before, drafts: Drafts) -> Option<Vec<Pair>>
     requires kept { Kept before.now lines.now }
     requires drafted { AllDrafted before.now (pairs_of drafts.pairs) }
     ensures { (a b : ℕ) → DraftsRows before.now a b drafts.pairs
         → IfSome result (CitesRows before.now (lines_of lines.now) a b) }
 {
     let mut pairs = drafts.pairs;
-    if cite_known(&mut pairs, lines, alloc, before) {
+    if cite_known(&mut pairs, lines, before) {
         Some(pairs)
     } else {
         None
@@ -272,18 +306,13 @@ fn cite_drafts(lines: &Lines, alloc: Global, before: &Before, drafts: Drafts) ->
 }
 
 /// Those of a part, if it is there.
-fn cite_part(
-    lines: &Lines,
-    alloc: Global,
-    before: &Before,
-    part: Option<Drafts>,
-) -> Option<Vec<Pair>>
+fn cite_part(lines: &Lines, before: &Before, part: Option<Drafts>) -> Option<Vec<Pair>>
     requires kept { Kept before.now lines.now }
     requires drafted { IfSome part (λ d. AllDrafted before.now (pairs_of d.pairs)) }
     ensures { CitesPart before.now (lines_of lines.now) part result }
 {
     match part {
-        Some(drafts) => cite_drafts(lines, alloc, before, drafts),
+        Some(drafts) => cite_drafts(lines, before, drafts),
         None => None,
     }
 }
@@ -292,7 +321,6 @@ fn cite_part(
 pub fn cite_wide<R: Threads + Sync>(
     rt: &R,
     lines: &Lines,
-    alloc: Global,
     before: &Before,
     parts: Vec<Option<Drafts>>,
 ) -> Option<Vec<Option<Vec<Pair>>>>
@@ -307,7 +335,7 @@ pub fn cite_wide<R: Threads + Sync>(
         &|part: Option<Drafts>| -> Option<Vec<Pair>>
             requires { Kept before.now lines.now × IfSome part (λ d. AllDrafted before.now (pairs_of d.pairs)) }
             ensures { CitesPart before.entry.now (lines_of lines.entry.now) part result }
-        { cite_part(lines, alloc, before, part) },
+        { cite_part(lines, before, part) },
     );
     match cited {
         Ok(cited) => Some(cited),

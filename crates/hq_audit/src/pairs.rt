@@ -80,28 +80,31 @@ fn add_between(
     Ok(())
 }
 
-/// The fences with the numbers of the lines that they cite, where one of these isn't there yet.
+/// Puts in the numbers of the lines that the fences cite, where one of these isn't there yet.
 #[tactic(auto, using(crate::proofs::Rowing::fenced_by))]
+#[cold]
 fn cite_anew(
     lines: &mut Lines,
     alloc: Global,
     before: &Before,
     p: usize,
     r: usize,
-    fences: &Fences,
-) -> Result<Fences, AllocError>
+    fences: &mut Fences,
+) -> Result<(), AllocError>
     requires kept { Kept before.now lines.old }
-    requires drafted { Drafted before.now p r (fences_of fences.now) }
-    ensures { IfOk result (λ cited. Fenced before.now lines.old lines.new (kind_of (fences_of fences.now)) p r cited) }
+    requires drafted { Drafted before.now p r (fences_of fences.old) }
+    ensures { OnOk result
+        (Fenced before.now lines.old lines.new (kind_of (fences_of fences.old)) p r fences.new) }
 {
     add_between(lines, alloc, before, &named(p, r, fences))?;
-    match cite_fences(lines, alloc, before, p, r, fences) {
-        Some(cited) => Ok(cited),
-        None => Err(AllocError),
+    if cite_fences(lines, before, p, r, fences) {
+        Ok(())
+    } else {
+        Err(AllocError)
     }
 }
 
-/// The fences with the numbers of the lines that they cite.
+/// Puts in the numbers of the lines that the fences cite.
 #[tactic(auto, using(crate::proofs::Rowing::fenced))]
 #[inline(always)]
 fn cite(
@@ -110,16 +113,17 @@ fn cite(
     before: &Before,
     p: usize,
     r: usize,
-    fences: &Fences,
-) -> Result<Fences, AllocError>
+    fences: &mut Fences,
+) -> Result<(), AllocError>
     requires kept { Kept before.now lines.old }
-    requires drafted { Drafted before.now p r (fences_of fences.now) }
-    ensures { IfOk result (λ cited. Fenced before.now lines.old lines.new (kind_of (fences_of fences.now)) p r cited) }
+    requires drafted { Drafted before.now p r (fences_of fences.old) }
+    ensures { OnOk result
+        (Fenced before.now lines.old lines.new (kind_of (fences_of fences.old)) p r fences.new) }
 {
-    match cite_fences(lines, alloc, before, p, r, fences) {
-        Some(cited) => Ok(cited),
-        None => cite_anew(lines, alloc, before, p, r, fences),
+    if cite_fences(lines, before, p, r, fences) {
+        return Ok(());
     }
+    cite_anew(lines, alloc, before, p, r, fences)
 }
 
 /// Gives each pair line the numbers of the lines that it cites.
@@ -137,7 +141,7 @@ pub fn cite_all(
 {
     for pair in pairs.iter_mut() {
         let (p, r) = (pair.p as usize, pair.r as usize);
-        pair.fences = cite(lines, alloc, before, p, r, &pair.fences)?;
+        cite(lines, alloc, before, p, r, &mut pair.fences)?;
     }
     Ok(())
 }

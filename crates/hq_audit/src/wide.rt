@@ -131,7 +131,7 @@ fn certified_wide<R: Threads + Sync>(
     let mut needs = no_needs(alloc, before)?;
     let drafts = draft_wide(rt, &mut needs, alloc, before, parts)?;
     let lines = lines_if(alloc, before, needs)?;
-    let cited = cite_wide(rt, &lines, alloc, before, drafts)?;
+    let cited = cite_wide(rt, &lines, before, drafts)?;
     let pairs = joined(alloc, before, &lines, cited)?;
     let order = widened_if(alloc, order)?;
     Some(Certificate::new(order, lines.into_lines(), pairs))

@@ -1,19 +1,20 @@
 -- A line is added.
-use Rattle.std.proofs.Common.{◌≡◌, ℕ, ◌+◌, ◌^◌, ◌<◌, inl, inr, List, [], ◌∷◌, ◌++◌, length, refl, sym, ◌∙◌, ap, subst, arith, Some, map, slice_get, slice_index_or, length-append}
+use Rattle.std.proofs.Common.{◌≡◌, ℕ, ◌+◌, ◌-◌, ◌^◌, ◌<◌, inl, inr, List, [], ◌∷◌, ◌++◌, length, refl, sym, ◌∙◌, ap, subst, arith, Some, map, slice_get, slice_index_or, length-append}
 use Rattle.std.proofs.lemmas.Bool.{cases_lt}
-use Rattle.std.proofs.lemmas.List.{length-map}
-use Rattle.std.proofs.lemmas.Option.{slice_get_within, same_Some, slice_get-map, slice_get-get_or}
-use Rattle.std.specs.Option.{option_map}
-use Rattle.hq_cert.specs.declared.certificate.Line.{Line}
+use Rattle.std.proofs.lemmas.List.{length-map, map-append}
+use Rattle.std.proofs.lemmas.Option.{slice_get_within, same_Some}
 use Rattle.hq_job.proofs.Grouped.{get_before, get_after}
+use Rattle.hq_cert.specs.declared.certificate.Line.{Line}
 use Rattle.hq_cert.specs.declared.certificate.Rule.{Rule}
 use Rattle.hq_cert.specs.View.{rule_of, line_of}
 use Rattle.hq_model.specs.Job.{Job, IsPacket}
 use Rattle.hq_model.specs.Certificate as model
 use Rattle.hq_model.specs.Certificate.{Says, Follows}
+use Rattle.std.specs.Prelude.{All}
+use Rattle.hq_derive.specs.declared.lines.Entry.{Entry}
 use Rattle.hq_derive.specs.declared.lines.Lines.{Lines}
-use Rattle.hq_derive.specs.Kept.{lines_of, AllFollow, Kept, Grown, Goes, Numbered}
-use Rattle.hq_derive.proofs.Growing.{grown_same, grown_more, grown_by, follows_more}
+use Rattle.hq_derive.specs.Kept.{lines_of, AllEntered, AllFollow, EntrySays, Kept, Grown, Goes, Numbered}
+use Rattle.hq_derive.proofs.Growing.{grown_same, grown_more, grown_by, says_more, follows_more}
 
 pub goes_same : (job : Job) (l : Lines) → Kept job l → Goes job l l
 goes_same job l k = record { kept = k; grown = grown_same (lines_of l) }
@@ -45,6 +46,7 @@ line_by p r rule = record { p = p; r = r; rule = rule_of rule }
 pub record Added (old new : Lines) (p r : ℕ) (rule : Rule) (k : ℕ) : Type 0 where
   pub lines : lines_of new ≡ lines_of old ++ line_by p r rule ∷ []
   pub number : k ≡ length (lines_of old)
+  pub entered : AllEntered old → AllEntered new
 
 grown_added : (old new : Lines) (p r : ℕ) (rule : Rule) (k : ℕ) → Added old new p r rule k → Grown (lines_of old) (lines_of new)
 grown_added old new p r rule k a = subst (Grown (lines_of old)) (sym a.lines) (grown_by (lines_of old) (line_by p r rule ∷ []))
@@ -59,17 +61,22 @@ says_added old new p r rule k a = record {
 }
 
 pub kept_added : (job : Job) (old new : Lines) (p r : ℕ) (rule : Rule) → Kept job old → Follows job (lines_of old) (length (lines_of old)) p r (rule_of rule)
-    → lines_of new ≡ lines_of old ++ line_by p r rule ∷ [] → Kept job new
-kept_added job old new p r rule kept f added = record {
+    → lines_of new ≡ lines_of old ++ line_by p r rule ∷ [] → (AllEntered old → AllEntered new) → Kept job new
+kept_added job old new p r rule kept f added entered = record {
   few = kept.few;
   follow = subst (AllFollow job) (sym added) (follow_more job (lines_of old) (line_by p r rule) kept.follow f);
+  entered = entered kept.entered;
 }
+
+-- the numbers at slots stay right as lines are added
+entered_more : (old new : List model.Line) (entries : List Entry) → Grown old new → All (EntrySays old) entries → All (EntrySays new) entries
+entered_more old new entries g all = λ k d low. λ there. let e = slice_index_or entries k d in says_more old new (length old) (length new) (e.next - 1) e.p e.r g g.len (all k d low there)
 
 pub numbered_added : (job : Job) (old new : Lines) (p r : ℕ) (rule : Rule) (k : ℕ) → Kept job old → IsPacket job p → IsPacket job r
     → Follows job (lines_of old) (length (lines_of old)) p r (rule_of rule) → Added old new p r rule k → k + 1 < 2 ^ 32 → Numbered job old new p r k
 numbered_added job old new p r rule k kept a b f added small = record {
   goes = record {
-    kept = kept_added job old new p r rule kept f added.lines;
+    kept = kept_added job old new p r rule kept f added.lines added.entered;
     grown = grown_added old new p r rule k added;
   };
   says = says_added old new p r rule k added;
@@ -79,12 +86,23 @@ numbered_added job old new p r rule k kept a b f added small = record {
 pub numbered_from : (job : Job) (a b c : Lines) (p r k : ℕ) → Goes job a b → Numbered job b c p r k → Numbered job a c p r k
 numbered_from job a b c p r k g n = record { goes = goes_more job a b c g n.goes; says = n.says; small = n.small }
 
--- a line that is found to say so
-pub says_confirmed : (items : List Line) (k p r : ℕ) (x : Line) → k < length items → x ≡ slice_index_or items k x → x.p ≡ p → x.r ≡ r → Says (map line_of items) (length (map line_of items)) k p r
-says_confirmed items k p r x low is first second = record {
-  lower = omega (arith, low, length-map items line_of);
-  line = line_of x;
-  there = slice_get-map line_of items k ∙ ap (option_map line_of) (slice_get-get_or items k x low ∙ ap Some (sym is));
-  first = first;
-  second = second;
-}
+-- ---- a line of the code's is pushed
+
+lines_pushed : (old new : List Line) (x : Line) → new ≡ old ++ x ∷ [] → map line_of new ≡ map line_of old ++ line_of x ∷ []
+lines_pushed old new x e = ap (map line_of) e ∙ map-append line_of old (x ∷ [])
+
+pub says_pushed : (old new : List Line) (x : Line) (k : ℕ) → new ≡ old ++ x ∷ [] → k ≡ length old → Says (map line_of new) (length (map line_of new)) k x.p x.r
+says_pushed old new x k e n =
+    let lines = map line_of old in
+    let more = lines_pushed old new x e in
+    let at : k ≡ length lines = n ∙ sym (length-map old line_of) in
+    record {
+      lower = omega (arith, ap length more, length-append lines (line_of x ∷ []), at);
+      line = line_of x;
+      there = ap (λ ls. slice_get ls k) more ∙ ap (slice_get (lines ++ line_of x ∷ [])) at ∙ last_there lines (line_of x);
+      first = refl;
+      second = refl;
+    }
+
+pub entered_pushed : (old new : List Line) (x : Line) (entries : List Entry) → new ≡ old ++ x ∷ [] → All (EntrySays (map line_of old)) entries → All (EntrySays (map line_of new)) entries
+entered_pushed old new x entries e all = entered_more (map line_of old) (map line_of new) entries (subst (Grown (map line_of old)) (sym (lines_pushed old new x e)) (grown_by (map line_of old) (line_of x ∷ []))) all

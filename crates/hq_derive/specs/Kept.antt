@@ -1,5 +1,5 @@
 -- What is known of lines as they are gathered.
-use Rattle.std.specs.Prelude.{◌≡◌, ℕ, ◌+◌, ◌^◌, ◌<◌, ◌≤◌, List, length, map, Some, slice_get}
+use Rattle.std.specs.Prelude.{◌≡◌, ℕ, ◌+◌, ◌-◌, ◌^◌, ◌<◌, ◌≤◌, List, length, map, Some, slice_get, All}
 use Rattle.std.specs.List.{AllZip}
 use Rattle.hq_cert.specs.declared.certificate.Line.{Line}
 use Rattle.hq_cert.specs.declared.certificate.Rule.{Rule}
@@ -9,6 +9,7 @@ use Rattle.hq_model.specs.Job.{Job, Decrements}
 use Rattle.hq_model.specs.declared.limits.TheConstants.{PACKETS}
 use Rattle.hq_model.specs.Certificate as model
 use Rattle.hq_model.specs.Certificate.{Says, Cites, Follows, signals}
+use Rattle.hq_derive.specs.declared.lines.Entry.{Entry}
 use Rattle.hq_derive.specs.declared.lines.Lines.{Lines}
 
 -- the lines so far
@@ -24,10 +25,20 @@ abbrev pub AllFollow : Job → List model.Line → Type 0
 AllFollow job lines = (k : ℕ) (line : model.Line) → slice_get lines k ≡ Some line
     → Follows job lines k line.p line.r line.rule
 
--- Each line follows from lines of lower number; and there are as few packets as a job may have.
+-- The number that stands at a slot, if there is one, is that of a line that says what stands beside it.
+abbrev pub EntrySays : List model.Line → Entry → Type 0
+EntrySays lines e = 0 < e.next → Says lines (length lines) (e.next - 1) e.p e.r
+
+-- so it is at each slot
+abbrev pub AllEntered : Lines → Type 0
+AllEntered l = All (EntrySays (lines_of l)) l.entries.items
+
+-- Each line follows from lines of lower number, the numbers at slots are right, and there are as few packets as a job
+-- may have.
 pub record Kept (job : Job) (l : Lines) : Type 0 where
   pub few : length job.packets ≤ PACKETS
   pub follow : AllFollow job (lines_of l)
+  pub entered : AllEntered l
 
 -- No line was lost.
 pub record Grown (old new : List model.Line) : Type 0 where

@@ -9,7 +9,7 @@ ghost use Rattle.hq_model.specs.Certificate.{Says, signals};
 ghost use Rattle.hq_model.specs.Order as order;
 ghost use Rattle.hq_order.specs.Rounds.{IsFirstWithin, Reaches, ByOr};
 ghost use Rattle.hq_derive.specs.Rests.{Below, ByMiddle, FollowsAlone};
-ghost use Rattle.hq_derive.specs.Kept.{items_of, lines_of, Kept, Numbered, Ruled, Branched, AllBranched};
+ghost use Rattle.hq_derive.specs.Kept.{items_of, lines_of, AllEntered, Kept, Numbered, Ruled, Branched, AllBranched};
 
 use crate::grounds::{Ground, branch_of, ground_of};
 use crate::needs::Needs;
@@ -22,13 +22,32 @@ use std::alloc::{AllocError, Global};
 /// More lines than there can be.
 const LIMIT: usize = 1_048_577;
 
+/// What stands at the slot of a line: its number, beside what it says, that p is before r.
+#[derive(Clone, Copy, Debug)]
+pub struct Entry {
+    pub p: u16,
+    pub r: u16,
+    /// One more than the line's number, or 0 where the line isn't there yet.
+    pub next: u32,
+}
+
 /// The lines so far.
 #[derive(Drop)]
 pub struct Lines {
     slots: Slots,
-    /// At a line's slot, one more than its number, or 0 where it isn't there yet.
-    numbers: Vec<u32>,
+    entries: Vec<Entry>,
     lines: Vec<Line>,
+}
+
+/// What stands at a slot whose line isn't there yet.
+fn no_entry() -> Entry
+    ensures { result.next ≡ 0 }
+{
+    Entry {
+        p: 0,
+        r: 0,
+        next: 0,
+    }
 }
 
 /// The first round in which p is before r.
@@ -39,6 +58,20 @@ pub fn round_of(before: &Before, p: usize, r: usize) -> usize
     before.round(p, r).unwrap()
 }
 
+impl Entry {
+    /// The line's number, if it is there and says that p is before r.
+    #[inline(always)]
+    fn number_of(self, p: usize, r: usize) -> Option<u32>
+        ensures { MatchOption result (Unit {0})
+            (λ k. (self.next ≡ k + 1) × (self.p ≡ p) × (self.r ≡ r) × (k + 1 < 2 ^ 32)) }
+    {
+        if self.p as usize != p || self.r as usize != r || self.next == 0 {
+            return None;
+        }
+        Some(self.next - 1)
+    }
+}
+
 impl Lines {
     /// No lines, with room for those that are needed.
     pub(crate) fn new(alloc: Global, before: &Before, needs: Needs) -> Result<Lines, AllocError>
@@ -47,11 +80,11 @@ impl Lines {
         before.job().valid();
         let slots = Slots::new(alloc, needs)?;
         let room = slots.count();
-        let numbers = vec![in alloc; 0; room]?;
+        let entries = vec![in alloc; no_entry(); room]?;
         let lines = Vec::with_capacity(alloc, room)?;
         Ok(Lines {
             slots,
-            numbers,
+            entries,
             lines,
         })
     }
@@ -68,43 +101,35 @@ impl Lines {
         self.lines
     }
 
-    /// The number, if its line is that p is before r.
-    #[inline(always)]
-    fn confirmed(&self, number: u32, p: usize, r: usize) -> Option<u32>
-        requires { number + 1 < 2 ^ 32 }
-        ensures { MatchOption result (Unit {0})
-            (λ k. Says (lines_of self.now) (length (lines_of self.now)) k p r × (k + 1 < 2 ^ 32)) }
-    {
-        let line = self.lines.get(number as usize)?;
-        if line.p as usize == p && line.r as usize == r {
-            Some(number)
-        } else {
-            None
-        }
-    }
-
     /// The number of the line that p is before r, if there is one.
     #[inline(always)]
     pub fn known(&self, p: usize, r: usize) -> Option<u32>
+        requires { AllEntered self.now }
         ensures { MatchOption result (Unit {0})
             (λ k. Says (lines_of self.now) (length (lines_of self.now)) k p r × (k + 1 < 2 ^ 32)) }
     {
         let slot = self.slots.slot(p, r)?;
-        match *self.numbers.get(slot)? {
-            0 => None,
-            next => self.confirmed(next - 1, p, r),
-        }
+        let entry = *self.entries.get(slot)?;
+        entry.number_of(p, r)
     }
 
     /// Notes the number of the line that p is before r.
     #[inline(always)]
     fn remember(&mut self, p: usize, r: usize, number: u32)
-        requires { number + 1 < 2 ^ 32 }
-        ensures { self.new.lines ≡ self.old.lines }
+        requires p_is { p < WIDTH }
+        requires r_is { r < WIDTH }
+        requires number { number + 1 < 2 ^ 32 }
+        requires says { Says (lines_of self.old) (length (lines_of self.old)) number p r }
+        ensures lines { self.new.lines ≡ self.old.lines }
+        ensures entered { AllEntered self.old → AllEntered self.new }
     {
         if let Some(slot) = self.slots.slot(p, r) {
-            if let Some(next) = self.numbers.get_mut(slot) {
-                *next = number + 1;
+            if let Some(entry) = self.entries.get_mut(slot) {
+                *entry = Entry {
+                    p: p as u16,
+                    r: r as u16,
+                    next: number + 1,
+                };
             }
         }
     }
@@ -118,6 +143,7 @@ impl Lines {
             (λ _. lines_of self.new ≡ lines_of self.old ++ record { p = p; r = r; rule = rule_of rule } ∷ []) }
         ensures number { IfOk result (λ k. k ≡ length (lines_of self.old)) }
         ensures small { IfOk result (λ k. k + 1 < 2 ^ 32) }
+        ensures entered { IfOk result (λ _. AllEntered self.old → AllEntered self.new) }
     {
         let number = self.lines.len();
         if number >= LIMIT {
@@ -194,6 +220,7 @@ impl Lines {
     /// The numbers of the lines that p is before m, and m before r, if both are there.
     #[inline(always)]
     fn both_known(&self, p: usize, m: usize, r: usize) -> Option<(u32, u32)>
+        requires { AllEntered self.now }
         ensures { IfSome result
             (λ n. Says (lines_of self.now) (length (lines_of self.now)) n.0 p m
             × Says (lines_of self.now) (length (lines_of self.now)) n.1 m r) }

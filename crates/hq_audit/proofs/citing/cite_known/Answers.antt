@@ -1,4 +1,4 @@
-use Rattle.std.proofs.Common.{◌<◌, length, arith, slice_index_or}
+use Rattle.std.proofs.Common.{◌<◌, length, arith, rules, slice_index_or}
 use Rattle.std.proofs.lemmas.List.{get_or_default}
 use Rattle.hq_audit.proofs.Numbering.{cited_start, cited_next, cited_hold, drafted_at}
 use Rattle.hq_audit.proofs.Rowing.{fenced}
@@ -15,7 +15,7 @@ cite_fences-requires c =
     let x = slice_index_or now i c.pair-item.result in
     let low : i < length now = omega (arith, c.loop-pair-test.true, c.loop-pair.invariant.heads.len) in
     let at = drafted_at c.args.before.now c.args.pairs.now now lines lines i x c.requires.drafted c.loop-pair.invariant low (get_or_default now i c.pair-item.result x low) in
-    record { drafted = at.2 }
+    record { entered = c.requires.kept.entered; drafted = at.2 }
 
 pub loop-pair-preserved : goal.loop-pair-preserved
 loop-pair-preserved c =
@@ -24,8 +24,8 @@ loop-pair-preserved c =
     let i = c.loop-pair.pair-index in
     let x = slice_index_or now i c.pair-item.result in
     let low : i < length now = omega (arith, c.loop-pair-test.true, c.loop-pair.invariant.heads.len) in
-    cited_next c.args.before.now lines lines lines c.args.pairs.now now i x c.in-Some.fences c.requires.drafted c.loop-pair.invariant
-    low (get_or_default now i c.pair-item.result x low) (fenced c.args.before.now lines _ x.p x.r c.in-Some.fences c.requires.kept c.in-Some.ensures)
+    cited_next c.args.before.now lines lines lines c.args.pairs.now now i x c.cite_fences.new.fences c.requires.drafted c.loop-pair.invariant
+    low (get_or_default now i c.pair-item.result x low) (fenced c.args.before.now lines _ x.p x.r c.cite_fences.new.fences c.requires.kept (c.cite_fences.ensures.holds (search rules)))
 
 pub returns-clause-hold : goal.returns-clause-hold
 returns-clause-hold c = λ t.

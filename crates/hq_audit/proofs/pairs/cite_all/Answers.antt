@@ -21,8 +21,8 @@ loop-pair-preserved c =
     let i = c.loop-pair.pair-index in
     let x = slice_index_or now i c.pair-item.result in
     let low : i < length now = omega (arith, c.loop-pair-test.true, c.loop-pair.invariant.heads.len) in
-    cited_next c.args.before.now c.args.lines.now c.loop-pair.lines c.cite.new.lines c.args.pairs.now now i x c.in_ok-pair.field-0 c.requires.drafted c.loop-pair.invariant
-    low (get_or_default now i c.pair-item.result x low) c.in_ok-pair.ensures
+    cited_next c.args.before.now c.args.lines.now c.loop-pair.lines c.cite.new.lines c.args.pairs.now now i x c.cite.new.fences c.requires.drafted c.loop-pair.invariant
+    low (get_or_default now i c.pair-item.result x low) c.in_ok-cite.ensures
 
 pub returns-clause-hold : goal.returns-clause-hold
 returns-clause-hold c = cited_hold c.args.before.now c.args.lines.now c.loop-pair.lines c.args.pairs.now c.loop-pair.pairs c.loop-pair.pair-index c.loop-pair.invariant (omega (arith, c.loop-pair-test.false, c.loop-pair.invariant.heads.len))
