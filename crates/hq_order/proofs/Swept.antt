@@ -106,7 +106,7 @@ pub asked_have_order : (job : Job) (rows : List (Vec ℕ)) → IsSquare (length 
 asked_have_order job rows square h = record { square = square; all = λ p r b. (into job rows h b).here }
 
 -- without unions rows are taken in one by one
-pub can_unite : (rows : List (Vec ℕ)) (words : ℕ) (known unions : List (Vec ℕ)) → known ≡ rows → unions ≡ [] → ((k : ℕ) → k < length rows → length (row rows k) ≡ words) → CanUnite known words unions
+pub can_unite : (rows : List (Vec ℕ)) (words : ℕ) (known : List (Vec ℕ)) (unions : List (List ℕ)) → known ≡ rows → unions ≡ [] → ((k : ℕ) → k < length rows → length (row rows k) ≡ words) → CanUnite known words unions
 can_unite rows words known unions e f width = record {
   width = λ k low. ap (λ rs. length (row rs k)) e ∙ width k (omega (arith, low, ap length e));
   are = λ some. absurd (omega (arith, some, ap length f));

@@ -8,7 +8,8 @@ use Rattle.std.proofs.Math.Nat.{mod-lt}
 use Rattle.std.proofs.lemmas.Nat.Bits.{bit_at-zero, bit_at_above, bit_at_cat_low, bit_at_cat_high}
 use Rattle.hq_bits.specs.Bits.{has}
 use Rattle.hq_rows.specs.Matrix.{row, Marks, matrix, last, earlier}
-use Rattle.hq_rows.specs.Uniting.{OfChoice, AreUnions, Through, Stepped, is_fresh}
+use Rattle.hq_bits.specs.declared.TheConstants.{WORDS}
+use Rattle.hq_rows.specs.Uniting.{OfChoice, AreUnions, Through, Stepped, Unites, is_fresh, union}
 use Rattle.hq_rows.proofs.Pushed.{below_pushed}
 use Rattle.hq_bits.proofs.Words.{and_both, past, within}
 use Rattle.hq_rows.proofs.Rows.{marked_below}
@@ -190,8 +191,9 @@ one_or false X Y f g = inr (g refl)
 
 -- ---- what the functions return
 
-pub unions_done : (rows unions : List (Vec ℕ)) (words n : ℕ) → n ≡ words * 256 → length unions ≡ n → ((k : ℕ) → k < n → length (row unions k) ≡ words) → ((k p : ℕ) → k < n → Marks unions p k ↔ OfChoice rows (k / 16) (k % 16) p) → AreUnions rows words unions
-unions_done rows unions words n all len width exact = record {
+pub unions_done : (rows : List (Vec ℕ)) (unions : List (List ℕ)) (n : ℕ) → n ≡ WORDS * 256 → length unions ≡ n → ((k : ℕ) → k < n → length (union unions k) ≡ WORDS) → ((k p : ℕ) → k < n → Unites unions p k ↔ OfChoice rows (k / 16) (k % 16) p) → AreUnions rows WORDS unions
+unions_done rows unions n all len width exact = record {
+  full = refl;
   len = len ∙ all;
   width = λ k l. width k (omega arith);
   has_all = λ group choice p g l o.

@@ -20,6 +20,24 @@ last_pushed rounds x =
     let e : length (rounds ++ x ∷ []) - 1 ≡ length rounds = omega arith in
     ap (matrix (rounds ++ x ∷ [])) e ∙ at_pushed (λ v. v.items) rounds x
 
+-- what holds of each item below, and of the one that is pushed
+pub pushed_item : {X : Type 0} (P : ℕ → X → Type 0) (xs : List X) (x none : X) (new : List X) (n : ℕ) → length xs ≡ n → new ≡ xs ++ x ∷ [] → ((k : ℕ) → k < n → P k (slice_index_or xs k none)) → P n x → (k : ℕ) → k < n + 1 → P k (slice_index_or new k none)
+pushed_item P xs x none new n len e h here k l = subst (λ ys. P k (slice_index_or ys k none)) (sym e) (elim (cases_lt k n) [
+  | inl low ↦ subst (P k) (sym (item_below xs x none k (omega (arith, low, len)))) (h k low)
+  | inr high ↦
+      let is : n ≡ k = omega (arith, high, l) in
+      subst (λ j. P j (slice_index_or (xs ++ x ∷ []) j none)) is (subst (P n) (sym (ap (λ j. slice_index_or (xs ++ x ∷ []) j none) (sym len) ∙ item_at xs x none)) here)
+])
+  where
+    item_below : {X : Type 0} (xs : List X) (x none : X) (k : ℕ) → k < length xs → slice_index_or (xs ++ x ∷ []) k none ≡ slice_index_or xs k none
+    item_below [] x none k l = absurd (omega arith)
+    item_below (y ∷ ys) x none zero l = refl
+    item_below (y ∷ ys) x none (suc k) l = item_below ys x none k (omega arith)
+
+    item_at : {X : Type 0} (xs : List X) (x none : X) → slice_index_or (xs ++ x ∷ []) (length xs) none ≡ x
+    item_at [] x none = refl
+    item_at (y ∷ ys) x none = item_at ys x none
+
 -- what holds of each row below, and of the one that is pushed
 pub pushed : (P : ℕ → List ℕ → Type 0) (rows : List (Vec ℕ)) (x : Vec ℕ) (new : List (Vec ℕ)) (n : ℕ) → length rows ≡ n → new ≡ rows ++ x ∷ [] → ((r : ℕ) → r < n → P r (row rows r)) → P n x.items → (r : ℕ) → r < n + 1 → P r (row new r)
 pushed P rows x new n len e h here r l = subst (λ ys. P r (row ys r)) (sym e) (elim (cases_lt r n) [

@@ -8,7 +8,7 @@ use Rattle.std.proofs.lemmas.Grind.{same_number_lists}
 use Rattle.hq_bits.specs.Bits.{has}
 use Rattle.hq_rows.specs.Matrix.{row}
 use Rattle.hq_bits.specs.Bits.{Grown}
-use Rattle.hq_rows.specs.Uniting.{OfChoice, OfFour, AreUnions}
+use Rattle.hq_rows.specs.Uniting.{OfChoice, OfFour, AreUnions, union}
 use Rattle.hq_bits.proofs.Sets.{Joined, has_united}
 use Rattle.hq_bits.proofs.Words.{grown_united, grown_more}
 
@@ -179,9 +179,9 @@ joined_five old a b c d new P Q R S e p q r s =
     )
 
 -- the unions have what a choice takes
-pub of_union : (rows : List (Vec ℕ)) (words group choice p : ℕ) (unions : List (Vec ℕ)) (union : List ℕ) → AreUnions rows words unions → group < words * 16 → choice < 16 → union ≡ row unions (group * 16 + choice)
-    → IsTrue (has union p) ↔ OfChoice rows group choice p
-of_union rows words group choice p unions union u g l is = (
+pub of_union : (rows : List (Vec ℕ)) (words group choice p : ℕ) (unions : List (List ℕ)) (taken : List ℕ) → AreUnions rows words unions → group < words * 16 → choice < 16 → taken ≡ union unions (group * 16 + choice)
+    → IsTrue (has taken p) ↔ OfChoice rows group choice p
+of_union rows words group choice p unions taken u g l is = (
   λ h. u.only group choice p g l (subst (λ x. IsTrue (has x p)) is h),
   λ o. subst (λ x. IsTrue (has x p)) (sym is) (u.has_all group choice p g l o),
 )

@@ -1,8 +1,9 @@
 -- What stands before some packets, taken in together.
-use Rattle.std.specs.Prelude.{◌≡◌, ℕ, ◌+◌, ◌*◌, ◌<◌, ◌⊎◌, ◌&&◌, not, Bool, IsTrue, List, length}
+use Rattle.std.specs.Prelude.{◌≡◌, ℕ, ◌+◌, ◌*◌, ◌<◌, ◌⊎◌, ◌&&◌, not, Bool, IsTrue, List, [], length, slice_index_or}
 use Rattle.std.specs.Global.{Vec}
 use Rattle.std.specs.Int.{bit_at}
 use Rattle.hq_bits.specs.Bits.{has}
+use Rattle.hq_bits.specs.declared.TheConstants.{WORDS}
 use Rattle.hq_rows.specs.Matrix.{row, Marks}
 
 -- p is before one of those that the choice takes from a group of four packets, each by its bit
@@ -15,17 +16,27 @@ OfFour rows group first second third fourth p =
     OfChoice rows group first p
     ⊎ (OfChoice rows (group + 1) second p ⊎ (OfChoice rows (group + 2) third p ⊎ OfChoice rows (group + 3) fourth p))
 
--- for each choice from each group the row of all that is before one of its packets
-pub record AreUnions (rows : List (Vec ℕ)) (words : ℕ) (unions : List (Vec ℕ)) : Type 0 where
+-- the union at a place, and none where there is no such place
+abbrev pub union : List (List ℕ) → ℕ → List ℕ
+union unions k = slice_index_or unions k []
+
+-- p is in the union at a place
+abbrev pub Unites : List (List ℕ) → ℕ → ℕ → Type 0
+Unites unions p k = IsTrue (has (union unions k) p)
+
+-- For each choice from each group there is the row of all that is before one of its packets. Rows have all their
+-- words.
+pub record AreUnions (rows : List (Vec ℕ)) (words : ℕ) (unions : List (List ℕ)) : Type 0 where
+  pub full : words ≡ WORDS
   pub len : length unions ≡ words * 256
-  pub width : (k : ℕ) → k < words * 256 → length (row unions k) ≡ words
+  pub width : (k : ℕ) → k < words * 256 → length (union unions k) ≡ words
   pub has_all : (group choice p : ℕ) → group < words * 16 → choice < 16 → OfChoice rows group choice p
-      → Marks unions p (group * 16 + choice)
-  pub only : (group choice p : ℕ) → group < words * 16 → choice < 16 → Marks unions p (group * 16 + choice)
+      → Unites unions p (group * 16 + choice)
+  pub only : (group choice p : ℕ) → group < words * 16 → choice < 16 → Unites unions p (group * 16 + choice)
       → OfChoice rows group choice p
 
 -- Each row has so many words, and where there are unions they are those of the rows.
-pub record CanUnite (rows : List (Vec ℕ)) (words : ℕ) (unions : List (Vec ℕ)) : Type 0 where
+pub record CanUnite (rows : List (Vec ℕ)) (words : ℕ) (unions : List (List ℕ)) : Type 0 where
   pub width : (k : ℕ) → k < length rows → length (row rows k) ≡ words
   pub are : 0 < length unions → AreUnions rows words unions
 

@@ -5,11 +5,11 @@ ghost use Rattle.std.specs.Prelude.{◌≤◌, ◌↔◌, ◌⊎◌, ◌==◌, �
 ghost use Rattle.std.specs.Int.{bit_at};
 ghost use Rattle.hq_bits.specs.Bits.{has, Grown};
 ghost use Rattle.hq_rows.specs.Matrix.{row, Marks};
-ghost use Rattle.hq_rows.specs.Uniting.{OfChoice, OfFour, AreUnions, CanUnite, is_fresh};
+ghost use Rattle.hq_rows.specs.Uniting.{OfChoice, OfFour, AreUnions, CanUnite, Unites, is_fresh, union};
 
 use crate::columns::row_of;
 use crate::fours::unite_four;
-use hq_bits::{WORDS, empty, less, lowest, unite, without, word_at};
+use hq_bits::{WORDS, less, lowest, unite, without, word_at};
 use std::alloc::{AllocError, Global};
 
 /// How many choices there are from a group of four packets.
@@ -28,8 +28,8 @@ pub struct Known<'a> {
     /// The packets whose rows got more in the last round than two of the earlier rows give.
     pub renewed: &'a [u64],
     /// For each choice from each group of four packets what is before one of them by the rows; none at all where
-    /// few packets are to be gone through.
-    pub unions: &'a [Vec<u64>],
+    /// few packets are to be gone through, or rows haven't all their words.
+    pub unions: &'a [[u64; WORDS]],
 }
 
 /// The choice without its first packet.
@@ -55,45 +55,45 @@ fn unite_row(union: &mut [u64], rows: &[Vec<u64>], m: usize)
     }
 }
 
+/// The union at a place; none where there is no such place.
+#[inline(always)]
+fn union_at(unions: &[[u64; WORDS]], place: usize) -> &[u64]
+    ensures { result.now ≡ union unions.now place }
+{
+    match unions.get(place) {
+        Some(union) => union,
+        None => &[],
+    }
+}
+
 /// What is before the packets of a choice; `unions` has that for the choices ahead of it.
-fn union_of(
-    alloc: Global,
-    rows: &[Vec<u64>],
-    unions: &[Vec<u64>],
-    words: usize,
-    entry: usize,
-) -> Result<Vec<u64>, AllocError>
-    requires width { (k : ℕ) → k < length rows.now → length (row rows.now k) ≡ words }
-    requires few { words ≤ WORDS }
+fn union_of(rows: &[Vec<u64>], unions: &[[u64; WORDS]], entry: usize) -> [u64; WORDS]
+    requires width { (k : ℕ) → k < length rows.now → length (row rows.now k) ≡ WORDS }
     requires len { length unions.now ≡ entry }
-    requires wide { (k : ℕ) → k < entry → length (row unions.now k) ≡ words }
-    requires entry { entry < words * 256 }
-    requires exact { (k p : ℕ) → k < entry → Marks unions.now p k ↔ OfChoice rows.now (k / 16) (k % 16) p }
-    ensures len { IfOk result (λ union. length union.items ≡ words) }
-    ensures exact { IfOk result
-        (λ union. (p : ℕ) → IsTrue (has union.items p) ↔ OfChoice rows.now (entry / 16) (entry % 16) p) }
+    requires entry { entry < WORDS * 256 }
+    requires exact { (k p : ℕ) → k < entry → Unites unions.now p k ↔ OfChoice rows.now (k / 16) (k % 16) p }
+    ensures len { length result ≡ WORDS }
+    ensures exact { (p : ℕ) → IsTrue (has result p) ↔ OfChoice rows.now (entry / 16) (entry % 16) p }
 {
     let choice = entry % CHOICES;
     if choice == 0 {
-        return empty(alloc, words);
+        return [0; WORDS];
     }
     let bit = lowest(choice as u64);
-    let ahead = row_of(unions, entry - choice + lesser(choice, bit));
-    let mut union = ahead.to_vec(alloc)?;
+    let mut union = unions[entry - choice + lesser(choice, bit)];
     unite_row(&mut union, rows, entry / CHOICES * 4 + bit);
-    Ok(union)
+    union
 }
 
 /// What is before the packets of each choice.
-fn all_unions(alloc: Global, rows: &[Vec<u64>], words: usize) -> Result<Vec<Vec<u64>>, AllocError>
-    requires width { (k : ℕ) → k < length rows.now → length (row rows.now k) ≡ words }
-    requires few { words ≤ WORDS }
-    ensures { IfOk result (λ unions. AreUnions rows.now words unions.items) }
+fn all_unions(alloc: Global, rows: &[Vec<u64>]) -> Result<Vec<[u64; WORDS]>, AllocError>
+    requires width { (k : ℕ) → k < length rows.now → length (row rows.now k) ≡ WORDS }
+    ensures { IfOk result (λ unions. AreUnions rows.now WORDS unions.items) }
 {
-    let count = words * 256;
+    let count = WORDS * 256;
     let mut unions = Vec::with_capacity(alloc, count)?;
     for entry in 0..count {
-        unions.push(union_of(alloc, rows, &unions, words, entry)?)?;
+        unions.push(union_of(rows, &unions, entry))?;
     }
     Ok(unions)
 }
@@ -119,20 +119,20 @@ fn are_many(rows: &[Vec<u64>], earlier: &[Vec<u64>], renewed: &[u64]) -> bool {
     count > MANY / 4
 }
 
-/// What is before the packets of each choice, where many packets are to be gone through; else none.
+/// What is before the packets of each choice, where many packets are to be gone through and rows have all their words;
+/// else none.
 pub fn unions_if_many(
     alloc: Global,
     rows: &[Vec<u64>],
     earlier: &[Vec<u64>],
     renewed: &[u64],
     words: usize,
-) -> Result<Vec<Vec<u64>>, AllocError>
+) -> Result<Vec<[u64; WORDS]>, AllocError>
     requires width { (k : ℕ) → k < length rows.now → length (row rows.now k) ≡ words }
-    requires few { words ≤ WORDS }
     ensures { IfOk result (λ unions. CanUnite rows.now words unions.items) }
 {
-    if are_many(rows, earlier, renewed) {
-        all_unions(alloc, rows, words)
+    if words == WORDS && are_many(rows, earlier, renewed) {
+        all_unions(alloc, rows)
     } else {
         Ok(Vec::new(alloc))
     }
@@ -173,10 +173,10 @@ fn unite_choices(
         let unions = known.unions;
         unite_four(
             new,
-            row_of(unions, group * CHOICES + first),
-            row_of(unions, (group + 1) * CHOICES + second),
-            row_of(unions, (group + 2) * CHOICES + third),
-            row_of(unions, (group + 3) * CHOICES + fourth),
+            union_at(unions, group * CHOICES + first),
+            union_at(unions, (group + 1) * CHOICES + second),
+            union_at(unions, (group + 2) * CHOICES + third),
+            union_at(unions, (group + 3) * CHOICES + fourth),
         );
     }
 }

@@ -6,13 +6,15 @@ use Rattle.hq_rows.specs.Uniting.{CanUnite, Stepped}
 use Rattle.hq_order.proofs.Single.{count}
 use Rattle.hq_order.proofs.before.following.Goals as goal
 
-pub unions_if_many-requires-clause-width : goal.unions_if_many-requires-clause-width
-unions_if_many-requires-clause-width c = λ k l.
-    let some = c.requires.rounds.some in
-    let rounds = c.args.rounds.now in
-    let square = subst (IsSquare (length c.args.job.now.packets)) (sym c.last_rows-rows.ensures) (subst (λ n. IsSquare n (last rounds)) (count c.args.job.now) (c.requires.rounds.square (length rounds - 1) (omega arith))) in
-    let height = square.height in
-    square.width k (omega arith) ∙ sym c.words_of.ensures.words
+pub unions_if_many-requires : goal.unions_if_many-requires
+unions_if_many-requires c = record {
+  width = λ k l.
+      let some = c.requires.rounds.some in
+      let rounds = c.args.rounds.now in
+      let square = subst (IsSquare (length c.args.job.now.packets)) (sym c.last_rows-rows.ensures) (subst (λ n. IsSquare n (last rounds)) (count c.args.job.now) (c.requires.rounds.square (length rounds - 1) (omega arith))) in
+      let height = square.height in
+      square.width k (omega arith) ∙ sym c.words_of.ensures.words;
+}
 
 pub next_rows-requires-clause-square : goal.next_rows-requires-clause-square
 next_rows-requires-clause-square c =

@@ -10,10 +10,10 @@ returns-then-first-second-ne0-clause-exact c = λ p.
     let unions = c.args.known.now.unions.now in
     let group = c.args.group in
     let words = length c.args.new.now in
-    let first = c.row_of in
-    let second = c.row_of-then-first-second-ne0 in
-    let third = c.row_of-then-first-second-ne0-2 in
-    let fourth = c.row_of-then-first-second-ne0-3 in
+    let first = c.union_at in
+    let second = c.union_at-then-first-second-ne0 in
+    let third = c.union_at-then-first-second-ne0-2 in
+    let fourth = c.union_at-then-first-second-ne0-3 in
     joined_five (has c.args.new.now p) (has first.result.now p) (has second.result.now p) (has third.result.now p) (has fourth.result.now p) (has c.unite_four.new.row p)
     (OfChoice rows group c.args.first p) (OfChoice rows (group + 1) c.args.second p) (OfChoice rows (group + 2) c.args.third p) (OfChoice rows (group + 3) c.args.fourth p)
     (c.unite_four.ensures.exact p)
