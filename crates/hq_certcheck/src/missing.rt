@@ -146,6 +146,7 @@ fn possible_kinds(job: &Job, p: usize, r: usize) -> Kinds
 }
 
 /// Whether each kind of conflict that p can have with r has its flag.
+#[inline(always)]
 fn all_possible_are_flagged(job: &Job, cells: &[u8], p: usize, r: usize) -> bool
     requires len { length cells.now ≡ length job.now.packets * length job.now.packets }
     requires p_is { p < length job.now.packets }
@@ -158,6 +159,7 @@ fn all_possible_are_flagged(job: &Job, cells: &[u8], p: usize, r: usize) -> bool
 }
 
 /// Whether each kind of conflict of p with r has its flag.
+#[inline(always)]
 fn are_flagged(job: &Job, cells: &[u8], p: usize, r: usize) -> bool
     requires len { length cells.now ≡ length job.now.packets * length job.now.packets }
     requires p_is { p < length job.now.packets }
@@ -171,6 +173,7 @@ fn are_flagged(job: &Job, cells: &[u8], p: usize, r: usize) -> bool
 }
 
 /// Whether each conflict of p with r has its flags, all in one direction.
+#[inline(always)]
 fn is_flagged(job: &Job, cells: &[u8], p: usize, r: usize) -> bool
     requires len { length cells.now ≡ length job.now.packets * length job.now.packets }
     requires p_is { p < length job.now.packets }
@@ -181,6 +184,7 @@ fn is_flagged(job: &Job, cells: &[u8], p: usize, r: usize) -> bool
 }
 
 /// Whether each conflict of p with r has its flags, which is told at once where all that there can be are flagged.
+#[inline(always)]
 fn is_covered(job: &Job, cells: &[u8], p: usize, r: usize) -> bool
     requires len { length cells.now ≡ length job.now.packets * length job.now.packets }
     requires p_is { p < length job.now.packets }

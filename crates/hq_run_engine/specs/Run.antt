@@ -1,5 +1,5 @@
 -- What `run` writes.
-use Rattle.std.specs.Prelude.{ℕ, List, [], ◌++◌, Option, Some, None, codes}
+use Rattle.std.specs.Prelude.{ℕ, ◌<◌, List, [], ◌++◌, Option, Some, None, codes, length}
 use Rattle.std.specs.Fmt.{decimal}
 use Rattle.hq_job.specs.Plan.{plan}
 use Rattle.hq_job.specs.Value.{JobValue}
@@ -35,6 +35,11 @@ failure_of fault.Split = Some failure.Split
 failure_of (fault.Receipts queue) = Some (failure.Receipts queue)
 failure_of fault.Unfinished = Some failure.Unfinished
 
+-- a packet that the failure names is the job's
+abbrev pub NamesPacket : JobValue → RunFailure → Type 0
+NamesPacket job (failure.Kernel packet) = packet < length job.packets
+NamesPacket job other = Unit {0}
+
 -- ---- the report
 
 -- What is written of a job to the timeline's writer and as the answer. A run that completes all: its timeline, and
@@ -44,4 +49,5 @@ pub data RunReport (job : JobValue) : List ℕ → List ℕ → Status → Type 
   ran : (events : List Event) (memory : List ℕ) → IsWhole (plan job) events memory → IsOneByOne (plan job) memory
       → RunReport job (text_of events) (buffers_text job.buffers memory) Done
   not_ordered : {out : List ℕ} {status : Status} → NotOrdered (plan job) out status → RunReport job [] out status
-  stopped : (found : RunFailure) → RunReport job [] (with_feed (failure_text found)) (RunFailed found)
+  stopped : (found : RunFailure) → NamesPacket job found
+      → RunReport job [] (with_feed (failure_text found)) (RunFailed found)

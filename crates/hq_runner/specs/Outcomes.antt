@@ -15,11 +15,11 @@ use Rattle.hq_runner.specs.Journals.{events_of}
 use Rattle.hq_runner.specs.Kits.{AllRan, tasks_of}
 use Rattle.hq_runner.specs.Lists.{IsProgram}
 
--- Where a body failed: of all pieces that came home by being dropped, this many are its packet's, and so many more
--- it had.
+-- Where a body failed, its packet is one of these; of all pieces that came home by being dropped, this many are the
+-- packet's, and so many more it had.
 abbrev pub IsCounted : List Placed → RunFault → Type 0
-IsCounted packets (fault.Kernel packet home lost found) = (home ≡ count_by (λ one. one.packet == packet) found.items)
-    × (home + lost ≡ pieces_of (work_of packets packet).task)
+IsCounted packets (fault.Kernel packet home lost found) = (packet < length packets)
+    × (home ≡ count_by (λ one. one.packet == packet) found.items) × (home + lost ≡ pieces_of (work_of packets packet).task)
 IsCounted packets other = Unit {0}
 
 -- No processor met a fault.

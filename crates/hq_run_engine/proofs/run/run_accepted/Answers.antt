@@ -1,6 +1,6 @@
 use Rattle.std.proofs.Common.{refl}
 use Rattle.hq_run_engine.specs.Run.{failure_of}
-use Rattle.hq_run_engine.proofs.Runs.{fault_reported, ran_of}
+use Rattle.hq_run_engine.proofs.Runs.{fault_reported, named_packet, ran_of}
 use Rattle.hq_run_engine.proofs.run.run_accepted.Goals as goal
 
 pub returns-in-Ok : goal.returns-in-Ok
@@ -9,4 +9,6 @@ returns-in-Ok g c =
     c.in-Ok.ensures.whole c.in-Ok.ensures.one_by_one c.say_ran.ensures
 
 pub returns-in-Err : goal.returns-in-Err
-returns-in-Err g c = fault_reported c.args.accepted.now.job (failure_of c.in-Err.fault) _ _ _ _ c.say_fault.result refl c.say_fault.ensures
+returns-in-Err g c =
+    fault_reported c.args.accepted.now.job (failure_of c.in-Err.fault) _ _ _ _ c.say_fault.result
+    (λ told is. named_packet c.args.accepted.now.job c.in-Err.fault told c.in-Err.ensures.counted is) refl c.say_fault.ensures
