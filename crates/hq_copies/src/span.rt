@@ -1,7 +1,7 @@
 //! Between which lanes bytes are held.
 
-ghost use Rattle.std.specs.Prelude.{◌<◌, ◌≤◌, ◌⊎◌, ℕ, IsTrue};
-ghost use Rattle.hq_copies.specs.Spans.{Inside};
+ghost use Rattle.std.specs.Prelude.{◌≡◌, ◌+◌, ◌-◌, ◌<◌, ◌≤◌, ◌⊎◌, ◌↔◌, ℕ, IsTrue};
+ghost use Rattle.hq_copies.specs.Spans.{Inside, IsWithin};
 
 use std::ops::Range;
 
@@ -24,6 +24,8 @@ impl Span {
     pub fn with(self, number: usize) -> Self
         ensures these { (k : ℕ) → Inside self k → Inside result k }
         ensures one { Inside result number }
+        ensures least { (start end : ℕ) → IsWithin self start end → start ≤ number → number < end
+            → IsWithin result start end }
     {
         if self.last < self.first {
             return Span {
@@ -39,7 +41,7 @@ impl Span {
 
     /// Whether all its numbers are among those from start on and before end.
     pub fn is_within(self, start: usize, end: usize) -> bool
-        ensures { IsTrue result → (k : ℕ) → Inside self k → (start ≤ k) × (k < end) }
+        ensures { IsTrue result ↔ IsWithin self start end }
     {
         self.last < self.first || start <= self.first && self.last < end
     }
@@ -48,6 +50,8 @@ impl Span {
     pub fn narrowed(self, start: usize, end: usize, inner: Span) -> Self
         ensures inner { (k : ℕ) → Inside self k → Inside inner k → Inside result k }
         ensures others { (k : ℕ) → Inside self k → (k < start) ⊎ (end ≤ k) → Inside result k }
+        ensures within { IsWithin self start end → result ≡ inner }
+        ensures itself { (IsWithin self start end → ⊥) → result ≡ self }
     {
         if self.is_within(start, end) {
             inner
@@ -63,6 +67,7 @@ impl Span {
         ensures rising { result.start ≤ result.end }
         ensures end { result.end ≤ end }
         ensures all { (k : ℕ) → start ≤ k → k < end → Inside self k → (result.start ≤ k) × (k < result.end) }
+        ensures tight { result.start < result.end → Inside self result.start × Inside self (result.end - 1) }
     {
         let first = self.first.max(start);
         let past = past(self.last, end);
@@ -77,6 +82,7 @@ impl Span {
 /// The number behind the last, or the end, if it comes first.
 fn past(last: usize, end: usize) -> usize
     ensures within { result ≤ end }
+    ensures near { result ≤ last + 1 }
     ensures all { (k : ℕ) → k ≤ last → k < end → k < result }
 {
     if last < end { last + 1 } else { end }
