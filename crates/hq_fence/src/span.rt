@@ -1,6 +1,6 @@
 //! Runs of numbers that are gone through from one within on.
 
-ghost use Rattle.std.specs.Prelude.{◌≡◌, ◌<◌, ◌≤◌, ◌-◌};
+ghost use Rattle.std.specs.Prelude.{◌≡◌, ◌<◌, ◌≤◌, ◌+◌, ◌-◌, ◌⊎◌};
 ghost use Rattle.hq_fence.specs.Spans.{IsSpan, number_at};
 
 /// The numbers from `start` up to `end`, of which those from `first` on come first.
@@ -42,6 +42,8 @@ impl Span {
         ensures span { IsSpan result }
         ensures start { result.start ≡ self.start }
         ensures end { result.end ≡ self.end }
+        ensures first { self.start ≤ number → number < self.end → result.first ≡ number + 1 }
+        ensures other { (number < self.start) ⊎ (self.end ≤ number) → result.first ≡ self.start }
     {
         let is_inside = self.start <= number && number < self.end;
         let first = if is_inside { number + 1 } else { self.start };
