@@ -1,5 +1,7 @@
 //! Runs in which bodies fail.
 
+ghost use Rattle.std.specs.Prelude.{◌<◌};
+
 use crate::bodies::{Faulting, Opening, Refusing};
 use crate::calls::good;
 use crate::jobs::{accepted, run_with};
@@ -111,26 +113,38 @@ fn a_piece_that_is_opened_is_lost(rt: HostRuntime) -> Result<(), Fail> {
     Ok(())
 }
 
+/// A copy's body that holds a piece of this tray.
+fn holding(alloc: Global, tray: &Tray) -> Result<Stock, Fail>
+    requires { 0 < tray.now.packets }
+{
+    let bytes = good([7u8].as_slice().to_vec(alloc))?;
+    let piece = good(Piece::new(alloc, tray, 0, 0, 4096, bytes))?;
+    let mut stock = Stock::new(Task::Copy);
+    if stock.load(piece).is_err() {
+        return Err("a body takes a piece".into());
+    }
+    Ok(stock)
+}
+
+/// Whether one piece came home to the tray, with this byte.
+fn is_home(alloc: Global, tray: &mut Tray, byte: u8) -> Result<bool, Fail> {
+    let homes = good(tray.gather(alloc))?;
+    match homes.as_slice() {
+        [home] => Ok(home.bytes.as_slice() == [byte].as_slice()),
+        _ => Ok(false),
+    }
+}
+
 #[test]
 fn a_body_that_holds_a_piece_of_another_tray(rt: HostRuntime) -> Result<(), Fail> {
-    let accepted = accepted(rt.alloc(), FILL_COPY_COPY)?;
     let Ok(mut tray) = Tray::open(rt.alloc(), 1) else {
         return Err("there is memory".into());
     };
-    let mut stock = Stock::new(Task::Copy);
-    let piece = good(Piece::new(
-        rt.alloc(),
-        &tray,
-        0,
-        0,
-        4096,
-        good([7u8].as_slice().to_vec(rt.alloc()))?,
-    ))?;
-    assert!(rt; stock.load(piece).is_ok());
+    let stock = holding(rt.alloc(), &tray)?;
+    let accepted = accepted(rt.alloc(), FILL_COPY_COPY)?;
     let mut bodies: Vec<(Place, Box<dyn KernelBody + Send>)> = Vec::new(rt.alloc());
     good(bodies.push(((0, 2), good(Box::new(rt.alloc(), stock))?)))?;
     assert_eq!(rt; fault_of(&rt, rt.alloc(), &accepted, bodies)?, (2, 2, 0, 2));
-    let homes = good(tray.gather(rt.alloc()))?;
-    assert!(rt; homes.len() == 1 && homes[0].bytes.as_slice() == [7u8].as_slice());
+    assert!(rt; is_home(rt.alloc(), &mut tray, 7)?);
     Ok(())
 }
