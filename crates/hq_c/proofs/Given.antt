@@ -1,7 +1,7 @@
 -- Reports of the bytes that a call was given.
 use Rattle.std.proofs.Common.{◌≡◌, ℕ, ◌⊎◌, inl, inr, List, [], ◌++◌, Option, Some, IfSome, refl, sym, ap, ◌∙◌, subst}
 use Rattle.hq_job.specs.Value.{JobValue}
-use Rattle.hq_job.specs.JobText.{JobText}
+use Rattle.hq_jobtext.specs.JobText.{JobText}
 use Rattle.hq_text.specs.Lines.{lines_of}
 use Rattle.hq_c.specs.Calls.{Answers, OfBytes, IsHandedOut}
 use Rattle.hq_c.specs.Calls.OfBytes.{of_text as given, no_memory as out_of_memory}

@@ -8,7 +8,7 @@ use Rattle.hq_packet.specs.declared.packet.Head.{Head}
 use Rattle.hq_packet.specs.Parts as parts
 use Rattle.hq_job.specs.declared.rows.Placed.{Placed}
 use Rattle.hq_job.specs.Plan.{plan, planned}
-use Rattle.hq_job.specs.Rewritten.{heads_of}
+use Rattle.hq_job.specs.Heads.{heads_of}
 use Rattle.hq_job.specs.Value.{JobValue}
 use Rattle.hq_model.specs.Job.{Job, Packet, no_packet, IsPacket}
 use Rattle.hq_model.specs.Fence.{Ordered}

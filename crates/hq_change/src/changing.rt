@@ -3,7 +3,7 @@
 ghost use Rattle.std.specs.Prelude.{◌≡◌, IfErr, IfOk, length};
 ghost use Rattle.hq_job.specs.Heads.{SameButHeads};
 ghost use Rattle.hq_job.specs.Plan.{plan};
-ghost use Rattle.hq_job.specs.Rewritten.{heads_of, job_with_heads};
+ghost use Rattle.hq_job.specs.Heads.{heads_of, job_with_heads};
 ghost use Rattle.hq_model.specs.Fence.{Ordered};
 ghost use Rattle.hq_model.specs.Settings.{highest, Raises};
 ghost use Rattle.hq_order.specs.View.{AreOf};

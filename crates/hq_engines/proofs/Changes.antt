@@ -4,7 +4,7 @@ use Rattle.std.specs.Prelude.{IfSome}
 use Rattle.std.proofs.lemmas.List.{length-map}
 use Rattle.hq_packet.specs.Parts.{head_of}
 use Rattle.hq_change.proofs.Whole.{as_many_values}
-use Rattle.hq_job.specs.Rewritten.{heads_of}
+use Rattle.hq_job.specs.Heads.{heads_of}
 use Rattle.hq_job.specs.declared.rows.Placed.{Placed}
 use Rattle.hq_model.specs.Job.{Job}
 use Rattle.hq_model.specs.Settings.{SameButHeads, highest}
@@ -12,7 +12,7 @@ use Rattle.hq_model.specs.Theorems.{Valid}
 use Rattle.hq_model.proofs.SettingsKept.{heads_leave_valid}
 use Rattle.hq_model.proofs.SettingsSteps.{highest_is_highest}
 use Rattle.hq_text.specs.Lines.{lines_of}
-use Rattle.hq_job.specs.JobText.{JobText}
+use Rattle.hq_jobtext.specs.JobText.{JobText}
 use Rattle.hq_job.specs.Plan.{plan}
 use Rattle.hq_job.specs.Value.{JobValue}
 use Rattle.hq_audit.specs.Refused.{IsRefused}

@@ -3,9 +3,10 @@ use Rattle.std.specs.Prelude.{◌≡◌, ℕ, List}
 use Rattle.hq_model.specs.Job.{Job}
 use Rattle.hq_model.specs.Settings.{highest}
 use Rattle.hq_text.specs.Lines.{lines_of}
-use Rattle.hq_job.specs.JobText.{JobText}
+use Rattle.hq_jobtext.specs.JobText.{JobText}
 use Rattle.hq_job.specs.Plan.{plan}
-use Rattle.hq_job.specs.Rewritten.{TextRewritten, heads_of}
+use Rattle.hq_jobtext.specs.Rewritten.{TextRewritten}
+use Rattle.hq_job.specs.Heads.{heads_of}
 use Rattle.hq_job.specs.Value.{JobValue}
 use Rattle.hq_change.specs.Minimal.{IsFixed, IsTrimmed}
 use Rattle.hq_judging.specs.Audit.{NotOrdered}

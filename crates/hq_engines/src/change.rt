@@ -2,9 +2,10 @@
 
 ghost use Rattle.std.specs.Prelude.{◌≡◌, IfErr, IfOk, IfSome, length};
 ghost use Rattle.hq_text.specs.Lines.{lines_of};
-ghost use Rattle.hq_job.specs.JobText.{JobText};
+ghost use Rattle.hq_jobtext.specs.JobText.{JobText};
 ghost use Rattle.hq_job.specs.Plan.{plan};
-ghost use Rattle.hq_job.specs.Rewritten.{TextRewritten, heads_of, job_with_heads};
+ghost use Rattle.hq_jobtext.specs.Rewritten.{TextRewritten};
+ghost use Rattle.hq_job.specs.Heads.{heads_of, job_with_heads};
 ghost use Rattle.hq_audit.specs.Refused.{IsRefused};
 ghost use Rattle.hq_audit.specs.declared.fault.AuditNo.TheVariants.{Memory};
 ghost use Rattle.hq_engines.specs.Change.{ChangeReport, IsChanged, TellsChange, TellsText, judged_job};
@@ -12,7 +13,8 @@ ghost use Rattle.hq_status.specs.Reports.{JobTextReport, OfReader, ReaderReport,
 
 use hq_audit::AuditNo;
 use hq_change::{Watch, fix, trim};
-use hq_job::{Job, rewrite};
+use hq_job::Job;
+use hq_jobtext::rewrite;
 use hq_judging::laws::stuck_exactly;
 use hq_judging::say_no_certificate;
 use hq_packet::Head;

@@ -5,13 +5,8 @@ pub mod Submitted
 pub mod Counted
 pub mod Found
 pub mod Tail
-pub mod Texts
 pub mod Kept
-pub mod Lines
-pub mod Leads
 pub mod BytePlaces
-pub mod NotRead
-pub mod Whole
 pub mod ByteNumbers
 pub mod SignalNumbers
 pub mod GroupedSums
@@ -27,7 +22,5 @@ pub mod Shares
 pub mod Spans
 pub mod Options
 pub mod BlockRows
-pub mod Causes
-pub mod RewrittenLines
-pub mod RewrittenJob
-pub mod RewrittenOnce
+pub mod AllHeads
+pub mod Verdicts

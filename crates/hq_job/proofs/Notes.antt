@@ -13,12 +13,11 @@ use Rattle.std.proofs.Math.Seq.{take-suc}
 use Rattle.hq_packet.specs.declared.packet.Packet.{Packet}
 use Rattle.hq_packet.specs.Parts.{completion_of}
 use Rattle.std.specs.Prelude.{slice_get, Some}
-use Rattle.std.proofs.lemmas.List.{get_or_default}
+use Rattle.std.proofs.lemmas.List.{get_or_default, take_all}
 use Rattle.hq_model.specs.Job.{is_signal}
 use Rattle.hq_job.specs.Fits.{TablesFit}
 use Rattle.hq_job.specs.PacketTests.{completed, awaited}
 use Rattle.hq_job.specs.Tables.{Tables, IsUndeclared, deps_of, noted_by}
-use Rattle.hq_job.proofs.Lines.{take_all}
 
 or_none : (b : Bool) → (b || false) ≡ b
 or_none true = refl
@@ -113,7 +112,7 @@ module _ (old mid new : List OpenSignal) (ds : List ℕ) (i d : ℕ) (lt : i < l
   turn_null some z = so_far ∙ no_wait (take i ds) d old some z ∙ ap (λ xs. map (awaited xs) old) (sym next)
 
 pub waits_all : (old mid : List OpenSignal) (ds : List ℕ) (i : ℕ) → length ds ≤ i → mid ≡ map (awaited (take i ds)) old → mid ≡ map (awaited ds) old
-waits_all old mid ds i le so_far = so_far ∙ ap (λ xs. map (awaited xs) old) (take_all ds i le)
+waits_all old mid ds i le so_far = so_far ∙ ap (λ xs. map (awaited xs) old) (take_all i ds le)
 
 pub handles-awaited : (ds : List ℕ) (signals : List OpenSignal) → handles (map (awaited ds) signals) ≡ handles signals
 handles-awaited ds [] = refl

@@ -17,7 +17,7 @@ use Rattle.hq_job.specs.Plan.{plan, planned}
 use Rattle.hq_job.specs.Value.{Bytes}
 use Rattle.hq_job.specs.View.{IsRead, WithinLimits, PacketIsRead}
 use Rattle.hq_job.specs.Tables.{Tables, total_of}
-use Rattle.hq_job.specs.JobText.{value_of}
+use Rattle.hq_job.specs.Ended.{value_of}
 use Rattle.hq_job.specs.Fits.{TablesFit, PacketFits}
 use Rattle.hq_job.proofs.Grouped.{grouped_most}
 use Rattle.hq_job.proofs.Submitted.{queue_of, at, all_at, within, each_once, in_order}

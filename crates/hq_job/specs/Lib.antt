@@ -9,15 +9,10 @@ pub mod PacketTests
 pub mod Blocks
 pub mod Adds
 pub mod TablesView
-pub mod JobText
 pub mod Fits
-pub mod SoFar
-pub mod DraftView
-pub mod LineMeans
-pub mod Rewritten
-pub mod RewriteSteps
 pub mod Access
 pub mod Heads
 pub mod JobFields
 pub mod Conflicts
 pub mod Equal
+pub mod Ended

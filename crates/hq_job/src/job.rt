@@ -3,7 +3,7 @@
 ghost use Rattle.std.specs.Prelude.{◌≡◌, ◌<◌, ◌↔◌, ℕ, Some, IsNone, All, IfOk, length};
 ghost use Rattle.hq_job.specs.Access.{StandsAt, AreOfQueue};
 ghost use Rattle.hq_job.specs.Blocks.{blocks_of};
-ghost use Rattle.hq_job.specs.Heads.{job_with_each, job_with_head, SameButHeads};
+ghost use Rattle.hq_job.specs.Heads.{heads_of, job_with_each, job_with_head, SameButHeads};
 ghost use Rattle.hq_job.specs.Plan.{plan, planned};
 ghost use Rattle.hq_job.specs.Tables.{byte_number};
 ghost use Rattle.hq_model.specs.Job.{packet};
@@ -49,11 +49,11 @@ impl Job {
     ghost use Rattle.hq_job.specs.View.{WithinLimits, PacketIsRead};
     ghost use Rattle.hq_job.specs.Fits.{TablesFit};
     ghost use Rattle.hq_job.specs.TablesView.{tables_of};
-    ghost use Rattle.hq_job.specs.JobText.{value_of as job_of};
+    ghost use Rattle.hq_job.specs.Ended.{value_of as job_of};
     ghost use Rattle.hq_signals.specs.Table.{IsUndershot, NeverReachesZero};
 
     /// The job of tables that are complete and have no signal against them.
-    pub(crate) fn of_tables(alloc: Global, tables: Tables) -> Result<Job, AllocError>
+    pub fn of_tables(alloc: Global, tables: Tables) -> Result<Job, AllocError>
         requires fit { TablesFit (tables_of tables) }
         requires enough { All (λ s. ¬ IsUndershot s) tables.signals }
         requires exact { All (λ s. ¬ NeverReachesZero s) tables.signals }
@@ -172,6 +172,13 @@ impl Job {
         ensures { result ≡ head_at (plan self.now) packet }
     {
         self.packet(packet).packet.head()
+    }
+
+    /// The heads of the packets, by number.
+    pub fn heads(&self, alloc: Global) -> Result<Vec<Head>, AllocError>
+        ensures { IfOk result (λ heads. heads.items ≡ heads_of self.now) }
+    {
+        rows::heads_in(alloc, self.packets())
     }
 
     /// Gives a packet this head. All else is as it was, and no memory is taken.

@@ -1,6 +1,7 @@
 //! What the lines of a job declare.
 
 ghost use Rattle.std.specs.Prelude.{◌≡◌, ◌<◌, length, map, IfOk};
+ghost use Rattle.hq_packet.specs.Parts.{head_of};
 ghost use Rattle.hq_job.specs.Blocks.{bytes_of, blocks_of};
 ghost use Rattle.hq_job.specs.Heads.{placed_with_head, packets_with_head};
 
@@ -101,4 +102,15 @@ pub fn set_each_head(packets: &mut [Placed], head: Head)
     for packet in packets.iter_mut() {
         *packet = packet.with_head(head);
     }
+}
+
+/// The heads of these packets.
+pub fn heads_in(alloc: Global, packets: &[Placed]) -> Result<Vec<Head>, AllocError>
+    ensures { IfOk result (λ heads. heads.items ≡ map (λ p. head_of p.packet) packets.now) }
+{
+    let mut heads = Vec::with_capacity(alloc, packets.len())?;
+    for packet in packets {
+        heads.push(packet.packet.head())?;
+    }
+    Ok(heads)
 }

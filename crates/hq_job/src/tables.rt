@@ -40,8 +40,9 @@ fn copy_names(names: &IndexSet<Name>, copy: &mut IndexSet<Name>) -> Result<(), A
 
 impl Tables {
     ghost use Rattle.hq_job.specs.Tables.{empty};
-    ghost use Rattle.hq_job.specs.Adds.{Adds, signal_reason};
-    ghost use Rattle.hq_job.specs.JobText.{RefusedAtEnd};
+    ghost use Rattle.hq_job.specs.Adds.{Adds};
+    ghost use Rattle.hq_job.specs.Ended.{signal_reason};
+    ghost use Rattle.hq_job.specs.Ended.{RefusedAtEnd};
     ghost use Rattle.hq_signals.specs.Table.{IsUndershot, NeverReachesZero};
     ghost use Rattle.hq_job.specs.TablesView.{tables_of};
 

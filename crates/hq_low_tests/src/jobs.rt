@@ -1,5 +1,6 @@
 use crate::calls::good;
-use hq_job::{Job, JobFault, Reason, read, read_text};
+use hq_job::{Job, JobFault, Reason};
+use hq_jobtext::{read, read_text};
 use std::alloc::Global;
 use std::io;
 use std::io::Read;

@@ -1,8 +1,7 @@
 -- Bytes that are read at once.
 use Rattle.std.proofs.Common.{◌≡◌, ℕ, zero, suc, ◌<◌, inl, inr, List, ◌==◌, Bool, false, Option, Some, None, unwrap_or, length, map, get_or, sym, ◌∙◌, ap, arith}
 use Rattle.std.proofs.lemmas.Bool.{true≢false}
-use Rattle.std.proofs.lemmas.List.{length-map, get_or-map}
-use Rattle.hq_job.proofs.Lines.{take_all}
+use Rattle.std.proofs.lemmas.List.{length-map, get_or-map, take_all}
 use Rattle.hq_model.specs.Job.{Job, packet, IsPacket}
 use Rattle.hq_model.specs.Machine.{bytes_read}
 use Rattle.hq_model.proofs.Given.{listed_is}
@@ -19,5 +18,5 @@ whole_read job v p w k is some e =
     let n : ℕ = length (packet job p).reads in
     let row : length (row_of v.reads p) ≡ length w = ap length e ∙ length-map w Some in
     let len : length w ≡ n = elim (k.read_rows p is) [ inl none ↦ absurd (omega (arith, none, row, some)) | inr all ↦ omega (arith, all, row) ] in
-    sym (take_all w n (omega (arith, len))) ∙ sym (listed_is n (λ i. unwrap_or ((state_of job v).read p i) 0) w (omega (arith, len)) (λ i l.
+    sym (take_all n w (omega (arith, len))) ∙ sym (listed_is n (λ i. unwrap_or ((state_of job v).read p i) 0) w (omega (arith, len)) (λ i l.
     ap (λ (r : List (Option ℕ)). unwrap_or (get_or r i None) 0) e ∙ ap (λ (o : Option ℕ). unwrap_or o 0) (get_or-map Some w i 0 None (omega (arith, l, len)))))

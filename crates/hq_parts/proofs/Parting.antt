@@ -9,7 +9,7 @@ use Rattle.std.proofs.lemmas.List.{length-map, take_more}
 use Rattle.std.proofs.lemmas.Nat.{le-div}
 use Rattle.std.proofs.lemmas.Nat.Bits.{bit_at_or, bit_at-lt, bit_at-zero, bit_at_set_same, bit_at_set_other, bit_at_ones, bit_at_above}
 use Rattle.std.proofs.lemmas.Option.{slice_get_within, slice_get-get_or}
-use Rattle.hq_job.proofs.Lines.{take_all}
+use Rattle.std.proofs.lemmas.List.{take_all}
 use Rattle.hq_footprint.specs.declared.footprint.Range.{Range}
 use Rattle.hq_footprint.specs.Bytes as bytes
 use Rattle.hq_footprint.specs.Bytes.{bytes_of, read_entries, written_bytes}
@@ -147,7 +147,7 @@ of_packets size v ts h =
     }
 
 pub of_all : (size : ℕ) (v : JobValue) (ts : List Touch) (i : ℕ) → length v.packets ≤ i → AreOf size ts (take i v.packets) → TellConflicts (plan v) ts
-of_all size v ts i l h = of_packets size v ts (subst (AreOf size ts) (take_all v.packets i l) h)
+of_all size v ts i l h = of_packets size v ts (subst (AreOf size ts) (take_all i v.packets l) h)
 
 -- ---- rows of packets
 

@@ -12,7 +12,7 @@ use std::thread::Threads;
 
 /// The job of a text, accepted by the certificate that its audit gives.
 pub fn accept_text(alloc: Global, text: &[u8]) -> Option<Accepted> {
-    let Ok(job) = hq_job::read_text(alloc, text) else {
+    let Ok(job) = hq_jobtext::read_text(alloc, text) else {
         return None;
     };
     let Ok(certificate) = audit(alloc, &job) else {

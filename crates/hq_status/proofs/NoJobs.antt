@@ -3,8 +3,8 @@ use Rattle.std.proofs.Common.{◌≡◌, ℕ, inl, inr, List, Option, codes, ap}
 use Rattle.hq_text.specs.Intake.{OfText}
 use Rattle.hq_text.specs.Lines.{lines_of}
 use Rattle.hq_text.specs.Turns.{ReadTurn}
-use Rattle.hq_job.specs.Adds.{FaultOf}
-use Rattle.hq_job.specs.JobText.{JobText, FirstFault}
+use Rattle.hq_jobtext.specs.Answered.{FaultOf}
+use Rattle.hq_jobtext.specs.JobText.{JobText, FirstFault}
 use Rattle.hq_job.specs.Value.{JobValue}
 use Rattle.hq_job.specs.declared.fault.JobFault.{JobFault}
 use Rattle.hq_job.specs.declared.fault.Reason.TheVariants as reason

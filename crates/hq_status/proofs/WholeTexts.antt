@@ -3,11 +3,11 @@ use Rattle.std.proofs.Common.{◌≡◌, ℕ, ◌⊎◌, inl, inr, List, Option,
 use Rattle.hq_text.specs.Intake.{OfText}
 use Rattle.hq_text.specs.Lines.{lines_of}
 use Rattle.hq_text.specs.Turns.{Ends, ReadTurn}
-use Rattle.hq_job.specs.Adds.{no_memory, FaultOf}
-use Rattle.hq_job.specs.JobText.{FirstFault}
+use Rattle.hq_jobtext.specs.Answered.{no_memory, FaultOf}
+use Rattle.hq_jobtext.specs.JobText.{FirstFault}
 use Rattle.hq_job.specs.declared.fault.JobFault.{JobFault}
 use Rattle.hq_job.specs.declared.fault.Reason.TheVariants as reason
-use Rattle.hq_job.proofs.NotRead.{not_read}
+use Rattle.hq_jobtext.proofs.NotRead.{not_read}
 use Rattle.hq_status.specs.Reports.{IsUnread, NoJob, ReaderReport, Reported, SaysNoJob}
 use Rattle.hq_status.specs.declared.status.Status.{Status}
 use Rattle.hq_status.proofs.NoJobs.{no_job_said}

@@ -4,7 +4,7 @@ use Rattle.std.specs.Io.KnownBytes.{Appends}
 use Rattle.hq_text.specs.Lines.{lines_of}
 use Rattle.hq_text.specs.Turns.{Ends, Fails, Passes, ReadTurn}
 use Rattle.hq_text.specs.declared.take.TheConstants.{TURNS}
-use Rattle.hq_job.specs.JobText.{JobText, FirstFault}
+use Rattle.hq_jobtext.specs.JobText.{JobText, FirstFault}
 use Rattle.hq_job.specs.Value.{JobValue}
 use Rattle.hq_job.specs.declared.fault.JobFault.{JobFault}
 use Rattle.hq_job.specs.declared.fault.Reason.TheVariants as reason

@@ -2,12 +2,13 @@
 
 ghost use Rattle.std.specs.Prelude.{◌≡◌, IfOk, IfErr, OnOk};
 ghost use Rattle.hq_text.specs.Lines.{lines_of};
-ghost use Rattle.hq_job.specs.JobText.{JobText};
+ghost use Rattle.hq_jobtext.specs.JobText.{JobText};
 ghost use Rattle.hq_status.specs.Reports.{NoJob, OfReader, ReaderReport, Reported, SaysNoJob};
 
 use crate::saying::{say, say_file, say_memory};
 use crate::status::Status;
-use hq_job::{Job, JobFault, Reason, TextFault, read, read_text, take_text};
+use hq_job::{Job, JobFault, Reason};
+use hq_jobtext::{TextFault, read, read_text, take_text};
 use hq_report::JobRefusal;
 use std::alloc::Global;
 use std::io::{Read, Write};

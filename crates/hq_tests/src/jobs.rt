@@ -1,7 +1,8 @@
 //! Jobs of texts.
 
 use crate::calls::good;
-use hq_job::{Job, read_text};
+use hq_job::Job;
+use hq_jobtext::read_text;
 use std::alloc::Global;
 use std::test::*;
 

@@ -2,7 +2,8 @@ ghost use Rattle.hq_job.specs.Plan.{plan};
 ghost use Rattle.hq_machine.specs.View.{IsStateOf};
 
 use crate::calls::good;
-use hq_job::{Job, read_text};
+use hq_job::Job;
+use hq_jobtext::read_text;
 use hq_machine::{Event, Journal, State, StepFault};
 use hq_timeline::replay;
 use hq_witness::{Kind, Origin, Place, Why, Witness, WitnessNo, witness};

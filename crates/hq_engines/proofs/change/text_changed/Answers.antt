@@ -1,7 +1,7 @@
 use Rattle.std.proofs.Common.{◌≡◌, ◌∙◌, ap, sym, subst, length}
 use Rattle.std.proofs.lemmas.Result.{IfErr-weaker, IfOk-weaker}
 use Rattle.hq_job.specs.Plan.{plan}
-use Rattle.hq_job.specs.Rewritten.{heads_of, job_with_heads}
+use Rattle.hq_job.specs.Heads.{heads_of, job_with_heads}
 use Rattle.hq_job.specs.Value.{JobValue}
 use Rattle.hq_audit.specs.Refused.{IsRefused}
 use Rattle.hq_engines.specs.Change.{IsChanged, judged_job}

@@ -1,5 +1,5 @@
 use Rattle.hq_job.proofs.laws.own_heads.Goals as goal
-use Rattle.hq_job.proofs.RewrittenOnce.{own_heads}
+use Rattle.hq_job.proofs.AllHeads.{own_heads}
 
 pub returns : goal.returns
 returns c = own_heads

@@ -1,5 +1,5 @@
 use Rattle.hq_text.specs.Lines.{lines_of}
-use Rattle.hq_job.specs.JobText.{JobText}
+use Rattle.hq_jobtext.specs.JobText.{JobText}
 use Rattle.hq_status.proofs.NoJobs.{no_job_said}
 use Rattle.hq_status.proofs.ReadTexts.{of_reader}
 use Rattle.hq_status.proofs.taking.take_job.Goals as goal

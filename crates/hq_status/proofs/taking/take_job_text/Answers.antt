@@ -1,7 +1,7 @@
 use Rattle.std.proofs.Common.{◌≡◌, ◌⊎◌, codes, subst}
 use Rattle.hq_text.specs.Lines.{lines_of}
-use Rattle.hq_job.specs.Adds.{no_memory as fault_of_memory}
-use Rattle.hq_job.specs.JobText.{FirstFault}
+use Rattle.hq_jobtext.specs.Answered.{no_memory as fault_of_memory}
+use Rattle.hq_jobtext.specs.JobText.{FirstFault}
 use Rattle.hq_status.specs.Reports.{with_feed}
 use Rattle.hq_status.specs.Reports.ReaderReport.{no_text, no_memory}
 use Rattle.hq_status.specs.declared.status.Status.TheVariants as status

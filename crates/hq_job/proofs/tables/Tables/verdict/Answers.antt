@@ -1,4 +1,4 @@
-use Rattle.hq_job.proofs.Whole.{told}
+use Rattle.hq_job.proofs.Verdicts.{told}
 use Rattle.hq_job.proofs.tables.Tables.verdict.Goals as goal
 
 pub returns-clause-fault : goal.returns-clause-fault

@@ -1,5 +1,0 @@
-use Rattle.hq_job.proofs.laws.faultless_where_job.Goals as goal
-use Rattle.hq_job.proofs.Texts as laws
-
-pub returns : goal.returns
-returns c = laws.faultless_where_job

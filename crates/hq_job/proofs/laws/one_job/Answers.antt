@@ -1,5 +1,0 @@
-use Rattle.hq_job.proofs.laws.one_job.Goals as goal
-use Rattle.hq_job.proofs.Texts as laws
-
-pub returns : goal.returns
-returns c = laws.one_job

@@ -1,5 +1,0 @@
-use Rattle.hq_job.proofs.laws.rewritten_is_job.Goals as goal
-use Rattle.hq_job.proofs.RewrittenJob.{rewritten_is_job}
-
-pub returns : goal.returns
-returns c = rewritten_is_job

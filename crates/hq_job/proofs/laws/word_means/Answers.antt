@@ -1,5 +1,0 @@
-use Rattle.hq_job.proofs.Causes as laws
-use Rattle.hq_job.proofs.laws.word_means.Goals as goal
-
-pub returns : goal.returns
-returns c = laws.word_means

@@ -1,7 +1,0 @@
--- What a draft's fields mean.
-use Rattle.hq_job.specs.declared.draft.Draft.{Draft}
-use Rattle.hq_job.specs.SoFar.{SoFar}
-use Rattle.hq_job.specs.TablesView.{tables_of}
-
-abbrev pub so_far : Draft → SoFar
-so_far d = record { place = d.place; tables = tables_of d.tables; count = d.count }

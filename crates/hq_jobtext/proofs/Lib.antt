@@ -1,0 +1,9 @@
+pub mod Lines
+pub mod Leads
+pub mod NotRead
+pub mod Texts
+pub mod Whole
+pub mod Causes
+pub mod RewrittenLines
+pub mod RewrittenJob
+pub mod RewrittenOnce

@@ -1,0 +1,5 @@
+use Rattle.hq_jobtext.proofs.Causes as laws
+use Rattle.hq_jobtext.proofs.laws.hex_means.Goals as goal
+
+pub returns : goal.returns
+returns c = laws.hex_means

@@ -1,0 +1,5 @@
+use Rattle.hq_jobtext.proofs.laws.one_job.Goals as goal
+use Rattle.hq_jobtext.proofs.Texts as laws
+
+pub returns : goal.returns
+returns c = laws.one_job
