@@ -58,6 +58,11 @@ fn direct_from(before: &Before, p: usize, r: usize, kinds: Kinds) -> Result<Dire
 }
 
 /// The direction in which a and b are ordered, or what isn't in the direction that is told of.
+///
+/// # Errors
+///
+/// `Unshown` where neither direction is ordered: the first kind of conflict that isn't, in the direction that is
+/// told of, and why.
 pub fn direct(before: &Before, a: usize, b: usize) -> Result<Directed, Unshown>
     requires a_is { a < length before.now.packets }
     requires b_is { b < length before.now.packets }

@@ -47,6 +47,10 @@ fn row_shown(before: &Before, parts: &Parts, a: usize) -> Result<(), Unshown>
 
 /// Whether all conflicts are ordered, each two packets in one direction; else the first two that aren't. Takes no
 /// memory.
+///
+/// # Errors
+///
+/// `Unshown` with the first two packets, by number, that aren't ordered in either direction.
 pub fn all_shown(before: &Before, parts: &Parts) -> Result<(), Unshown>
     requires parts { AreParts before.now parts.now }
     ensures shown { OnOk result (AllShown before.now) }

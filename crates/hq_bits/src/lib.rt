@@ -17,6 +17,10 @@ pub const WIDTH: usize = PACKETS;
 pub const WORDS: usize = WIDTH / 64;
 
 /// No number, in so many words.
+///
+/// # Errors
+///
+/// `AllocError` where there is no memory.
 pub fn empty(alloc: Global, words: usize) -> Result<Vec<u64>, AllocError>
     ensures len { IfOk result (λ row. length row.items ≡ words) }
     ensures none { IfOk result (λ row. (p : ℕ) → has row.items p ≡ false) }
@@ -25,6 +29,10 @@ pub fn empty(alloc: Global, words: usize) -> Result<Vec<u64>, AllocError>
 }
 
 /// All numbers that so many words have room for.
+///
+/// # Errors
+///
+/// `AllocError` where there is no memory.
 pub fn full(alloc: Global, words: usize) -> Result<Vec<u64>, AllocError>
     ensures len { IfOk result (λ row. length row.items ≡ words) }
     ensures all { IfOk result (λ row. (p : ℕ) → IsTrue (has row.items p) ↔ p / 64 < words) }

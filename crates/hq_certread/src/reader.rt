@@ -37,6 +37,11 @@ fn read_source<S: Source>(
 /// the text no more is held than what waits for the end of its line, and some 64 KiB. The reader gives the text in
 /// at most 2,000,000 turns of at most 512 bytes; where it fails, in any way, or passes its turns, that is the
 /// fault, also behind a faulty line.
+///
+/// # Errors
+///
+/// `ReadFault::Text` with the first faulty line, or that there is no memory, at line 0; `ReadFault::Reader` where
+/// the reader failed or passed its turns.
 pub fn read<R: Read>(alloc: Global, reader: &mut R) -> Result<Certificate, ReadFault<CertFault>>
     ensures found { IfSome (R.remaining reader.old) (λ text. IfOk result (λ c. CertText (lines_of text) c)) }
     ensures only { IfSome (R.remaining reader.old)

@@ -137,6 +137,10 @@ fn read_all(alloc: Global, text: &[u8]) -> Result<Certificate, CertFault>
 
 /// The certificate that a text is, or the first faulty line. Where memory runs out, that is the fault, at line 0;
 /// so it is where a certificate has more lines than 32 bits number.
+///
+/// # Errors
+///
+/// `CertFault` with the first faulty line, or that there is no memory, at line 0.
 pub fn parse(alloc: Global, text: &[u8]) -> Result<Certificate, CertFault>
     ensures found { IfOk result (λ c. CertText (lines_of text.now) c) }
     // The certificate of a text is read, unless memory runs out.

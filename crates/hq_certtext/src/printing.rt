@@ -292,6 +292,10 @@ pub fn taken(alloc: Global) -> Result<(Vec<u8>, Rows), AllocError>
 /// certificate has a text, as each one that an audit gives or a text was read as, what was written is that, and so
 /// is read as the same certificate. All memory is taken before the first byte is written. The writer is not
 /// flushed; where it fails a part of the text may be written.
+///
+/// # Errors
+///
+/// `Memory`, and then nothing is written; `Writer` where the writer failed.
 pub fn print<W: Write>(
     alloc: Global,
     certificate: &Certificate,

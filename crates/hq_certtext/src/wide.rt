@@ -322,6 +322,10 @@ fn is_worth_it(certificate: &Certificate) -> bool
 
 /// Writes what `print` writes, the lines and pair lines by parts that as many threads get ready as there are
 /// processors. Where there is no memory for a part, it is written as `print` writes it.
+///
+/// # Errors
+///
+/// Those of `print`.
 pub fn print_wide<R: Threads + Sync, W: Write>(
     rt: &R,
     alloc: Global,

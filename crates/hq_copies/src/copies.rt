@@ -50,6 +50,10 @@ impl Model for Copies {
 
 impl Copies {
     /// Memory with these bytes, agents that hold nothing, and for each number of an agent a lane that holds nothing.
+    ///
+    /// # Errors
+    ///
+    /// `Memory` alone.
     pub fn new(
         alloc: Global,
         memory: Vec<u8>,
@@ -145,6 +149,10 @@ impl Copies {
     }
 
     /// The write of a byte through a lane: the lane's copy is then dirty.
+    ///
+    /// # Errors
+    ///
+    /// `Memory`, and then nothing changes.
     pub fn store(&mut self, lane: usize, byte: usize, value: u8) -> Result<(), CopiesFault>
         requires { IsLaneByte self.old lane byte }
         ensures ok { OnOk result (self.new ≡ stored self.old lane byte value) }
@@ -175,6 +183,10 @@ impl Copies {
     }
 
     /// The writes of bytes through a lane, from a byte on: all of them or none.
+    ///
+    /// # Errors
+    ///
+    /// `Memory`, and then nothing changes.
     pub fn store_run(&mut self, lane: usize, byte: usize, bytes: &[u8]) -> Result<(), CopiesFault>
         requires lane { lane < length self.old.lanes }
         requires bytes { byte + length bytes.now ≤ length self.old.memory }
@@ -190,6 +202,10 @@ impl Copies {
     }
 
     /// Writes a lane's dirty byte back to its agent.
+    ///
+    /// # Errors
+    ///
+    /// `NotDirty` where the lane's copy isn't dirty; `Memory`. Nothing changes then.
     pub fn push_lane(&mut self, lane: usize, byte: usize) -> Result<(), CopiesFault>
         requires { IsLaneByte self.old lane byte }
         ensures ok { OnOk result (PushedLane self.old lane byte self.new) }
@@ -214,6 +230,10 @@ impl Copies {
     }
 
     /// Writes an agent's dirty byte back to memory.
+    ///
+    /// # Errors
+    ///
+    /// `NotDirty` where the agent's copy isn't dirty; `Memory`. Nothing changes then.
     pub fn push_agent(&mut self, agent: usize, byte: usize) -> Result<(), CopiesFault>
         requires { IsAgentByte self.old agent byte }
         ensures ok { OnOk result (PushedAgent self.old agent byte self.new) }
@@ -234,6 +254,10 @@ impl Copies {
     }
 
     /// Gives a lane a clean copy of a byte that it doesn't hold, as its agent sees it.
+    ///
+    /// # Errors
+    ///
+    /// `Present` where the lane holds the byte; `Memory`. Nothing changes then.
     pub fn fill_lane(&mut self, lane: usize, byte: usize) -> Result<(), CopiesFault>
         requires { IsLaneByte self.old lane byte }
         ensures ok { OnOk result
@@ -258,6 +282,10 @@ impl Copies {
     }
 
     /// Gives an agent a clean copy of a byte of memory that it doesn't hold.
+    ///
+    /// # Errors
+    ///
+    /// `Present` where the agent holds the byte; `Memory`. Nothing changes then.
     pub fn fill_agent(&mut self, agent: usize, byte: usize) -> Result<(), CopiesFault>
         requires { IsAgentByte self.old agent byte }
         ensures ok { OnOk result
@@ -279,6 +307,10 @@ impl Copies {
     }
 
     /// Lets a lane's clean copy of a byte go.
+    ///
+    /// # Errors
+    ///
+    /// `NotClean` where the lane has no clean copy; `Memory`. Nothing changes then.
     pub fn drop_lane(&mut self, lane: usize, byte: usize) -> Result<(), CopiesFault>
         requires { IsLaneByte self.old lane byte }
         ensures ok { OnOk result
@@ -302,6 +334,10 @@ impl Copies {
     }
 
     /// Lets an agent's clean copy of a byte go.
+    ///
+    /// # Errors
+    ///
+    /// `NotClean` where the agent has no clean copy; `Memory`. Nothing changes then.
     pub fn drop_agent(&mut self, agent: usize, byte: usize) -> Result<(), CopiesFault>
         requires { IsAgentByte self.old agent byte }
         ensures ok { OnOk result
@@ -389,6 +425,10 @@ impl Copies {
     }
 
     /// The write-backs that a release fence over these lanes and this agent waits for: all of them or none.
+    ///
+    /// # Errors
+    ///
+    /// `Memory`, and then nothing changes.
     pub fn release(
         &mut self,
         lanes: Range<usize>,
@@ -451,6 +491,10 @@ impl Copies {
     }
 
     /// An equal value.
+    ///
+    /// # Errors
+    ///
+    /// `Memory` alone.
     pub fn copy(&self, alloc: Global) -> Result<Copies, CopiesFault>
         ensures ok { IfOk result (λ c. c ≡ self.now) }
         ensures memory { IfErr result (λ e. e ≡ CopiesFault.Memory) }

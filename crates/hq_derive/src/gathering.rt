@@ -171,6 +171,10 @@ fn add_rounds(
 }
 
 /// The lines that are needed, and no others: by round, then by the first packet, then by the second.
+///
+/// # Errors
+///
+/// `AllocError` where there is no memory.
 pub fn lines_for(alloc: Global, before: &Before, needs: Needs) -> Result<Lines, AllocError>
     ensures { IfOk result (Kept before.now) }
 {

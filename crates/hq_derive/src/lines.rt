@@ -180,6 +180,10 @@ impl Lines {
     }
 
     /// The number of the line that p is before r. Where there is none yet, it goes in, behind those that it cites.
+    ///
+    /// # Errors
+    ///
+    /// `AllocError` where there is no memory.
     #[inline(always)]
     pub fn number(
         &mut self,

@@ -18,6 +18,10 @@ pub struct Needs {
 
 impl Needs {
     /// None are needed yet.
+    ///
+    /// # Errors
+    ///
+    /// `AllocError` where there is no memory.
     pub fn new(alloc: Global, before: &Before) -> Result<Needs, AllocError> {
         before.job().valid();
         let bits = vec![in alloc; 0; before.len() * WORDS]?;

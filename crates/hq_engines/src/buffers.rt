@@ -51,6 +51,10 @@ fn push_buffers(
 }
 
 /// The buffers' lines, in file order, with these bytes.
+///
+/// # Errors
+///
+/// `AllocError` where there is no memory.
 pub fn buffers_text_of(alloc: Global, job: &Job, memory: &[u8]) -> Result<Vec<u8>, AllocError>
     requires { length memory.now ≡ length (plan job.now).memory }
     ensures { IfOk result (λ text. text.items ≡ buffers_text job.now.buffers memory.now) }

@@ -11,6 +11,10 @@ use std::alloc::Global;
 use std::io::Write;
 
 /// Writes the text of a journal, where there is a writer for it. All memory is taken before the first byte is written.
+///
+/// # Errors
+///
+/// `Memory`, and then nothing is written; `Writer` where the writer failed.
 pub fn write_timeline<T: Write>(
     alloc: Global,
     timeline: &mut Option<T>,

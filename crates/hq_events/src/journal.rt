@@ -47,6 +47,10 @@ impl Journal {
     }
 
     /// Takes the event in as the last. Where there is no memory, the journal stays as it was.
+    ///
+    /// # Errors
+    ///
+    /// `AllocError` where there is no memory, and then the journal stays as it was.
     pub fn push(&mut self, event: Event) -> Result<(), AllocError>
         ensures ok { OnOk result (self.new ≡ self.old ++ event ∷ []) }
         ensures err { OnErr result (self.new ≡ self.old) }

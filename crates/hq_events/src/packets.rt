@@ -175,6 +175,10 @@ fn lane_agent(job: &Job, number: usize) -> u8
 }
 
 /// The agent of each packet.
+///
+/// # Errors
+///
+/// `AllocError` where there is no memory.
 pub fn lane_agents(alloc: Global, job: &Job) -> Result<Vec<u8>, AllocError>
     ensures count { IfOk result (λ agents. length agents.items ≡ length job.now.packets) }
     ensures agents { IfOk result (λ agents. AllAre (λ p agent. agent ≡ agent_of (plan job.now) p) agents.items) }

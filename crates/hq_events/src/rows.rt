@@ -100,6 +100,10 @@ impl Reads {
     }
 
     /// Makes room for so many entries, where there is none yet.
+    ///
+    /// # Errors
+    ///
+    /// `AllocError` where there is no memory.
     pub fn open(&mut self, total: usize) -> Result<(), AllocError>
         requires { IsRow total self.old }
         ensures room { OnOk result (length self.new ≡ total) }
@@ -123,6 +127,10 @@ impl Reads {
     }
 
     /// Takes the byte of one of so many entries in.
+    ///
+    /// # Errors
+    ///
+    /// `AllocError` where there is no memory.
     pub fn take(&mut self, entry: usize, total: usize, byte: u8) -> Result<(), AllocError>
         requires row { IsRow total self.old }
         requires there { entry < total }
@@ -172,6 +180,10 @@ impl Stores {
     }
 
     /// These bytes, none of them stored yet.
+    ///
+    /// # Errors
+    ///
+    /// `AllocError` where there is no memory.
     pub fn open(alloc: Global, bytes: Vec<u8>) -> Result<Stores, AllocError>
         ensures { IfOk result (λ s. s ≡ record { bytes = bytes.items; stored = replicate (length bytes.items) false }) }
     {

@@ -24,6 +24,10 @@ fn first_phase(job: &Job) -> Phase
 }
 
 /// The phase of each packet as the job starts.
+///
+/// # Errors
+///
+/// `AllocError` where there is no memory.
 #[tactic(auto, using(crate::proofs::Replicated::map_replicate))]
 pub fn first_phases(alloc: Global, job: &Job) -> Result<Vec<Phase>, AllocError>
     ensures { IfOk result
@@ -34,6 +38,10 @@ pub fn first_phases(alloc: Global, job: &Job) -> Result<Vec<Phase>, AllocError>
 }
 
 /// What each packet has observed as the job starts.
+///
+/// # Errors
+///
+/// `AllocError` where there is no memory.
 pub fn nothing_observed(alloc: Global, count: usize) -> Result<Vec<[bool; 5]>, AllocError>
     ensures { IfOk result (λ rows. rows.items ≡ replicate count (replicate 5 false)) }
 {
@@ -42,6 +50,10 @@ pub fn nothing_observed(alloc: Global, count: usize) -> Result<Vec<[bool; 5]>, A
 }
 
 /// What each signal starts with.
+///
+/// # Errors
+///
+/// `AllocError` where there is no memory.
 pub fn signal_values(alloc: Global, job: &Job) -> Result<Vec<u64>, AllocError>
     ensures { IfOk result (λ values. values.items ≡ (plan job.now).starts) }
 {
@@ -55,6 +67,10 @@ pub fn signal_values(alloc: Global, job: &Job) -> Result<Vec<u64>, AllocError>
 }
 
 /// A row for each packet, with nothing read.
+///
+/// # Errors
+///
+/// `AllocError` where there is no memory.
 #[tactic(auto, using(crate::proofs::Replicated::replicate_more))]
 pub fn no_reads(alloc: Global, count: usize) -> Result<Vec<Reads>, AllocError>
     ensures { IfOk result (λ rows. rows.items ≡ replicate count []) }
@@ -67,6 +83,10 @@ pub fn no_reads(alloc: Global, count: usize) -> Result<Vec<Reads>, AllocError>
 }
 
 /// The stores of each packet, with nothing stored.
+///
+/// # Errors
+///
+/// `AllocError` where there is no memory.
 #[tactic(auto, using(crate::proofs::Replicated::replicate_more))]
 pub fn nothing_stored(alloc: Global, count: usize) -> Result<Vec<Stores>, AllocError>
     ensures { IfOk result (λ rows. rows.items ≡ replicate count no_stores) }

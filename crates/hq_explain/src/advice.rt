@@ -123,6 +123,10 @@ fn advice_with(
 }
 
 /// What of each packet would order a and b by itself.
+///
+/// # Errors
+///
+/// `Memory` alone is to be expected, since nothing is written.
 pub fn advice_on(alloc: Global, job: &Job, a: usize, b: usize) -> Result<Vec<Advice>, ExplainFault>
     requires a_is { a < length (plan job.now).packets }
     requires b_is { b < length (plan job.now).packets }

@@ -186,6 +186,10 @@ pub fn judge_at_once(before: &Before, p: usize, r: usize, kinds: Kinds) -> Optio
 
 /// Judges the conflicts of packet `p` with packet `r`, `p` first: answers the fences that order each kind of
 /// conflict that there is, or the first kind that isn't ordered, in the order of `Kind`, and why. Takes no memory.
+///
+/// # Errors
+///
+/// `NotShown` with the first kind that isn't ordered, in the order of `Kind`, and why.
 pub fn judge(before: &Before, p: usize, r: usize) -> Result<Shown, NotShown>
     requires p_is { p < length before.now.packets }
     requires r_is { r < length before.now.packets }
@@ -197,6 +201,10 @@ pub fn judge(before: &Before, p: usize, r: usize) -> Result<Shown, NotShown>
 }
 
 /// The same, where it is known how they conflict.
+///
+/// # Errors
+///
+/// Those of `judge`.
 pub fn judge_kinds(before: &Before, p: usize, r: usize, kinds: Kinds) -> Result<Shown, NotShown>
     requires p_is { p < length before.now.packets }
     requires r_is { r < length before.now.packets }

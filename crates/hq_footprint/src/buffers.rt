@@ -42,6 +42,10 @@ fn all_inside(foot: &Footprint, buffers: &[Range]) -> bool
 /// Whether each range of the footprint that has a byte lies within one of the ranges given.
 ///
 /// Overflow comes before OutsideBuffer.
+///
+/// # Errors
+///
+/// `Overflow` where a range passes the last address, else `OutsideBuffer` where one lies in none of those given.
 pub fn inside(foot: &Footprint, ranges: &[Range]) -> Result<(), FootFault>
     ensures ok { IsOk result ↔ (All Fits (ranges_of foot.now) × All (IsInside ranges.now) (ranges_of foot.now)) }
     ensures overflow { (result ≡ Err FootFault.Overflow) ↔ Any Passes (ranges_of foot.now) }

@@ -93,6 +93,11 @@ fn unchecked_kernel(code: Code, items: u64, args: &[u8]) -> Work
 /// 8 bytes each, the least first.
 ///
 /// ArgsShort comes before Overflow.
+///
+/// # Errors
+///
+/// `ArgsShort` where the block has fewer arguments than the kernel takes, else `Overflow` where a range passes the
+/// last address.
 pub fn of_kernel(code: Code, items: u64, args: &[u8]) -> Result<Work, FootFault>
     ensures found { IfOk result (λ work. work ≡ kernel_call code items args.now) }
     ensures ok { IsOk result
@@ -156,6 +161,10 @@ fn unchecked_service(kind: u16, args: [u64; 4], ret: u64) -> Option<Work>
 /// What a service reads, writes and does: `kind` is the type of its agent dispatch packet, `ret` the return address.
 ///
 /// Service comes before Overflow.
+///
+/// # Errors
+///
+/// `Service` where there is no such service, else `Overflow` where a range passes the last address.
 pub fn of_service(kind: u16, args: [u64; 4], ret: u64) -> Result<Work, FootFault>
     ensures found { IfOk result (λ work. service_call kind args ret ≡ Some work) }
     ensures ok { IsOk result ↔ IsSomeAnd (service_call kind args ret) (λ work. All Fits (ranges_of work.foot)) }

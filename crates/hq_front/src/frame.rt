@@ -14,6 +14,10 @@ pub fn words_of(rt: &HostRuntime) -> io::Result<Vec<String>> {
 }
 
 /// The texts of words.
+///
+/// # Errors
+///
+/// `AllocError` where there is no memory.
 pub fn texts_of(alloc: Global, words: &[String]) -> Result<Vec<&str>, AllocError> {
     let mut texts = Vec::with_capacity(alloc, words.len())?;
     for word in words {

@@ -23,6 +23,10 @@ fn say_unopened<W: Write>(
 }
 
 /// The file of a path, or standard input for `@`; or the status, where it can't be opened, which is written then.
+///
+/// # Errors
+///
+/// The status that the command ends with, where the file can't be opened; what is wrong was written.
 pub fn opened<W: Write>(
     rt: &HostRuntime,
     path: &str,
@@ -35,6 +39,10 @@ pub fn opened<W: Write>(
 }
 
 /// A job, and the file of a path beside it, both opened before either is read; or the status, where one can't be.
+///
+/// # Errors
+///
+/// The status that the command ends with, where one can't be opened; what is wrong was written.
 pub fn opened_both<W: Write>(
     rt: &HostRuntime,
     job: &str,
@@ -49,6 +57,10 @@ pub fn opened_both<W: Write>(
 }
 
 /// The file that a timeline is asked for in, if it is; or the status, where it can't be made, which is written then.
+///
+/// # Errors
+///
+/// The status that the command ends with, where the file can't be made; what is wrong was written.
 pub fn created<W: Write>(
     rt: &HostRuntime,
     timeline: Option<&str>,
@@ -64,6 +76,10 @@ pub fn created<W: Write>(
 }
 
 /// The job of a path; or the status, where there is none, which is written then. Its file is closed again.
+///
+/// # Errors
+///
+/// The status that the command ends with, where there is no job; what is wrong was written.
 pub fn job_of<W: Write>(rt: &HostRuntime, job: &str, writer: &mut W) -> Result<Job, Status> {
     let mut input = opened(rt, job, writer)?;
     take_job(rt.alloc(), &mut input, writer)

@@ -83,6 +83,10 @@ fn some_of(alloc: Global, job: &Job, list: &[u16]) -> Result<Stuck, GraphFault>
 }
 
 /// The packets of a job that can never complete.
+///
+/// # Errors
+///
+/// `Memory` alone is to be expected, since nothing is written.
 pub fn stuck_of(alloc: Global, job: &Job) -> Result<Stuck, GraphFault>
     ensures tells { IfOk result (TellsStuck (plan job.now)) }
     ensures memory { IfErr result (λ e. e ≡ Memory) }

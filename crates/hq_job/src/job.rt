@@ -53,6 +53,10 @@ impl Job {
     ghost use Rattle.hq_signals.specs.Table.{IsUndershot, NeverReachesZero};
 
     /// The job of tables that are complete and have no signal against them.
+    ///
+    /// # Errors
+    ///
+    /// `AllocError` where there is no memory.
     pub fn of_tables(alloc: Global, tables: Tables) -> Result<Job, AllocError>
         requires fit { TablesFit (tables_of tables) }
         requires enough { All (λ s. ¬ IsUndershot s) tables.signals }
@@ -71,6 +75,10 @@ impl Job {
     }
 
     /// An equal job.
+    ///
+    /// # Errors
+    ///
+    /// `AllocError` where there is no memory.
     pub fn copy(&self, alloc: Global) -> Result<Job, AllocError>
         ensures { IfOk result (λ job. job ≡ self.now) }
     {
@@ -175,6 +183,10 @@ impl Job {
     }
 
     /// The heads of the packets, by number.
+    ///
+    /// # Errors
+    ///
+    /// `AllocError` where there is no memory.
     pub fn heads(&self, alloc: Global) -> Result<Vec<Head>, AllocError>
         ensures { IfOk result (λ heads. heads.items ≡ heads_of self.now) }
     {
@@ -239,6 +251,10 @@ impl Job {
     }
 
     /// The bytes of memory as the job starts, by number.
+    ///
+    /// # Errors
+    ///
+    /// `AllocError` where there is no memory.
     pub fn memory(&self, alloc: Global) -> Result<Vec<u8>, AllocError>
         ensures { IfOk result (λ bytes. bytes.items ≡ (plan self.now).memory) }
     {

@@ -345,6 +345,11 @@ impl Tables {
         }
     }
 
+    /// Adds a packet to the queue that packets go to, with all that it names looked up.
+    ///
+    /// # Errors
+    ///
+    /// The first test that the packet fails, or `Memory`; then the tables stay as they were.
     pub fn add_packet(&mut self, alloc: Global, packet: Packet) -> Result<(), Reason>
         requires { TablesFit (tables_of self.old) }
         ensures { Adds result (tables_of self.old) (tables_of self.new) (says.Packet packet) }

@@ -82,6 +82,10 @@ impl Tables {
     }
 
     /// Equal tables.
+    ///
+    /// # Errors
+    ///
+    /// `AllocError` where there is no memory.
     pub fn copy(&self, alloc: Global) -> Result<Tables, AllocError>
         ensures { IfOk result (λ t. tables_of t ≡ tables_of self.now) }
     {
@@ -90,6 +94,11 @@ impl Tables {
         Ok(copy)
     }
 
+    /// Adds an agent with this name.
+    ///
+    /// # Errors
+    ///
+    /// The first test that the line fails, or `Memory`; then the tables stay as they were.
     pub fn add_agent(&mut self, name: Name) -> Result<(), Reason>
         ensures { Adds result (tables_of self.old) (tables_of self.new) (says.Agent name) }
     {
@@ -103,6 +112,11 @@ impl Tables {
         Ok(())
     }
 
+    /// Adds a buffer from an address on, with the bytes that it starts with.
+    ///
+    /// # Errors
+    ///
+    /// The first test that the line fails, or `Memory`; then the tables stay as they were.
     pub fn add_buffer(&mut self, name: Name, at: u64, bytes: Vec<u8>) -> Result<(), Reason>
         requires { TablesFit (tables_of self.old) }
         ensures { Adds result (tables_of self.old) (tables_of self.new) (says.Buffer name at bytes.items) }
@@ -123,6 +137,11 @@ impl Tables {
         Ok(())
     }
 
+    /// Adds a kernarg block from an address on, with its bytes.
+    ///
+    /// # Errors
+    ///
+    /// The first test that the line fails, or `Memory`; then the tables stay as they were.
     pub fn add_arguments(&mut self, name: Name, at: u64, bytes: Vec<u8>) -> Result<(), Reason>
         ensures { Adds result (tables_of self.old) (tables_of self.new) (says.Args name at bytes.items) }
     {
@@ -139,6 +158,11 @@ impl Tables {
         Ok(())
     }
 
+    /// Adds a signal with its handle and the value that it starts with.
+    ///
+    /// # Errors
+    ///
+    /// The first test that the line fails, or `Memory`; then the tables stay as they were.
     pub fn add_signal(&mut self, name: Name, handle: u64, start: u64) -> Result<(), Reason>
         requires { start < 2 ^ 63 }
         ensures { Adds result (tables_of self.old) (tables_of self.new) (says.Signal name handle start) }
@@ -158,6 +182,11 @@ impl Tables {
         Ok(())
     }
 
+    /// Adds a kernel with its object handle and what it computes.
+    ///
+    /// # Errors
+    ///
+    /// The first test that the line fails, or `Memory`; then the tables stay as they were.
     pub fn add_kernel(&mut self, name: Name, object: u64, code: Code) -> Result<(), Reason>
         ensures { Adds result (tables_of self.old) (tables_of self.new) (says.Kernel name object code) }
     {
@@ -174,6 +203,11 @@ impl Tables {
         Ok(())
     }
 
+    /// Adds a queue of an agent, with so many slots.
+    ///
+    /// # Errors
+    ///
+    /// The first test that the line fails, or `Memory`; then the tables stay as they were.
     pub fn add_queue(&mut self, name: Name, agent: Name, size: u16) -> Result<(), Reason>
         requires { TablesFit (tables_of self.old) }
         ensures { Adds result (tables_of self.old) (tables_of self.new) (says.Queue name agent size) }
@@ -198,6 +232,10 @@ impl Tables {
     }
 
     /// The packets that follow go to the queue with the name.
+    ///
+    /// # Errors
+    ///
+    /// The first test that the line fails, or `Memory`; then the tables stay as they were.
     pub fn turn_to(&mut self, name: Name) -> Result<(), Reason>
         requires { TablesFit (tables_of self.old) }
         ensures { Adds result (tables_of self.old) (tables_of self.new) (says.To name) }
@@ -213,6 +251,11 @@ impl Tables {
     }
 
     /// What the signals have against the job.
+    ///
+    /// # Errors
+    ///
+    /// `Undershoot` with the first signal that has too many decrementers, else `NeverZero` with the first that is
+    /// waited on and has too few.
     pub fn verdict(&self) -> Result<(), SignalFault>
         ensures ok { IsOk result
             ↔ (All (λ s. ¬ IsUndershot s) self.now.signals × All (λ s. ¬ NeverReachesZero s) self.now.signals) }

@@ -24,6 +24,10 @@ fn read_all(alloc: Global, text: &[u8]) -> Result<Job, JobFault>
 }
 
 /// The job that a text is, or its first fault. Where memory runs out, that is the fault, at line 0.
+///
+/// # Errors
+///
+/// `JobFault` with the line and the reason of the text's first fault, or that there is no memory, at line 0.
 pub fn read_text(alloc: Global, text: &[u8]) -> Result<Job, JobFault>
     ensures found { IfOk result (λ job. JobText (lines_of text.now) job) }
     // The job of a text is read, unless memory runs out.
@@ -55,6 +59,11 @@ fn read_source<S: Source>(alloc: Global, source: &mut S) -> Result<Job, JobFault
 /// more is held than what waits for the end of its line, and some 64 KiB; behind the first faulty line nothing is
 /// held. The reader gives the text in at most 2,000,000 turns of at most 512 bytes; where it fails, in any way, or
 /// passes its turns, that is the fault, at line 0, also behind a faulty line.
+///
+/// # Errors
+///
+/// `JobFault` with the line and the reason of the text's first fault; at line 0 that there is no memory, or that
+/// the reader failed or passed its turns.
 pub fn read<R: Read>(alloc: Global, reader: &mut R) -> Result<Job, JobFault>
     ensures found { IfSome (R.remaining reader.old) (λ text. IfOk result (λ job. JobText (lines_of text) job)) }
     ensures only { IfSome (R.remaining reader.old)

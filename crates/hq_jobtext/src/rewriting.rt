@@ -77,6 +77,10 @@ fn rewrite_lines(
 
 /// The text of a job with these heads on its packets, by number: the text that is given, with nothing other than the
 /// digits of the heads that change. It takes as much memory as the text has bytes.
+///
+/// # Errors
+///
+/// `AllocError` where there is no memory.
 pub fn rewrite(alloc: Global, text: &[u8], job: &Job, heads: &[Head]) -> Result<Vec<u8>, AllocError>
     requires text { JobText (lines_of text.now) job.now }
     requires heads { length heads.now ≡ length job.now.packets }

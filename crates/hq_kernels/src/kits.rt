@@ -74,6 +74,10 @@ fn stock_kit(alloc: Global, job: &Job, queue: usize) -> Result<Kit, AllocError>
 }
 
 /// A kit of stock bodies for each queue.
+///
+/// # Errors
+///
+/// `AllocError` where there is no memory.
 pub fn stock_kits(alloc: Global, job: &Job) -> Result<Vec<Kit>, AllocError>
     ensures { IfOk result (λ kits. KitsFit job.now (bodies_of (λ b. kernel b) (λ b. service b) kits.items)) }
 {

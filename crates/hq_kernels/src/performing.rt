@@ -71,6 +71,10 @@ impl Body {
     /// Hands the body its packet's pieces, in their order, runs it, and takes them back. They come back in the
     /// vector that they came in, so it takes no memory. After an error the pieces have gone home, or the body holds
     /// them.
+    ///
+    /// # Errors
+    ///
+    /// `Missing` where pieces are too few or their lengths don't fit, `Refused` where the body refuses.
     pub fn perform(&mut self, mut pieces: Vec<Piece>) -> Result<Vec<Piece>, KernelFault>
         requires { length pieces.items ≡ pieces_of (value_of (λ b. kernel b) (λ b. service b) self.old).task }
         ensures task { (value_of (λ b. kernel b) (λ b. service b) self.new).task ≡ (value_of (λ b. kernel b)

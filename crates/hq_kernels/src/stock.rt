@@ -136,6 +136,10 @@ impl Stock {
     }
 
     /// Takes a piece behind those that it holds, unless it holds all pieces of its task.
+    ///
+    /// # Errors
+    ///
+    /// The piece itself, where it holds all pieces of its task.
     pub fn load(&mut self, piece: Piece) -> Result<(), Piece>
         ensures loaded { Loaded self.old piece result self.new }
         ensures ok { IsOk result ↔ (length self.old.held < pieces_of self.old.task) }
@@ -156,6 +160,10 @@ impl Stock {
     }
 
     /// Does its task with the pieces that it holds. Where these are fewer, or their lengths don't fit, nothing changes.
+    ///
+    /// # Errors
+    ///
+    /// `Missing` where the pieces are too few or their lengths don't fit.
     pub fn run(&mut self) -> Result<(), KernelFault>
         ensures run { HasRun self.old result self.new }
         ensures ok { IsOk result ↔ IsSuited self.old.task self.old.held }

@@ -80,6 +80,10 @@ impl Grants {
     }
 
     /// Hands a packet its ranges, unless a packet that is out is the same or conflicts.
+    ///
+    /// # Errors
+    ///
+    /// `Overlap` with a packet that is out and is the same or conflicts; `Memory`.
     pub fn grant(&mut self, packet: u16, foot: &Footprint) -> Result<(), GrantFault>
         ensures granted { OnOk result (self.new ≡ self.old ++ record { packet = packet; foot = foot.now } ∷ []) }
         ensures clear { OnOk result (IsClear self.old (record { packet = packet; foot = foot.now })) }
@@ -97,6 +101,10 @@ impl Grants {
     }
 
     /// Takes a packet's ranges back. It takes no memory.
+    ///
+    /// # Errors
+    ///
+    /// `NotOut` where the packet isn't out.
     pub fn home(&mut self, packet: u16) -> Result<(), GrantFault>
         ensures home { OnOk result (self.new ≡ without packet self.old) }
         ensures out { OnOk result (IsOut self.old packet) }

@@ -48,6 +48,10 @@ impl Piece {
 
     /// A piece that holds a range's bytes, which begin at address `at`. `place` is its place among its packet's
     /// pieces, from 0.
+    ///
+    /// # Errors
+    ///
+    /// `AllocError` where there is no memory.
     pub fn new(
         alloc: Global,
         tray: &Tray,

@@ -87,6 +87,10 @@ fn home_of(
 
 impl Tray {
     /// A tray for pieces of so many packets, with nothing in it.
+    ///
+    /// # Errors
+    ///
+    /// `AllocError` where there is no memory.
     pub fn open(alloc: Global, packets: u16) -> Result<Tray, AllocError>
         ensures { IfOk result (λ t. (t.packets ≡ packets) × (t.known ≡ replicate (3 * packets) None)) }
     {
@@ -131,6 +135,10 @@ impl Tray {
 
     /// Copies out what has come home, by packet, then place. What has come home stays in the tray, so that a later call
     /// answers the same, and more where more has come.
+    ///
+    /// # Errors
+    ///
+    /// `AllocError` where there is no memory.
     pub fn gather(&mut self, alloc: Global) -> Result<Vec<Home>, AllocError>
         ensures packets { self.new.packets ≡ self.old.packets }
         ensures learned { Learned self.old.known self.new.known }

@@ -37,6 +37,10 @@ fn check_bytes(line: &[u8]) -> Result<(), LineFault>
 }
 
 /// The version that the first line of a job text names.
+///
+/// # Errors
+///
+/// `Byte` where the line has a byte out of range, else `Word`.
 pub fn first_line(line: &[u8]) -> Result<Version, LineFault>
     ensures one { (result ≡ Ok Version.One) ↔ (line.now ≡ codes "hsaq 1") }
     ensures two { (result ≡ Ok Version.Two) ↔ (line.now ≡ codes "hsaq 2") }
@@ -80,6 +84,10 @@ fn line_said(alloc: Global, line: &[u8]) -> Result<Line, LineFault>
 
 /// What a line behind the first says, apart from the tables that the lines before it leave, or the first test that it
 /// fails: of its bytes, its words, its numbers, its digits, its packet, its queue size and its count of digits.
+///
+/// # Errors
+///
+/// The first test that the line fails, or `Memory`.
 pub fn read_line(alloc: Global, line: &[u8]) -> Result<Line, LineFault>
     ensures found { IfOk result (λ l. SaysLine line.now (view l)) }
     // What a line says is read, unless memory runs out.

@@ -41,6 +41,10 @@ impl State {
     }
 
     /// The bytes of a range that are seen through a packet's lane.
+    ///
+    /// # Errors
+    ///
+    /// `AllocError` where there is no memory.
     pub fn seen_range(&self, packet: usize, range: ByteRange) -> Result<Vec<u8>, AllocError>
         requires packet { packet < length self.now.copies.lanes }
         requires range { 0 < range.len → range.at + range.len ≤ length self.now.copies.memory }

@@ -70,6 +70,10 @@ fn first_copies(alloc: Global, job: &Job) -> Result<Copies, StepFault>
 
 impl State {
     /// The state in which a run of the job starts.
+    ///
+    /// # Errors
+    ///
+    /// `Memory` alone.
     pub fn start(alloc: Global, job: &Job) -> Result<State, StepFault>
         ensures is { IfOk result (λ s. IsStateOf (plan job.now) s) }
         ensures start { IfOk result (λ s. state_of (plan job.now) s ≡ start (plan job.now)) }

@@ -13,6 +13,10 @@ use hq_job::Job;
 
 impl State {
     /// Takes the step that an event is, where it is a single one. Where it is refused, the state stays as it was.
+    ///
+    /// # Errors
+    ///
+    /// `NotEnabled` where the event isn't a step that may happen; `Memory`.
     pub fn step(&mut self, job: &Job, event: Event) -> Result<(), StepFault>
         requires is { IsStateOf (plan job.now) self.old }
         requires single { IsSome (single_of event) }

@@ -224,6 +224,10 @@ impl<'a> Model for Before<'a> {
 
 impl<'a> Before<'a> {
     /// Works the order out. The only error is that there is no memory.
+    ///
+    /// # Errors
+    ///
+    /// `Memory` alone.
     pub fn build(alloc: Global, job: &'a Job) -> Result<Before<'a>, OrderFault>
         ensures plan { IfOk result (λ b. b ≡ plan job.now) }
         ensures memory { IfErr result (λ e. e ≡ OrderFault.Memory) }

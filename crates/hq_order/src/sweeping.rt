@@ -236,6 +236,10 @@ fn empty_rows(alloc: Global, job: &Job) -> Result<Vec<Vec<u64>>, AllocError>
 /// Rows that have at least the order of a job: each has all that is before its packet. They are worked out by
 /// sweeps in the order of a list, quickly where that is an order list of the job; without an answer where too many
 /// sweeps don't do.
+///
+/// # Errors
+///
+/// `AllocError` where there is no memory.
 pub fn sweep(alloc: Global, job: &Job, order: &[u16]) -> Result<Option<Vec<Vec<u64>>>, AllocError>
     ensures { IfOk result (λ rows. IfSome rows (λ all. HaveOrder (plan job.now) all.items)) }
 {

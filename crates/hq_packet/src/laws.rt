@@ -38,21 +38,37 @@ pub fn one_head()
 {}
 
 /// Where bytes spell a packet, with the byte of another head they spell the packet with that head.
+///
+/// # Errors
+///
+/// Those of `decode`.
 pub fn another_head()
     ensures { AnotherHead }
 {}
 
 /// Fields are those of one kernel dispatch.
+///
+/// # Errors
+///
+/// Those of `decode`.
 pub fn one_dispatch()
     ensures { OneDispatch }
 {}
 
 /// The fields of a kernel dispatch have no fault.
+///
+/// # Errors
+///
+/// Those of `decode`.
 pub fn faultless_fields()
     ensures { FaultlessFields }
 {}
 
 /// A packet that was encoded is decoded as itself.
+///
+/// # Errors
+///
+/// Those of `decode`.
 pub fn decode_encoded(packet: &Packet) -> Result<Packet, PacketFault>
     ensures { result ≡ Ok packet.now }
 {
@@ -60,6 +76,10 @@ pub fn decode_encoded(packet: &Packet) -> Result<Packet, PacketFault>
 }
 
 /// Bytes that were decoded are encoded as themselves.
+///
+/// # Errors
+///
+/// Those of `decode`.
 pub fn encode_decoded(bytes: &[u8; LEN]) -> Result<[u8; LEN], PacketFault>
     ensures same { IfOk result (λ again. again ≡ bytes.now) }
     ensures fault { IfErr result (λ e. first_fault bytes.now ≡ Some e) }

@@ -209,6 +209,10 @@ pub struct Parts {
 
 impl Parts {
     /// The parts of a job's packets.
+    ///
+    /// # Errors
+    ///
+    /// `AllocError` where there is no memory.
     pub fn build(alloc: Global, job: &Job) -> Result<Parts, AllocError>
         ensures { IfOk result (AreParts (plan job.now)) }
     {

@@ -112,6 +112,10 @@ fn next_turned(
 }
 
 /// The rows of each round but the last turned round.
+///
+/// # Errors
+///
+/// `AllocError` where there is no memory.
 pub fn all_turned(alloc: Global, rounds: &[Vec<Vec<u64>>]) -> Result<Vec<Vec<u64>>, AllocError>
     requires some { 0 < length rounds.now }
     requires few { (k : ℕ) → k < length rounds.now → length (matrix rounds.now k) ≤ WIDTH }

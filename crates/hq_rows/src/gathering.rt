@@ -121,6 +121,10 @@ fn are_many(rows: &[Vec<u64>], earlier: &[Vec<u64>], renewed: &[u64]) -> bool {
 
 /// What is before the packets of each choice, where many packets are to be gone through and rows have all their words;
 /// else none.
+///
+/// # Errors
+///
+/// `AllocError` where there is no memory.
 pub fn unions_if_many(
     alloc: Global,
     rows: &[Vec<u64>],

@@ -11,6 +11,10 @@ use hq_bits::WORDS;
 use std::alloc::{AllocError, Global};
 
 /// The packets of a set, and all that are before them.
+///
+/// # Errors
+///
+/// `AllocError` where there is no memory.
 pub fn reached(alloc: Global, set: &[u64], known: &Known) -> Result<Vec<u64>, AllocError>
     requires unions { CanUnite known.now.rows.now (length set.now) known.now.unions.now }
     requires few { length set.now ≤ WORDS }
@@ -26,6 +30,10 @@ pub fn reached(alloc: Global, set: &[u64], known: &Known) -> Result<Vec<u64>, Al
 
 /// The packets that are before r by what is known, or before one of those. Only those that are fresh in its row, or are
 /// renewed, bring anything new.
+///
+/// # Errors
+///
+/// `AllocError` where there is no memory.
 pub fn through_row(alloc: Global, known: &Known, r: usize) -> Result<Vec<u64>, AllocError>
     requires unions { CanUnite known.now.rows.now (length (row known.now.rows.now r)) known.now.unions.now }
     requires stepped { Stepped known.now.earlier.now known.now.rows.now known.now.renewed.now }

@@ -67,6 +67,10 @@ impl Signal {
     }
 
     /// Takes one from the value, or refuses where it is 0, and then the signal stays as it was.
+    ///
+    /// # Errors
+    ///
+    /// `Undershoot` where the value is 0.
     pub fn decrement(&mut self) -> Result<(), Undershoot>
         ensures undershoot { IsErr result ↔ (value_of self.old ≡ 0) }
         ensures ok { OnOk result (self.new ≡ decremented self.old) }

@@ -76,6 +76,10 @@ impl SignalTable {
     }
 
     /// An equal table.
+    ///
+    /// # Errors
+    ///
+    /// `AllocError` where there is no memory.
     pub fn copy(&self) -> Result<SignalTable, AllocError>
         ensures { IfOk result (λ t. t ≡ self.now) }
     {
@@ -168,6 +172,10 @@ impl SignalTable {
 
     /// Opens a signal, behind those that are open. A signal's value is a signed 64-bit number, so `start` is below
     /// 2^63. An `Err` changes nothing.
+    ///
+    /// # Errors
+    ///
+    /// `AllocError` where there is no memory, and then nothing changes.
     pub fn open(&mut self, handle: u64, start: u64) -> Result<(), AllocError>
         requires closed { ¬ (IsOpen self.old handle) }
         requires fits { start < 2 ^ 63 }
@@ -228,6 +236,10 @@ impl SignalTable {
 
     /// Whether no signal has more decrementers than its start, and none that a barrier waits on has fewer. The first
     /// undershot signal in order of opening is named; where there is none, the first that never reaches 0.
+    ///
+    /// # Errors
+    ///
+    /// `Undershoot` with the first undershot signal, else `NeverZero` with the first that never reaches 0.
     pub fn verdict(&self) -> Result<(), SignalFault>
         ensures ok { IsOk result
             ↔ (All (λ s. ¬ (IsUndershot s)) self.now × All (λ s. ¬ (NeverReachesZero s)) self.now) }

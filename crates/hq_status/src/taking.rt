@@ -28,6 +28,10 @@ fn say_no_job<W: Write>(writer: &mut W, fault: JobFault) -> Status
 }
 
 /// The job of a reader's text; or, where there is none, the status of the refusal, which is written.
+///
+/// # Errors
+///
+/// The status of the refusal.
 pub fn take_job<R: Read, W: Write>(
     alloc: Global,
     reader: &mut R,
@@ -48,6 +52,10 @@ pub fn take_job<R: Read, W: Write>(
 
 /// A text, and the job that it is, of a reader; or, where that gives no job, the status of the refusal, which is
 /// written. The whole text is held.
+///
+/// # Errors
+///
+/// The status of the refusal.
 pub fn take_job_text<R: Read, W: Write>(
     alloc: Global,
     reader: &mut R,

@@ -67,6 +67,10 @@ fn take_turns<S: Source>(alloc: Global, source: &mut S) -> Result<Vec<u8>, TextF
 
 /// All that a reader has left, in at most 2,000,000 turns of at most 512 bytes. An error of any kind, `Interrupted`
 /// too, is `TextFault::Read`, and so is the last turn without an end.
+///
+/// # Errors
+///
+/// `Read` where the reader failed or passed its turns; `Memory`.
 pub fn take_text<R: Read>(alloc: Global, reader: &mut R) -> Result<Vec<u8>, TextFault>
     ensures turned { IfOk result (λ text. Ends R (ReadTurn R.remaining) TURNS reader.old text.items reader.new) }
     ensures taken { IfOk result (λ text. Consumes (R.remaining reader.old) (R.remaining reader.new) text.items) }

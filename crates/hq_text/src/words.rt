@@ -7,6 +7,10 @@ use memchr::memchr;
 use std::alloc::{AllocError, Global};
 
 /// A line's words: the parts between its spaces, so that two spaces in a row have an empty word between them.
+///
+/// # Errors
+///
+/// `AllocError` where there is no memory.
 pub fn words_of(alloc: Global, line: &[u8]) -> Result<Vec<&[u8]>, AllocError>
     ensures { IfOk result (λ words. map (λ w. w.now) words.items ≡ words_of line.now) }
 {
@@ -34,6 +38,10 @@ pub fn first_line(text: &[u8]) -> (&[u8], &[u8])
 }
 
 /// A text's lines, without their line feeds. The last line may lack its own.
+///
+/// # Errors
+///
+/// `AllocError` where there is no memory.
 pub fn lines_of(alloc: Global, text: &[u8]) -> Result<Vec<&[u8]>, AllocError>
     ensures { IfOk result (λ lines. map (λ l. l.now) lines.items ≡ lines_of text.now) }
 {

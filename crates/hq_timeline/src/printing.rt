@@ -74,6 +74,10 @@ fn finish<W: Write>(pen: &mut Pen, journal: &Journal, writer: &mut W) -> io::Res
 
 /// Writes the text of a journal. All memory is taken before the first byte is written. The writer is not flushed;
 /// where it fails a part of the text may be written.
+///
+/// # Errors
+///
+/// `Memory`, and then nothing is written; `Writer` where the writer failed.
 pub fn print<W: Write>(alloc: Global, journal: &Journal, writer: &mut W) -> Result<(), PrintFault>
     ensures written { OnOk result (Appends (W.contents writer.old) (W.contents writer.new) (text_of journal.now)) }
     // What was written is the text of this journal, and so is read as the same journal.

@@ -101,6 +101,10 @@ fn read_all(alloc: Global, text: &[u8]) -> Result<Journal, TimeFault>
 }
 
 /// The journal that a text is, or the first faulty line. Where memory runs out, that is the fault, at line 0.
+///
+/// # Errors
+///
+/// `TimeFault` with the first faulty line, or that there is no memory, at line 0.
 pub fn parse(alloc: Global, text: &[u8]) -> Result<Journal, TimeFault>
     ensures found { IfOk result (λ journal. TimeText (lines_of text.now) journal) }
     // The journal of a text is read, unless memory runs out.

@@ -48,6 +48,10 @@ fn completing_row(
 }
 
 /// For each signal the set of the packets that complete on it.
+///
+/// # Errors
+///
+/// `AllocError` where there is no memory.
 pub fn completing(alloc: Global, job: &Job, words: usize) -> Result<Vec<Vec<u64>>, AllocError>
     requires room { length job.now.packets ≤ words * 64 }
     requires few { words ≤ WORDS + 1 }

@@ -280,6 +280,10 @@ fn asked_of<'a>(alloc: Global, words: &'a [&'a str]) -> Result<Asked<'a>, WordsF
 
 /// What the words behind the program's name ask for; no words at all ask for `audit @`. `Words` comes only where
 /// there are words and `clap`'s definition takes none of this form.
+///
+/// # Errors
+///
+/// `Words` with `clap`'s error where the words ask for nothing that there is; `Memory`.
 pub fn command_of<'a>(alloc: Global, words: &'a [&'a str]) -> Result<Asked<'a>, WordsFault>
     ensures asked { IfOk result (Asks (subcommand_of hsaq_app (words_or_audit (map (λ w. w.now) words.entry.now)))) }
     ensures some { IfErr result (λ f. IsWords f → words.entry.now ≢ []) }
