@@ -10,6 +10,7 @@ pub record Between (low high n : ℕ) : Type 0 where
   pub from : low ≤ n
   pub upto : n ≤ high
 
+-- names are right, numbers and counts of bytes are in the ranges of their lines, and a queue's size is a power of two
 abbrev pub Fits : Meaning → Type 0
 Fits (Agent name) = IsName name
 Fits (Buffer name at bytes) = IsName name × Between 1 (2 ^ 48) at × Between 1 BUFFER (length bytes)

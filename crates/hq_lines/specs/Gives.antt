@@ -3,6 +3,7 @@ use Rattle.std.specs.Prelude.{◌≡◌, Result, Ok, Err}
 use Rattle.hq_lines.specs.declared.fault.LineFault.{LineFault}
 use Rattle.hq_lines.specs.declared.fault.LineFault.TheVariants as fault
 
+-- the fault is what reading gives, where it isn't that memory ran out
 abbrev pub Fails : {Y : Type 0} → LineFault → Result Y LineFault → Type 0
 Fails fault.Byte read = read ≡ Err fault.Byte
 Fails fault.Word read = read ≡ Err fault.Word

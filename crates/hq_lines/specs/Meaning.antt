@@ -17,6 +17,7 @@ pub data Meaning : Type 0 where
   Packet : packet.Packet → Meaning
   End : Meaning
 
+-- what a line that was read says
 abbrev pub view : rust.Line → Meaning
 view (line.Agent name) = Agent name
 view (line.Buffer name at bytes) = Buffer name at bytes.items

@@ -2,9 +2,11 @@
 use Rattle.std.specs.Prelude.{ℕ, Bool, List, [], ◌∷◌, ◌==◌}
 use Rattle.std.specs.List.{slice_split}
 
+-- whether the byte is a space
 abbrev pub is_space : ℕ → Bool
 is_space b = b == 32
 
+-- whether the byte is a line feed
 abbrev pub is_line_feed : ℕ → Bool
 is_line_feed b = b == 10
 
@@ -12,6 +14,7 @@ is_line_feed b = b == 10
 abbrev pub words_of : List ℕ → List (List ℕ)
 words_of line = slice_split is_space line
 
+-- the lines without the last one, where that is empty
 abbrev pub without_empty_last : List (List ℕ) → List (List ℕ)
 without_empty_last [] = []
 without_empty_last ([] ∷ []) = []

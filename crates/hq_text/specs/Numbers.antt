@@ -7,6 +7,7 @@ use Rattle.std.specs.Fmt.{decimal}
 abbrev pub IsNumber : List ℕ → ℕ → Type 0
 IsNumber word n = (word ≡ decimal n) × (n < 2 ^ 64)
 
+-- 0 to 9
 abbrev pub is_digit : ℕ → Bool
 is_digit d = nat_le 48 d && nat_le d 57
 

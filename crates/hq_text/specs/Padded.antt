@@ -3,12 +3,15 @@ use Rattle.std.specs.Prelude.{◌≡◌, ℕ, ◌-◌, List, ◌++◌, length, t
 use Rattle.hq_text.specs.Names.{IsName}
 use Rattle.hq_text.specs.declared.name.Name.TheInside.{Inside}
 
+-- the name's characters, without the zeros behind them
 abbrev pub written : Inside → List ℕ
 written a = take a.len a.bytes
 
+-- the 16 bytes that hold these characters, and how many characters there are
 abbrev pub padded : List ℕ → Inside
 padded name = record { bytes = name ++ replicate (16 - length name) 0; len = length name }
 
+-- The first bytes, as many as the length says, are a name, and the rest of the 16 are zeros.
 pub record Padded (a : Inside) : Type 0 where
   pub name : IsName (take a.len a.bytes)
   pub len : length (take a.len a.bytes) ≡ a.len
