@@ -41,6 +41,8 @@ pub record SignalFits (ts : Tables) (k : ℕ) (s : OpenSignal) : Type 0 where
   pub decrementers : s.decrementers ≡ count_by (λ p. is_signal k p.done) ts.placed
   pub waited : All (λ p. (slot : ℕ) → slice_get p.slots slot ≡ Some (Some k) → IsTrue s.waited) ts.placed
 
+-- The tables are within the limits, and all that their rows name is there. Queues have slots, no handle is 0 or stands
+-- twice, each packet fits, and each signal has the notes that the packets ask for.
 pub record TablesFit (ts : Tables) : Type 0 where
   pub within : Within ts
   pub current : IfSome ts.current (λ q. q < length ts.queues)

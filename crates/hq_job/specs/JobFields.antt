@@ -5,6 +5,8 @@ use Rattle.hq_job.specs.declared.job.Job.TheInside.{Inside}
 use Rattle.hq_job.specs.Numbering.{by_number}
 use Rattle.hq_job.specs.View.{value_of, IsRead}
 
+-- What is known of every job that was read is so of this one; by number, its packets are in the queues that their lines
+-- put them in; and the number that is noted of each queue's first packet is right.
 pub record FieldsFit (j : Inside) : Type 0 where
   pub is_read : IsRead (value_of j)
   -- the packets stand by number: in the queues of their lines by number, whatever their heads are by now

@@ -4,6 +4,7 @@ use Rattle.hq_lines.specs.declared.fault.LineFault.TheVariants as fault
 use Rattle.hq_job.specs.declared.fault.Reason.{Reason}
 use Rattle.hq_job.specs.declared.fault.Reason.TheVariants as reason
 
+-- the same fault, as one of the text; where a kernarg block is too long, that a limit is passed
 abbrev pub reason_of : LineFault → Reason
 reason_of fault.Byte = reason.Byte
 reason_of fault.Word = reason.Word

@@ -23,5 +23,6 @@ number_of key xs k =
 abbrev pub by_number : ℕ → List Placed → List Placed
 by_number queues placed = grouped (λ p. p.queue) queues placed
 
+-- the number of each of these packets, in the order of their lines
 abbrev pub submissions_of : List Placed → List ℕ
 submissions_of placed = map (number_of (λ p. p.queue) placed) (numbers (length placed))

@@ -32,5 +32,6 @@ slots_of (format.Or b) = b.deps
 abbrev pub completed : ℕ → OpenSignal → OpenSignal
 completed h s = record s { decrementers = s.decrementers + (if s.handle == h then 1 else 0) }
 
+-- the signal, which is waited on from now on if one of these dependencies has its handle
 abbrev pub awaited : List ℕ → OpenSignal → OpenSignal
 awaited ds s = record s { waited = s.waited || list_any (λ d. s.handle == d) ds }

@@ -17,6 +17,7 @@ kind_of (packet.Agent a) = model.Kind.Work
 kind_of (packet.And b) = model.Kind.BarrierAnd
 kind_of (packet.Or b) = model.Kind.BarrierOr
 
+-- what the model sees of a packet: no handles and addresses, but its signals and its bytes by number
 abbrev pub planned : Placed → model.Packet
 planned p =
     record {
@@ -32,6 +33,7 @@ planned p =
       done = p.done;
     }
 
+-- what the model sees of a job: no names, addresses or handles, and as memory the buffers laid end to end
 abbrev pub plan : JobValue → model.Job
 plan job =
     record {

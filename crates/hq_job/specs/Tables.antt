@@ -30,6 +30,7 @@ use Rattle.hq_job.specs.declared.rows.Queue.{Queue}
 use Rattle.hq_job.specs.declared.rows.Placed.{Placed}
 use Rattle.hq_job.specs.Value.{Name, Bytes}
 
+-- what the lines so far declare, each table in the order of their lines
 pub record Tables : Type 0 where
   pub rings : Bool
   pub agents : List Name
@@ -44,6 +45,7 @@ pub record Tables : Type 0 where
   -- the packets in the order of their lines
   pub placed : List Placed
 
+-- the tables behind the first line, which says only whether queues are rings
 abbrev pub empty : Bool → Tables
 empty rings = record {
   rings = rings;
@@ -60,6 +62,7 @@ empty rings = record {
 
 -- ---- names, addresses and handles
 
+-- the names of buffers or of kernarg blocks, in their order
 abbrev pub names_of : List Bytes → List Name
 names_of rows = map (λ b. b.name) rows
 
@@ -67,6 +70,7 @@ names_of rows = map (λ b. b.name) rows
 abbrev pub number_of_name : List Name → Name → Option ℕ
 number_of_name names name = position (bytes_eq name) names
 
+-- the names of the queues, in file order
 abbrev pub queue_names : Tables → List Name
 queue_names ts = map (λ q. q.name) ts.queues
 
@@ -82,6 +86,7 @@ IsUndeclared signals handle = (handle ≢ 0) × ¬ IsOpen signals handle
 abbrev pub range_of : Bytes → Range
 range_of b = range b.at (length b.bytes)
 
+-- the addresses of all bytes of these buffers, one buffer behind the other
 abbrev pub addresses : List Bytes → List ℕ
 addresses buffers = flat_map (λ b. bytes_of (range_of b)) buffers
 
@@ -93,6 +98,7 @@ byte_number buffers address = position (λ a. a == address) (addresses buffers)
 abbrev pub range_in_bytes : List Bytes → Range → Range
 range_in_bytes buffers r = if r.len == 0 then nowhere else range (unwrap_or (byte_number buffers r.at) 0) r.len
 
+-- the footprint with byte numbers in the place of addresses, range by range
 abbrev pub in_bytes : List Bytes → Footprint → Footprint
 in_bytes buffers foot = record {
   reads = map
@@ -100,6 +106,7 @@ in_bytes buffers foot = record {
   write = range_in_bytes buffers foot.write;
 }
 
+-- how many bytes the buffers have in all
 abbrev pub total_of : List Bytes → ℕ
 total_of buffers = sum_by (λ b. length b.bytes) buffers
 
@@ -116,15 +123,19 @@ deps_of (format.Or b) = b.deps
 abbrev pub items_of : dispatch.Kernel → ℕ
 items_of k = slice_index k.grid 0 * slice_index k.grid 1 * slice_index k.grid 2
 
+-- the kernel with this object, if one is declared
 abbrev pub kernel_of : Tables → ℕ → Option Kernel
 kernel_of ts object = find (λ k. k.object == object) ts.kernels
 
+-- the kernarg block at this address, if one is declared
 abbrev pub block_of : Tables → ℕ → Option Bytes
 block_of ts address = find (λ b. b.at == address) ts.arguments
 
+-- what the kernel with this object computes; fill, where there is no such kernel
 abbrev pub code_at : Tables → ℕ → Code
 code_at ts object = unwrap_or (option_map (λ k. k.code) (kernel_of ts object)) code.Fill
 
+-- the bytes of the kernarg block at this address; none, where there is no such block
 abbrev pub arguments_at : Tables → ℕ → List ℕ
 arguments_at ts address = unwrap_or (option_map (λ b. b.bytes) (block_of ts address)) []
 
@@ -135,6 +146,7 @@ work_of ts (format.Agent a) = unwrap_or (service_call a.kind a.args a.ret) no_wo
 work_of ts (format.And b) = no_work
 work_of ts (format.Or b) = no_work
 
+-- the packet in this queue, with all that it names looked up: what it does, its bytes by number, its signals by number
 abbrev pub placed_of : Tables → ℕ → packet.Packet → Placed
 placed_of ts queue p =
     record {
@@ -168,6 +180,7 @@ pub record Test : Type 1 where
   pub applies : Type 0
   pub reason : Reason
 
+-- the test that applies where this is so, with this reason
 abbrev pub when : Type 0 → Reason → Test
 when applies reason = record { applies = applies; reason = reason }
 
@@ -176,10 +189,12 @@ abbrev pub IsFirst : List Test → Reason → Type 0
 IsFirst [] why = ⊥
 IsFirst (t ∷ ts) why = (t.applies × (why ≡ t.reason)) ⊎ (¬ t.applies × IsFirst ts why)
 
+-- no test applies
 abbrev pub NoneApplies : List Test → Type 0
 NoneApplies [] = Unit {0}
 NoneApplies (t ∷ ts) = ¬ t.applies × NoneApplies ts
 
+-- the packet is an agent dispatch, and no service has its type
 abbrev pub IsUnknownService : packet.Packet → Type 0
 IsUnknownService (format.Agent a) = IsNone (service_call a.kind a.args a.ret)
 IsUnknownService p = ⊥
@@ -191,10 +206,12 @@ NamesUndeclared ts p = Unfound p ⊎ Any (IsUndeclared ts.signals) (completion_o
   Unfound (format.Kernel k) = IsNone (kernel_of ts k.object) ⊎ IsNone (block_of ts k.kernarg)
   Unfound p = ⊥
 
+-- the packet is a barrier-OR, and all of its dependencies are null
 abbrev pub IsNullOr : packet.Packet → Type 0
 IsNullOr (format.Or b) = All (λ d. d ≡ 0) b.deps
 IsNullOr p = ⊥
 
+-- the packet is a kernel dispatch, of more work-items than a kernel may have
 abbrev pub HasManyItems : packet.Packet → Type 0
 HasManyItems (format.Kernel k) = ITEMS < items_of k
 HasManyItems p = ⊥
@@ -241,6 +258,7 @@ work_tests ts p = call_tests ts p
 abbrev pub packet_tests : Tables → packet.Packet → List Test
 packet_tests ts p = place_tests ts ++ name_tests ts p ++ work_tests ts p
 
+-- all tests of what a line says against the tables that stand, in the order in which they are made
 abbrev pub tests : Tables → Meaning → List Test
 tests ts (says.Agent name) = when (AGENTS ≤ length ts.agents) reason.Limit
     ∷ when (Contains ts.agents name) reason.Duplicate
@@ -275,6 +293,7 @@ tests ts says.End = []
 
 -- ---- what a line adds
 
+-- the tables with the packet in the queue that packets go to, its completion and dependencies noted at the signals
 abbrev pub with_packet : Tables → packet.Packet → Tables
 with_packet ts p =
     record ts {
@@ -282,6 +301,7 @@ with_packet ts p =
       signals = noted_by p ts.signals;
     }
 
+-- the tables with what the line says; `end` adds nothing
 abbrev pub added : Tables → Meaning → Tables
 added ts (says.Agent name) = record ts { agents = ts.agents ++ name ∷ [] }
 added ts (says.Buffer name at bytes) = record ts

@@ -3,6 +3,7 @@ use Rattle.hq_job.specs.declared.tables.Tables as rust
 use Rattle.hq_job.specs.Blocks.{blocks_of}
 use Rattle.hq_job.specs.Tables.{Tables}
 
+-- the tables as a value, without where their rows lie in memory
 abbrev pub tables_of : rust.Tables → Tables
 tables_of t =
     record {

@@ -15,6 +15,7 @@ pub record Bytes : Type 0 where
   pub at : ℕ
   pub bytes : List ℕ
 
+-- all that a job's lines declare, with its packets by number
 pub record JobValue : Type 0 where
   -- whether queues are rings: whether the first line is `hsaq 2`
   pub rings : Bool

@@ -13,6 +13,7 @@ use Rattle.hq_job.specs.Plan.{plan}
 use Rattle.hq_job.specs.Ranges.{RangesSuit}
 use Rattle.hq_model.specs.Theorems.{Valid}
 
+-- the job as a value: what its tables have, with its packets by number and the order of their submission
 abbrev pub value_of : Inside → JobValue
 value_of j =
     let ts = tables_of j.tables in

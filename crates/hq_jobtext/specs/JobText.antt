@@ -43,6 +43,7 @@ abbrev pub AdmitsAll : Tables → List (List ℕ) → Tables → Type 0
 AdmitsAll ts [] new = new ≡ ts
 AdmitsAll ts (line ∷ lines) new = (mid : Tables) × Admits ts line mid × AdmitsAll mid lines new
 
+-- The line says `end`.
 abbrev pub IsEnd : List ℕ → Type 0
 IsEnd line = SaysLine line says.End
 
@@ -68,6 +69,7 @@ pub record JobText (lines : List (List ℕ)) (job : JobValue) : Type 0 where
   pub exact : All (λ s. ¬ NeverReachesZero s) tables.signals
   pub job_is : job ≡ value_of tables
 
+-- the fault of a line, counted from 1
 abbrev pub at_line : ℕ → Reason → JobFault
 at_line line why = record { line = line; reason = why }
 

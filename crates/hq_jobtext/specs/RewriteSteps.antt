@@ -10,6 +10,7 @@ pub data LineNumbered (numbers : List ℕ) (line behind : List ℕ) : Type 0 whe
   no_packet : ¬ BeginsPacket line → behind ≡ numbers → LineNumbered numbers line behind
   a_packet : IsPacketLine line → (number : ℕ) → numbers ≡ number ∷ behind → LineNumbered numbers line behind
 
+-- So it is of all of these lines, whose packets have these numbers in the order of the lines.
 abbrev pub Numbered : List ℕ → List (List ℕ) → Type 0
 Numbered numbers [] = numbers ≡ []
 Numbered numbers (line ∷ lines) = (behind : List ℕ) × LineNumbered numbers line behind × Numbered behind lines
