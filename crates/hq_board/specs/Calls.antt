@@ -22,6 +22,7 @@ pub record BoardValue : Type 0 where
   pub job : JobValue
   pub table : TableId
 
+-- the job as numbers
 abbrev pub job_of : BoardValue → Job
 job_of board = plan board.job
 
@@ -35,6 +36,7 @@ pub record AreInOrder (queues : ℕ) (seats : List Known) : Type 0 where
   pub count : length seats ≡ queues
   pub places : (q : ℕ) (seat : Known) → slice_get seats q ≡ Some seat → seat.queue ≡ q
 
+-- Nothing stands in the seat's list.
 abbrev pub HasNoList : Known → Type 0
 HasNoList seat = log_of seat ≡ []
 
@@ -56,15 +58,18 @@ MayOf job seat x p = ((packet job p).queue ≡ seat.queue) × May job (after job
 
 -- ---- launches
 
+-- Packet p was launched, as the seat's own list allowed, and the list has that as its newest entry.
 abbrev pub Launches : Job → Known → Known → ℕ → Type 0
 Launches job old new p = Adds old new (DidLaunch p) × MayLaunch job (after job (log_of old)) old.queue p
 
+-- A launch is refused only where the seat's own list allows none, and changes nothing then.
 abbrev pub LaunchRefused : Job → Known → Known → BoardFault → Type 0
 LaunchRefused job old new NotNext = Stays old new × ((p : ℕ) → MayLaunch job (after job (log_of old)) old.queue p → ⊥)
 LaunchRefused job old new _ = ⊥
 
 -- ---- observations
 
+-- Packet p has observed the slot, as the seat's own list allowed, and the list has that as its newest entry.
 abbrev pub Observes : Job → Known → Known → ℕ → ℕ → Type 0
 Observes job old new p slot = Adds old new (DidObserve p slot) × MayOf job old (DidObserve p slot) p
 
@@ -82,16 +87,20 @@ ObserveRefused job old new p slot _ = ⊥
 
 -- ---- entries and completions
 
+-- Packet p has entered, as the seat's own list allowed, and the list has that as its newest entry.
 abbrev pub Enters : Job → Known → Known → ℕ → Type 0
 Enters job old new p = Adds old new (DidEnter p) × MayOf job old (DidEnter p) p
 
+-- An entry is refused only where the seat's own list doesn't allow it, and changes nothing then.
 abbrev pub EnterRefused : Job → Known → Known → ℕ → BoardFault → Type 0
 EnterRefused job old new p NotNext = Stays old new × (MayOf job old (DidEnter p) p → ⊥)
 EnterRefused job old new p _ = ⊥
 
+-- Packet p was completed, as the seat's own list allowed, and the list has that as its newest entry.
 abbrev pub Completes : Job → Known → Known → ℕ → Type 0
 Completes job old new p = Adds old new (DidComplete p) × MayOf job old (DidComplete p) p
 
+-- A completion is refused only where the seat's own list doesn't allow it, and changes nothing then.
 abbrev pub CompleteRefused : Job → Known → Known → ℕ → BoardFault → Type 0
 CompleteRefused job old new p NotEntered = Stays old new × (MayOf job old (DidComplete p) p → ⊥)
 CompleteRefused job old new p _ = ⊥
@@ -117,5 +126,6 @@ Closed job seats values =
 abbrev pub ClosesWith : Job → View → List ℕ → Type 0
 ClosesWith job v values = (m : List Entry) × Closes job values m × (part job v.queue m ≡ v.log)
 
+-- The values are the signals' at the end of such a history, whichever it is.
 abbrev pub ClosesAlone : Job → List ℕ → Type 0
 ClosesAlone job values = (m : List Entry) × Closes job values m

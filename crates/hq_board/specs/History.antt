@@ -6,6 +6,7 @@ use Rattle.hq_model.specs.Machine.Phase.{Launched, Active}
 use Rattle.hq_board.specs.declared.entry.Entry.{Entry}
 use Rattle.hq_board.specs.declared.entry.Entry.TheVariants.{DidLaunch, DidObserve, DidEnter, DidComplete, Looked}
 
+-- the packet of an event or a look
 abbrev pub packet_in : Entry → ℕ
 packet_in (DidLaunch p) = p
 packet_in (DidObserve p slot) = p
@@ -13,6 +14,7 @@ packet_in (DidEnter p) = p
 packet_in (DidComplete p) = p
 packet_in (Looked p slot value) = p
 
+-- the queue of that packet
 abbrev pub queue_of : Job → Entry → ℕ
 queue_of job x = (packet job (packet_in x)).queue
 
@@ -24,6 +26,7 @@ next job state (DidEnter p) = with_phase state p Active
 next job state (DidComplete p) = completed job state p
 next job state (Looked p slot value) = state
 
+-- phases, observed slots and signals after a whole history, from the job's start on
 abbrev pub after : Job → List Entry → State
 after job [] = start job
 after job (x ∷ log) = next job (after job log) x
@@ -50,10 +53,12 @@ Sees job state (DidObserve p slot) = (s : ℕ) → Dependency job p slot s → s
 Sees job state (Looked p slot value) = (0 < value) × ((s : ℕ) → Dependency job p slot s → state.signal s ≡ value)
 Sees job state _ = Unit {0}
 
+-- Each entry came when its own queue allowed it.
 abbrev pub Legal : Job → List Entry → Type 0
 Legal job [] = Unit {0}
 Legal job (x ∷ log) = May job (after job log) x × Legal job log
 
+-- At each observe the signal was at 0, and at each look it had the value above 0 that was seen.
 abbrev pub Right : Job → List Entry → Type 0
 Right job [] = Unit {0}
 Right job (x ∷ log) = Sees job (after job log) x × Right job log
@@ -68,6 +73,7 @@ abbrev pub without_signal : Option ℕ → ℕ
 without_signal None = 1
 without_signal (Some s) = 0
 
+-- 1 for a launch, for an entry, and for a completion on no signal, and else 0
 abbrev pub own_step : Job → Entry → ℕ
 own_step job (DidLaunch p) = 1
 own_step job (DidObserve p slot) = 0

@@ -20,9 +20,12 @@ log_of known = known.token.me.0.log
 abbrev pub phase_at : Known → ℕ → machine.Phase
 phase_at known i = named (slice_index_or known.phases.items i InQueue)
 
+-- whether a packet in this phase is complete
 abbrev pub is_done : Phase → Bool
 is_done phase = machine.is_complete (named phase)
 
+-- What the owner notes of the packets of its queue is what the seat's list says: their phases, the slots that they have
+-- observed, and how many were launched and are complete.
 pub record Tied (job : Job) (known : Known) : Type 0 where
   pub plain : known.token.me.0.deals ≡ false
   pub queue : known.token.me.0.queue ≡ known.queue
@@ -70,9 +73,11 @@ pub record IsReady (job : Job) (known : Known) : Type 0 where
 abbrev pub Waits : List (Option ℕ) → ℕ → Type 0
 Waits deps slot = (s : ℕ) × (slice_get deps slot ≡ Some (Some s))
 
+-- Every slot that waits for a signal was observed.
 abbrev pub AllObserved : List (Option ℕ) → List Bool → Type 0
 AllObserved deps observed = (slot : ℕ) → Waits deps slot → IsTrue (slice_index_or observed slot false)
 
+-- Some slot that waits for a signal was observed.
 abbrev pub OneObserved : List (Option ℕ) → List Bool → Type 0
 OneObserved deps observed = (slot : ℕ) × Waits deps slot × IsTrue (slice_index_or observed slot false)
 

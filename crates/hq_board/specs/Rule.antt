@@ -53,9 +53,11 @@ pub record Kept (job : Job) (words : List ℕ) (views : List View) : Type 0 wher
 abbrev pub added : View → Entry → View
 added v x = record { queue = v.queue; deals = v.deals; log = x ∷ v.log }
 
+-- the view of the one that hands out seats, when the next is that of queue q
 abbrev pub dealer : ℕ → View
 dealer q = record { queue = q; deals = true; log = [] }
 
+-- the view of queue q's seat when it is handed out: nothing is in its list
 abbrev pub newcomer : ℕ → View
 newcomer q = record { queue = q; deals = false; log = [] }
 

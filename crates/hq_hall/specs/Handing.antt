@@ -13,12 +13,15 @@ use Rattle.hq_ledger.specs.Pieces.{Part}
 abbrev pub work_of : List Placed → ℕ → Work
 work_of packets p = unwrap_or (option_map (λ placed. placed.work) (slice_get packets p)) no_work
 
+-- the footprint of packet p of these, in byte numbers; an empty one, where there is no such packet
 abbrev pub foot_of : List Placed → ℕ → Footprint
 foot_of packets p = unwrap_or (option_map (λ placed. placed.bytes) (slice_get packets p)) no_work.foot
 
+-- the first of the ranges that the work reads, in addresses
 abbrev pub first_read : Work → Range
 first_read work = slice_index_or work.foot.reads 0 nowhere
 
+-- the second of the ranges that the work reads, in addresses
 abbrev pub second_read : Work → Range
 second_read work = slice_index_or work.foot.reads 1 nowhere
 

@@ -11,6 +11,7 @@ abbrev pub fetches : ℕ → Event → Bool
 fetches p (event.Fetch q) = q == p
 fetches p other = false
 
+-- whether the event is p's delivery
 abbrev pub delivers : ℕ → Event → Bool
 delivers p (event.Deliver q) = q == p
 delivers p other = false

@@ -44,9 +44,11 @@ pub record HallValue : Type 0 where
 abbrev pub job_of : HallValue → Job
 job_of hall = plan hall.job.job
 
+-- the run so far: the job, the state that it has come to, and the events that led there
 abbrev pub run_of : HallValue → HistoryValue
 run_of hall = record { job = hall.job; state = hall.state; events = hall.events }
 
+-- the state that the run has come to, as the definitions of the machine have it
 abbrev pub state_in : HallValue → State
 state_in hall = state_of (job_of hall) hall.state
 
@@ -116,6 +118,7 @@ pub record MayComplete (hall : HallValue) (p : ℕ) : Type 0 where
 abbrev pub no_piece : Part
 no_piece = record { packet = 0; place = 0; at = 0; bytes = [] }
 
+-- the piece at this place, counted from 0, if there is one
 abbrev pub piece_at : List Part → ℕ → Part
 piece_at pieces k = slice_index_or pieces k no_piece
 

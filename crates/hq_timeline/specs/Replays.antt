@@ -50,6 +50,7 @@ pub record StopsFrom (job : Job) (old : StateValue) (events : List Event) (place
   pub journal : Journal job (state_of job old) (map coarse_of (take place events)) state
   pub refused : (new : State) → Happens job state (coarse_of event) new → ⊥
 
+-- why not all events happened, from a state of the job on: one of them isn't enabled, or there is no memory
 abbrev pub Stops : Job → StateValue → List Event → ReplayFault → Type 0
 Stops job old events (fault.NotEnabled place) = StopsFrom job old events place
 Stops job old events fault.Memory = Unit {0}
