@@ -92,8 +92,10 @@ NoOrMemory Is answer = (answer ≡ audit.Memory) ⊎ ((u : Unshown) × (answer �
 abbrev pub PairRefused : Job → ℕ → ℕ → AuditNo → Type 0
 PairRefused job a b = NoOrMemory (IsUnshown job a b)
 
+-- There is no memory, or this is the first pair of a with a packet above it that isn't ordered, as an answer.
 abbrev pub RowRefused : Job → ℕ → AuditNo → Type 0
 RowRefused job a = NoOrMemory (IsFirstOfRow job a)
 
+-- There is no memory, or this is the first of all pairs in number order that isn't ordered, as an answer.
 abbrev pub AllRefused : Job → AuditNo → Type 0
 AllRefused job = NoOrMemory (IsFirstUnshown job)

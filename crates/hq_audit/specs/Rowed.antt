@@ -28,6 +28,7 @@ pub record DraftsRows (job : Job) (a b : ℕ) (pairs : Vec Pair) : Type 0 where
 abbrev pub MayDraft : Job → ℕ → Option Drafts → Type 0
 MayDraft job k drafts = IfSome drafts (λ d. DraftsRows job (k * 64) (k * 64 + 64) d.pairs)
 
+-- so it is for all of these parts
 abbrev pub AllMayDraft : Job → List (Option Drafts) → Type 0
 AllMayDraft job parts = (k : ℕ) (d : Option Drafts) → k < length parts → MayDraft job k (slice_index_or parts k d)
 

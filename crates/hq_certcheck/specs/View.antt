@@ -11,6 +11,7 @@ pub record AcceptedJob : Type 0 where
   pub job : JobValue
   pub order : List ℕ
 
+-- the job that was accepted, and the order of its packets that is kept with it
 abbrev pub accepted_of : Inside → AcceptedJob
 accepted_of a = record { job = a.job; order = a.order.items }
 

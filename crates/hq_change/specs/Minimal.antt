@@ -27,6 +27,7 @@ pub record IsFixed (job k : Job) : Type 0 where
 
 -- ---- above a floor: heads, one for each packet, below which none goes
 
+-- Each packet's head is at or above the one that the floor has for it.
 abbrev pub AtOrAbove : List Head → Job → Type 0
 AtOrAbove floor k = (p : ℕ) (low : Head) → slice_get floor p ≡ Some low → HeadRaises low (head_at k p)
 

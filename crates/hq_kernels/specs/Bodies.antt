@@ -41,6 +41,7 @@ pub record PieceRange : Type 0 where
   pub at : ℕ
   pub len : ℕ
 
+-- whose bytes this piece has, from which address on, and how many
 abbrev pub range_of : Part → PieceRange
 range_of part = record { packet = part.packet; place = part.place; at = part.at; len = length part.bytes }
 

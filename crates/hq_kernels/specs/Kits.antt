@@ -23,6 +23,7 @@ pub record BodySeen : Type 0 where
   pub sort : Sort
   pub value : BodyValue
 
+-- a body as its callers see it, by how they see one made for kernels or for services; a stock body is for either
 abbrev pub seen : {X : Type 0} {Y : X → Type 0} {V : Type 0} {W : V → Type 0} → (DynBox X Global Y → BodyValue)
     → (DynBox V Global W → BodyValue)
     → Body X V Y W → BodySeen

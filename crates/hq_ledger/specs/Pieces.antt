@@ -8,6 +8,7 @@ pub record Part : Type 0 where
   pub at : ℕ
   pub bytes : List ℕ
 
+-- the part with these bytes in the place of its own
 abbrev pub with_bytes : Part → List ℕ → Part
 with_bytes part bytes = record part { bytes = bytes }
 

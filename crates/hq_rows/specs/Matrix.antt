@@ -41,6 +41,7 @@ pub record Differ (left right : List (Vec ℕ)) : Type 0 where
 abbrev pub matrix : List (Vec (Vec ℕ)) → ℕ → List (Vec ℕ)
 matrix rounds k = slice_index_or (map (λ v. v.items) rounds) k []
 
+-- the rows of the last round, and none where there is no round
 abbrev pub last : List (Vec (Vec ℕ)) → List (Vec ℕ)
 last rounds = matrix rounds (length rounds - 1)
 
@@ -50,10 +51,12 @@ earlier rounds = slice_index_or ([] ∷ map (λ v. v.items) rounds) (length roun
 
 -- ---- how far words are from their greatest value
 
+-- how much these words lack of 2^64, added up
 abbrev pub lag_of_words : List ℕ → ℕ
 lag_of_words [] = 0
 lag_of_words (word ∷ words) = (2 ^ 64 - word) + lag_of_words words
 
+-- how much all words of these rows lack of 2^64, added up
 abbrev pub lag_of_rows : List (Vec ℕ) → ℕ
 lag_of_rows [] = 0
 lag_of_rows (row ∷ rows) = lag_of_words row.items + lag_of_rows rows
@@ -64,9 +67,11 @@ lag rounds = lag_of_rows (last rounds)
 
 -- ---- the first mark
 
+-- in no round is p in the row of r
 abbrev pub IsMarkedNowhere : List (Vec (Vec ℕ)) → ℕ → ℕ → Type 0
 IsMarkedNowhere rounds p r = (k : ℕ) → k < length rounds → Marks (matrix rounds k) p r → ⊥
 
+-- k is the first round in which p is in the row of r
 pub record IsMarkedFirst (rounds : List (Vec (Vec ℕ))) (p r k : ℕ) : Type 0 where
   pub low : k < length rounds
   pub there : Marks (matrix rounds k) p r

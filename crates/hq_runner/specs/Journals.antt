@@ -43,6 +43,7 @@ is_asked other = false
 abbrev pub events_of : Job → ℕ → List Event → List Event
 events_of job q events = filter (is_of job q) events
 
+-- the submissions among these events, which are what the host does
 abbrev pub host_events : List Event → List Event
 host_events events = filter is_host events
 

@@ -8,6 +8,7 @@ use Rattle.hq_model.specs.Job.{Job, packet, IsPacket}
 use Rattle.hq_model.specs.Machine.{IsByte}
 use Rattle.hq_model.specs.Origins as model
 
+-- the same origin, as the model has it
 abbrev pub named : Origin → model.Origin
 named own.Start = model.Origin.Start
 named (own.StoredBy p) = model.Origin.StoredBy p

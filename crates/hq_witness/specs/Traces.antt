@@ -33,6 +33,8 @@ pub record IsSighting (job : Job) (state : State) (o : Origins) (s : Sighting) :
   pub there : IsSome (state.read s.packet s.entry)
   pub origin : o.read s.packet s.entry ≡ named s.origin
 
+-- The trace is of one of the job's bytes, and has the right origin of what memory has of it, of each copy, and of each
+-- read that it lists.
 pub record Tells (job : Job) (state : State) (o : Origins) (t : Trace) : Type 0 where
   pub fits : IsTraceOf job t
   pub copies : TellsCopies job o t
