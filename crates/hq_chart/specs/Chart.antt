@@ -33,6 +33,7 @@ agent_line job agent = line_of (length job.packets) (length job.queues) + 16 * a
 abbrev pub agents_drawn : JobValue → Bool → ℕ
 agents_drawn job copies = if copies then length job.agents else 0
 
+-- how high the picture is: down to where one more row would lie
 abbrev pub height_of : JobValue → Bool → ℕ
 height_of job copies = agent_line job (agents_drawn job copies)
 
@@ -43,18 +44,22 @@ spot_in number placed (Some queue) = Some
     (record
     { shown = record { number = number; queue = queue.name; placed = placed }; y = line_of number placed.queue })
 
+-- the same of a packet that there is, in its queue of the job
 abbrev pub spot_at : JobValue → ℕ → Option Placed → Option Spot
 spot_at job number None = None
 spot_at job number (Some placed) = spot_in number placed (slice_get job.queues placed.queue)
 
+-- the packet of this number as it is told of, and where its row lies, if the job has it
 abbrev pub spot_of : JobValue → ℕ → Option Spot
 spot_of job number = spot_at job number (slice_get job.packets number)
 
+-- what a title tells of a packet: its line as `show` prints it
 abbrev pub told : ShownPacket → List ℕ
 told shown = packet_text shown.number shown.queue shown.placed
 
 -- ---- shapes
 
+-- the name of a bar's style: `w` while the packet waits to become active, `a` while it is active
 abbrev pub phase_word : Phase → List ℕ
 phase_word phase.Waits = codes "w"
 phase_word phase.Active = codes "a"
@@ -64,11 +69,13 @@ abbrev pub outline_text : ℕ → ℕ → ℕ → List ℕ
 outline_text from to y = codes "M" ++ decimal from ++ codes "0 " ++ decimal y ++ codes "m0-5v10H" ++ decimal to
     ++ codes "0v-10z"
 
+-- a bar of this phase and outline, with what is told of the packet as its title
 abbrev pub bar_text : Phase → Outline → ShownPacket → List ℕ
 bar_text which outline shown =
     codes "<path class='" ++ phase_word which ++ codes "' d='" ++ outline_text outline.from outline.to outline.y
     ++ codes "'><title>" ++ told shown ++ codes "</title></path>\n"
 
+-- a mark at an event, in a row that lies so far below the upper edge
 abbrev pub mark_text : Mark → ℕ → ℕ → List ℕ
 mark_text mark.Sees at y = codes "<path d='M" ++ decimal at ++ codes "0 " ++ decimal y ++ codes "v-7'/>\n"
 mark_text mark.Reads at y = codes "<circle class='r' cx='" ++ decimal at ++ codes "0' cy='" ++ decimal y
@@ -79,13 +86,16 @@ mark_text mark.Pushes at y = codes "<path d='M" ++ decimal at ++ codes "0 " ++ d
 mark_text mark.Drops at y = codes "<path d='M" ++ decimal at ++ codes "0 " ++ decimal y
     ++ codes "m-3-3l6 6m-6 0l6-6'/>\n"
 
+-- the tick of a submission, in the host's row
 abbrev pub submission_text : ℕ → List ℕ
 submission_text at = codes "<path d='M" ++ decimal at ++ codes "0 50v8'/>\n"
 
+-- a bar in the packet's row, from one event to another, if there is such a packet
 abbrev pub bar_there : Phase → ℕ → ℕ → Option Spot → List ℕ
 bar_there which from to None = []
 bar_there which from to (Some spot) = bar_text which (record { from = from; to = to; y = spot.y }) spot.shown
 
+-- a mark in the packet's row, if there is such a packet
 abbrev pub mark_there : Mark → ℕ → Option Spot → List ℕ
 mark_there which at None = []
 mark_there which at (Some spot) = mark_text which at spot.y
@@ -97,6 +107,7 @@ shape_text job (shape.Mark which p at) = mark_there which at (spot_of job p)
 shape_text job (shape.AgentMark which agent at) = mark_text which at (agent_line job agent)
 shape_text job (shape.Submission at) = submission_text at
 
+-- a shape, and nothing where there is none
 abbrev pub part_text : JobValue → Option Shape → List ℕ
 part_text job None = []
 part_text job (Some it) = shape_text job it
@@ -116,9 +127,11 @@ abbrev pub size_text : ℕ → ℕ → List ℕ
 size_text width height = codes "width='" ++ decimal width ++ codes "0' height='" ++ decimal height
     ++ codes "' viewBox='-160 0 " ++ decimal width ++ codes "0 " ++ decimal height ++ codes "'"
 
+-- how the picture looks and what its signs mean, and the label of the host's row where there is one
 abbrev pub legend_text : Bool → List ℕ
 legend_text rings = styles ++ host_text rings
 
+-- the tag that opens the picture, with its width in events and its height
 abbrev pub opening_text : ℕ → ℕ → List ℕ
 opening_text width height = codes "<svg xmlns='http://www.w3.org/2000/svg' " ++ size_text width height ++ codes ">\n"
 
@@ -131,10 +144,12 @@ abbrev pub label_of : Spot → List ℕ
 label_of spot = codes "<text x='-156' y='" ++ decimal spot.y ++ codes "' dy='4'>" ++ decimal spot.shown.number
     ++ codes " " ++ spot.shown.queue ++ codes "<title>" ++ told spot.shown ++ codes "</title></text>\n"
 
+-- the label of a row, where there is such a row
 abbrev pub label_there : Option Spot → List ℕ
 label_there None = []
 label_there (Some spot) = label_of spot
 
+-- the label of packet p's row, if the job has the packet
 abbrev pub label_text : JobValue → ℕ → List ℕ
 label_text job p = label_there (spot_of job p)
 
@@ -143,17 +158,20 @@ abbrev pub rows_text : JobValue → ℕ → List ℕ
 rows_text job zero = []
 rows_text job (suc n) = rows_text job n ++ label_text job n
 
--- the labels of the first agents' rows
+-- the label of an agent's row, which lies so far below the upper edge
 abbrev pub agent_text : List ℕ → ℕ → List ℕ
 agent_text name y = codes "<text x='-156' y='" ++ decimal y ++ codes "' dy='4'>agent " ++ name ++ codes "</text>\n"
 
+-- the same of an agent that there is
 abbrev pub agent_there : ℕ → Option (List ℕ) → List ℕ
 agent_there y None = []
 agent_there y (Some name) = agent_text name y
 
+-- the label of this agent's row, if the job has the agent
 abbrev pub agent_label : JobValue → ℕ → List ℕ
 agent_label job agent = agent_there (agent_line job agent) (slice_get job.agents agent)
 
+-- the labels of the first agents' rows
 abbrev pub agents_text : JobValue → ℕ → List ℕ
 agents_text job zero = []
 agents_text job (suc n) = agents_text job n ++ agent_label job n
@@ -178,18 +196,22 @@ abbrev pub end_line : ℕ → ℕ → List ℕ
 end_line place height = codes "<path class='x' d='M" ++ decimal place ++ codes "0 46V" ++ decimal height
     ++ codes "'/>\n"
 
+-- the note beside the line: that the event of this place isn't enabled
 abbrev pub end_note : ℕ → List ℕ
 end_note place = codes "<text x='" ++ decimal place ++ codes "0' y='58' dx='4'>event " ++ decimal place
     ++ codes " is not enabled</text>\n"
 
+-- the line and the note, in a picture that is as high as the job's rows ask for
 abbrev pub refusal_text : JobValue → Bool → ℕ → List ℕ
 refusal_text job copies place = end_line place (height_of job copies) ++ end_note place
 
+-- how the picture ends: with both where the event of this place is refused, else with neither
 abbrev pub end_text : JobValue → Bool → ℕ → Bool → List ℕ
 end_text job copies place refused = if refused then refusal_text job copies place else []
 
 -- ---- the whole
 
+-- the picture of these events, before the first of which packets do what their rows say
 abbrev pub drawn_text : JobValue → Bool → List Row → List Event → Bool → List ℕ
 drawn_text job copies rows events refused =
     head_text job copies (length events) ++ rows_text job (length job.packets) ++ agents_text job

@@ -19,6 +19,7 @@ use Rattle.hq_chart.specs.declared.shape.Mark.TheVariants as mark
 abbrev pub rows_of : List Placed → List Row
 rows_of packets = map (λ p. record { queue = p.queue; stage = stage.Ahead }) packets
 
+-- whether the packet isn't launched yet
 abbrev pub awaits_launch : Stage → Bool
 awaits_launch stage.Ahead = true
 awaits_launch (stage.Waits since) = false
@@ -38,9 +39,11 @@ abbrev pub with_stage_at : List Row → ℕ → Stage → Option Row → List Ro
 with_stage_at rows p does None = rows
 with_stage_at rows p does (Some row) = slice_set rows p (record row { stage = does })
 
+-- what packets do once packet p does this, if there is one of that number
 abbrev pub with_stage : List Row → ℕ → Stage → List Row
 with_stage rows p does = with_stage_at rows p does (slice_get rows p)
 
+-- what packets do once this one, if there is one, is launched by the event of a place
 abbrev pub launched : List Row → ℕ → Option ℕ → List Row
 launched rows place None = rows
 launched rows place (Some p) = with_stage rows p (stage.Waits place)
@@ -79,10 +82,12 @@ bar_of_stage (stage.Waits since) p to = Some (shape.Bar phase.Waits p since to)
 bar_of_stage (stage.Active since) p to = Some (shape.Bar phase.Active p since to)
 bar_of_stage stage.Done p to = None
 
+-- the same of the packet of a row, if there is such a row
 abbrev pub bar_of_row : Option Row → ℕ → ℕ → Option Shape
 bar_of_row None p to = None
 bar_of_row (Some row) p to = bar_of_stage row.stage p to
 
+-- a bar of what packet p does, up to an event, if there is such a packet
 abbrev pub bar_of : List Row → ℕ → ℕ → Option Shape
 bar_of rows p to = bar_of_row (slice_get rows p) p to
 
@@ -106,6 +111,7 @@ copies_shape_of place (event.FillAgent agent byte) = Some (shape.AgentMark mark.
 copies_shape_of place (event.DropLane p byte) = Some (shape.Mark mark.Drops p place)
 copies_shape_of place (event.DropAgent agent byte) = Some (shape.AgentMark mark.Drops agent place)
 
+-- what is drawn of an event of copies, where these are asked for
 abbrev pub copies_shape_if : Bool → ℕ → Event → Option Shape
 copies_shape_if copies place e = if copies then copies_shape_of place e else None
 

@@ -25,15 +25,17 @@ pub data StepsText (job : JobValue) (order : Job) : ℕ → ℕ → List ℕ →
   more : {p m r : ℕ} {first second : List ℕ} → StepsText job order p m first → StepsText job order m r second
       → StepsText job order p r (first ++ second)
 
+-- that p is complete before r is active, and steps that lead from p to r
 abbrev pub PathText : JobValue → Job → ℕ → ℕ → List ℕ → Type 0
 PathText job order p r text = Then (Is (path_title p r)) (StepsText job order p r) text
 
 -- ---- what would order two packets
 
--- the single changes that would order them, packet by packet; or that none would
+-- what opens the changes that would order them, if there are some; or that none would
 abbrev pub ChangesText : List Advice → List ℕ → Type 0
 ChangesText list text = Is (if list_any is_some_advice list then changes_title else no_change) text
 
+-- the single changes that would order them, packet by packet; or that none would
 abbrev pub AdviceText : List Advice → List ℕ → Type 0
 AdviceText list text = Then (ChangesText list) (Each (λ p. Is (advice_there p (slice_get list p))) (length list)) text
 
@@ -51,6 +53,7 @@ ConflictText job a b ordered p r hows text = Then (Is (head_text job a b ordered
 abbrev pub WayText : JobValue → Job → ℕ → ℕ → List ℕ → Type 0
 WayText job order p r text = Where (Before order p r) (PathText job order p r) text
 
+-- of two packets that are ordered: what they are, how they conflict, how that is ordered, and why one comes first
 abbrev pub OrderedText : JobValue → Job → ℕ → ℕ → Directed → List ℕ → Type 0
 OrderedText job order a b d text = Then (ConflictText job a b true d.first d.second (hows_of d.shown))
     (WayText job order d.first d.second) text
@@ -60,6 +63,7 @@ abbrev pub LackText : JobValue → Job → ℕ → ℕ → Unshown → List ℕ 
 LackText job order a b u text = Then (Then (ConflictText job a b false u.p u.r no_hows) (WayText job order u.p u.r))
     (Is (why_line u.fault.why u.p u.r)) text
 
+-- the same, and behind it each single change that would order the two, or that none would
 abbrev pub OpenText : JobValue → Job → ℕ → ℕ → Unshown → List ℕ → Type 0
 OpenText job order a b u text = Then (LackText job order a b u) (WouldOrder order a b) text
 

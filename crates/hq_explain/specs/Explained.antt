@@ -35,11 +35,13 @@ StuckLine job order r text = ((p : ℕ) × (by : Wait) × Awaits order p r by ×
 abbrev pub StuckPart : JobValue → Job → ℕ → List ℕ → Type 0
 StuckPart job order r text = Where (Stuck order r) (StuckLine job order r) text
 
+-- a line for each packet that can never complete, in number order
 abbrev pub StuckText : JobValue → Job → List ℕ → Type 0
 StuckText job order text = Each (StuckPart job order) (length job.packets) text
 
 -- ---- two packets that are asked for
 
+-- p and r are two packets, not one and the same, that conflict.
 pub record AreTwo (order : Job) (p r : ℕ) : Type 0 where
   pub apart : p ≢ r
   pub conflict : HaveConflict order p r
@@ -59,6 +61,7 @@ pub data PairSaid (job : JobValue) (order : Job) (p r : ℕ) : Found → List �
 
 -- ---- the whole
 
+-- The job has an order list: all its packets one by one, each behind what it waits for.
 abbrev pub HasOrder : Job → Type 0
 HasOrder order = (list : List ℕ) × OrderList order list
 

@@ -27,10 +27,12 @@ run_of kind.WriteRead p r = first_common r.reads p.write
 run_of kind.WriteWrite p r = first_common (p.write ∷ []) r.write
 run_of kind.ReadWrite p r = first_common p.reads r.write
 
+-- how many bytes a range has, and where the first of them lies, if there is a range
 abbrev pub run_at : JobValue → Option Range → Option Run
 run_at job None = None
 run_at job (Some range) = Some (record { len = range.len; spot = spot_of job.buffers range.at })
 
+-- the first run of bytes by which two packets conflict in this way, if there are both packets
 abbrev pub run_of_two : JobValue → Kind → Option Placed → Option Placed → Option Run
 run_of_two job kind None second = None
 run_of_two job kind (Some first) None = None

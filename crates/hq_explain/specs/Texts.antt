@@ -36,12 +36,15 @@ use Rattle.hq_explain.specs.declared.packets.Standing.{Standing}
 
 -- ---- packets
 
+-- two packets, by their numbers
 abbrev pub pair_text : ℕ → ℕ → List ℕ
 pair_text a b = codes "packets " ++ decimal a ++ codes " and " ++ decimal b
 
+-- whether two packets are ordered, in words
 abbrev pub ordered_text : Bool → List ℕ
 ordered_text ordered = if ordered then codes "ordered" else codes "not ordered"
 
+-- the line of two packets and whether they are ordered
 abbrev pub title : ℕ → ℕ → Bool → List ℕ
 title a b ordered = pair_text a b ++ codes ": " ++ ordered_text ordered ++ codes "\n"
 
@@ -54,6 +57,7 @@ place_text place (Some queue) = codes ", place " ++ decimal place ++ codes " of 
 abbrev pub standing_text : Standing → List ℕ
 standing_text s = kind_word s.packet ++ work_text s.work ++ place_text s.place s.queue
 
+-- what packet p is and where it stands in its queue, if there is such a packet
 abbrev pub standing_of : JobValue → ℕ → Option Placed → Option Standing
 standing_of job p None = None
 standing_of job p (Some placed) =
@@ -65,6 +69,7 @@ standing_of job p (Some placed) =
       queue = slice_get job.queues placed.queue;
     })
 
+-- the line that says so of packet p, and nothing where there is no such packet
 abbrev pub packet_text : ℕ → Option Standing → List ℕ
 packet_text p None = []
 packet_text p (Some standing) = codes "  packet " ++ decimal p ++ codes ": " ++ standing_text standing ++ codes "\n"
@@ -84,6 +89,7 @@ abbrev pub bytes_text : ℕ → Option Spot → List ℕ
 bytes_text len None = decimal len ++ codes " bytes"
 bytes_text len (Some spot) = spot_text spot ++ codes ", " ++ decimal len ++ codes " bytes"
 
+-- in which way p and r conflict: what p does with the bytes, and what r does
 abbrev pub kind_words : Kind → ℕ → ℕ → List ℕ
 kind_words kind.WriteRead p r = codes "  packet " ++ decimal p ++ codes " writes what packet " ++ decimal r
     ++ codes " reads: "
@@ -92,6 +98,7 @@ kind_words kind.WriteWrite p r = codes "  packet " ++ decimal p ++ codes " write
 kind_words kind.ReadWrite p r = codes "  packet " ++ decimal p ++ codes " reads what packet " ++ decimal r
     ++ codes " writes: "
 
+-- the line of such a conflict with its bytes, and nothing where there are none
 abbrev pub kind_text : Kind → ℕ → ℕ → Option Run → List ℕ
 kind_text kind p r None = []
 kind_text kind p r (Some run) = kind_words kind p r ++ bytes_text run.len run.spot ++ codes "\n"
@@ -101,16 +108,20 @@ kind_text kind p r (Some run) = kind_words kind p r ++ bytes_text run.len run.sp
 abbrev pub kind_line : JobValue → Kind → ℕ → ℕ → List ℕ
 kind_line job kind p r = kind_text kind p r (run_between job kind p r)
 
+-- the fences of a release that is a chain, by their packets
 abbrev pub two_releases : ℕ → ℕ → List ℕ
 two_releases x x2 = codes "the release fences of packets " ++ decimal x ++ codes " and " ++ decimal x2
 
+-- the fence of a release, or the two of one that is a chain
 abbrev pub release_text : Release → List ℕ
 release_text (release.Alone x) = codes "the release fence of packet " ++ decimal x
 release_text (release.Chained x x2) = two_releases x x2
 
+-- the fences of an acquire that is a chain, by their packets
 abbrev pub two_acquires : ℕ → ℕ → List ℕ
 two_acquires y2 y = codes "the acquire fences of packets " ++ decimal y2 ++ codes " and " ++ decimal y
 
+-- the fence of an acquire, or the two of one that is a chain
 abbrev pub acquire_text : Acquire → List ℕ
 acquire_text (acquire.Alone y) = codes "the acquire fence of packet " ++ decimal y
 acquire_text (acquire.Chained y2 y) = two_acquires y2 y
@@ -127,19 +138,23 @@ how_text how.NoFence = codes "    needs no fence\n"
 abbrev pub part_text : KindLine → How → List ℕ
 part_text line how = kind_text line.kind line.p line.r line.run ++ how_text how
 
+-- the same of each kind of conflict of p with r, in the order wr, ww, rw
 abbrev pub kinds_text : JobValue → ℕ → ℕ → Hows → List ℕ
 kinds_text job p r hows =
     kind_line job kind.WriteRead p r ++ how_text hows.wr ++ (kind_line job kind.WriteWrite p r ++ how_text hows.ww)
     ++ (kind_line job kind.ReadWrite p r ++ how_text hows.rw)
 
+-- how a write that the second packet reads is ordered, where it is: by a release and an acquire
 abbrev pub wr_how : Option (Release × Acquire) → How
 wr_how None = how.Unsaid
 wr_how (Some fences) = how.Acquired fences.0 fences.1
 
+-- how two writes are ordered, where they are: by a release
 abbrev pub ww_how : Option Release → How
 ww_how None = how.Unsaid
 ww_how (Some fences) = how.Released fences
 
+-- how a read of what the second packet writes is ordered, where it is: it needs no fence
 abbrev pub rw_how : Bool → How
 rw_how there = if there then how.NoFence else how.Unsaid
 
@@ -147,24 +162,29 @@ rw_how there = if there then how.NoFence else how.Unsaid
 abbrev pub hows_of : Shown → Hows
 hows_of shown = record { wr = wr_how shown.wr; ww = ww_how shown.ww; rw = rw_how shown.rw }
 
+-- of each kind of conflict, that it isn't told how it is ordered
 abbrev pub no_hows : Hows
 no_hows = record { wr = how.Unsaid; ww = how.Unsaid; rw = how.Unsaid }
 
 -- ---- the order
 
+-- what opens the steps from p to r: that p is complete before r is active
 abbrev pub path_title : ℕ → ℕ → List ℕ
 path_title p r = codes "  packet " ++ decimal p ++ codes " is complete before packet " ++ decimal r
     ++ codes " is active:\n"
 
+-- which rule makes a step, with the signal's name where the rule has one
 abbrev pub rule_text : Rule → Option (List ℕ) → List ℕ
 rule_text (rule.Bit j) name = codes "barrier bit of packet " ++ decimal j
 rule_text rule.Queue name = codes "barrier packet ahead in its queue"
 rule_text (rule.And s) name = codes "barrier-AND on " ++ name_of name
 rule_text rule.Or name = codes "barrier-OR, whichever signal it sees"
 
+-- the two packets of a step, p before r
 abbrev pub step_words : ℕ → ℕ → List ℕ
 step_words p r = codes "    " ++ decimal p ++ codes " before " ++ decimal r
 
+-- a step's line: its two packets and the rule that makes it, with the name of the rule's signal
 abbrev pub step_text : ℕ → ℕ → Rule → Option (List ℕ) → List ℕ
 step_text p r by name = step_words p r ++ codes ": " ++ rule_text by name ++ codes "\n"
 
@@ -185,13 +205,16 @@ why_line why.NotAcquired p r =
 
 -- ---- what would order them
 
+-- that packet p's barrier bit would order them once it is set, if it would
 abbrev pub bit_line : ℕ → Bool → List ℕ
 bit_line p there = if there then codes "    packet " ++ decimal p ++ codes ": set its barrier bit\n" else []
 
+-- the scope with which packet p's acquire fence would order them, if there is one
 abbrev pub acquire_line : ℕ → Option Scope → List ℕ
 acquire_line p None = []
 acquire_line p (Some scope) = codes "    packet " ++ decimal p ++ codes ": acquire " ++ scope_word scope ++ codes "\n"
 
+-- the scope with which packet p's release fence would order them, if there is one
 abbrev pub release_line : ℕ → Option Scope → List ℕ
 release_line p None = []
 release_line p (Some scope) = codes "    packet " ++ decimal p ++ codes ": release " ++ scope_word scope ++ codes "\n"
@@ -200,6 +223,7 @@ release_line p (Some scope) = codes "    packet " ++ decimal p ++ codes ": relea
 abbrev pub advice_lines : ℕ → Advice → List ℕ
 advice_lines p advice = bit_line p advice.bit ++ acquire_line p advice.acquire ++ release_line p advice.release
 
+-- these lines where something is said of packet p, else none
 abbrev pub advice_there : ℕ → Option Advice → List ℕ
 advice_there p None = []
 advice_there p (Some advice) = advice_lines p advice
@@ -208,44 +232,55 @@ advice_there p (Some advice) = advice_lines p advice
 abbrev pub is_some_advice : Advice → Bool
 is_some_advice advice = advice.bit || is_some advice.acquire || is_some advice.release
 
+-- what opens the changes, any one of which would order them
 abbrev pub changes_title : List ℕ
 changes_title = codes "  any one of these would order them:\n"
 
+-- that no single change would order them
 abbrev pub no_change : List ℕ
 no_change = codes "  no single barrier bit or fence would order them\n"
 
 -- ---- pairs that aren't told of
 
+-- that p and r don't conflict
 abbrev pub apart_line : ℕ → ℕ → List ℕ
 apart_line p r = pair_text p r ++ codes ": no conflict\n"
 
+-- how many packets the job has, where p and r were asked for
 abbrev pub beyond_line : ℕ → ℕ → ℕ → List ℕ
 beyond_line p r count = pair_text p r ++ codes ": the job has " ++ decimal count ++ codes " packets\n"
 
 -- ---- the end
 
+-- how many pairs that conflict weren't told of
 abbrev pub left_line : ℕ → List ℕ
 left_line count = codes "and " ++ decimal count ++ codes " more pairs that conflict, of which --all tells too\n"
 
+-- that no two packets conflict
 abbrev pub none_line : List ℕ
 none_line = codes "no two packets conflict\n"
 
 -- ---- packets that can never complete
 
+-- how a packet stands in another's way, with the signal's name where it completes on one
 abbrev pub wait_text : Wait → Option (List ℕ) → List ℕ
 wait_text wait.Ahead name = codes "stands ahead of it in its queue"
 wait_text wait.Slot name = codes "has its slot"
 wait_text wait.Turn name = codes "is to be submitted right ahead of it and never is"
 wait_text (wait.Signal s) name = codes "completes on " ++ name_of name
 
+-- that r can never complete, and waits for p
 abbrev pub waiting_words : ℕ → ℕ → List ℕ
 waiting_words p r = codes "packet " ++ decimal r ++ codes " can never complete: it waits for packet " ++ decimal p
 
+-- the line that says so, and how p stands in r's way, with the name of the signal
 abbrev pub waiting_text : ℕ → ℕ → Wait → Option (List ℕ) → List ℕ
 waiting_text p r by name = waiting_words p r ++ codes ", which " ++ wait_text by name ++ codes "\n"
 
+-- the same in this job, which has the signal's name
 abbrev pub waits_line : JobValue → ℕ → ℕ → Wait → List ℕ
 waits_line job p r by = waiting_text p r by (awaited_by job by)
 
+-- that r can never complete, where nothing is told of what it waits for
 abbrev pub stuck_line : ℕ → List ℕ
 stuck_line r = codes "packet " ++ decimal r ++ codes " can never complete\n"

@@ -38,6 +38,7 @@ abbrev pub closing_text : Bool → ℕ → List ℕ
 closing_text all count = if count == 0 then none_line else
     (if all || nat_le count 100 then [] else left_line (count - 100))
 
+-- what is told of all pairs that conflict, or of the first hundred, and what closes them
 abbrev pub AllText : JobValue → Job → Bool → List ℕ → Type 0
 AllText job order all text = (count : ℕ)
     × Then (Told job order all (length order.packets) 0 count) (Is (closing_text all count)) text
