@@ -30,17 +30,21 @@ told_as line reason.Number = Some (record { line = line; reason = told.Number })
 told_as line reason.NoEnd = Some (record { line = line; reason = told.NoEnd })
 told_as line reason.Memory = None
 
+-- what the parser's fault tells of a text: a line and what is wrong with it; nothing where memory ran out
 abbrev pub told_of : TimeFault → Option TimelineFault
 told_of fault = told_as fault.line fault.reason
 
+-- the code of what is wrong with a timeline's line
 abbrev pub time_code : TimelineReason → List ℕ
 time_code told.Word = codes "E1"
 time_code told.Number = codes "E2"
 time_code told.NoEnd = codes "E3"
 
+-- the refusal of a timeline's text: the line, and the code of what is wrong with it
 abbrev pub time_refusal : TimelineFault → List ℕ
 time_refusal fault = codes "refused line " ++ decimal fault.line ++ codes " " ++ time_code fault.reason
 
+-- the refusal of an event that isn't enabled, by its place
 abbrev pub event_refusal : ℕ → List ℕ
 event_refusal place = codes "refused event " ++ decimal place
 

@@ -35,10 +35,12 @@ abbrev pub byte_text : Option Spot → List ℕ
 byte_text None = codes "memory"
 byte_text (Some spot) = codes "memory " ++ spot.name ++ codes " " ++ decimal spot.offset
 
+-- what two runs differ in: an entry that a packet reads, or a byte of memory
 abbrev pub place_text : Differs → List ℕ
 place_text (differs.Read p i) = codes "read " ++ decimal p ++ codes " " ++ decimal i
 place_text (differs.Memory spot) = byte_text spot
 
+-- the two packets of a witness, and the kind of their conflict
 abbrev pub pair_text : ℕ → ℕ → Kind → List ℕ
 pair_text p r kind = codes "witness " ++ decimal p ++ codes " " ++ decimal r ++ codes " " ++ kind_name kind
 
@@ -46,6 +48,7 @@ pair_text p r kind = codes "witness " ++ decimal p ++ codes " " ++ decimal r ++ 
 abbrev pub differs_text : Difference → List ℕ
 differs_text d = place_text d.place ++ codes " " ++ origin_text d.good ++ codes " " ++ origin_text d.bad
 
+-- the lines of a witness, the last without its line feed: its two packets, and how its two runs differ
 abbrev pub lines_text : ℕ → ℕ → Kind → Difference → List ℕ
 lines_text p r kind difference = pair_text p r kind ++ codes "\n" ++ differs_text difference
 
@@ -64,6 +67,7 @@ abbrev pub difference_of : JobValue → WitnessValue → Difference
 difference_of job w =
     record { place = differs_at job w.place; good = stored_by w.good_origin; bad = stored_by w.bad_origin }
 
+-- what is told of a witness of this job, in these lines
 abbrev pub witness_text : JobValue → WitnessValue → List ℕ
 witness_text job w = lines_text w.p w.r w.kind (difference_of job w)
 

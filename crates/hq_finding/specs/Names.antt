@@ -5,11 +5,13 @@ use Rattle.hq_finding.specs.declared.kind.Kind.TheVariants.{WriteRead, WriteWrit
 use Rattle.hq_finding.specs.declared.why.Why.{Why}
 use Rattle.hq_finding.specs.declared.why.Why.TheVariants.{Unordered, NotReleased, NotAcquired}
 
+-- the letters for a kind of conflict: what the first packet does, write or read, and what the second does
 abbrev pub kind_name : Kind → List ℕ
 kind_name WriteRead = codes "wr"
 kind_name WriteWrite = codes "ww"
 kind_name ReadWrite = codes "rw"
 
+-- the word for why a conflict isn't ordered
 abbrev pub why_name : Why → List ℕ
 why_name Unordered = codes "Unordered"
 why_name NotReleased = codes "NotReleased"

@@ -24,6 +24,7 @@ abbrev pub numbers_text : List ℕ → List ℕ
 numbers_text [] = []
 numbers_text (n ∷ ns) = codes " " ++ decimal n ++ numbers_text ns
 
+-- the line of packets that can never complete
 abbrev pub stuck_text : List ℕ → List ℕ
 stuck_text packets = with_feed (codes "stuck" ++ numbers_text packets)
 

@@ -23,6 +23,7 @@ use Rattle.hq_status.specs.declared.status.Status.TheVariants.{Done, Certificate
 
 -- ---- the lines
 
+-- the code of what is wrong with a certificate's line
 abbrev pub reason_code : CertReason → List ℕ
 reason_code reason.Word = codes "K1"
 reason_code reason.Number = codes "K2"
@@ -30,18 +31,23 @@ reason_code reason.Citation = codes "K3"
 reason_code reason.NoEnd = codes "K4"
 reason_code reason.Memory = codes "K5"
 
+-- the refusal of a certificate's text: the line, and the code of what is wrong with it
 abbrev pub cert_refusal : CertFault → List ℕ
 cert_refusal fault = codes "refused line " ++ decimal fault.line ++ codes " " ++ reason_code fault.reason
 
+-- that a certificate is accepted: how many packets the job has, and how many work steps a run makes at most
 abbrev pub accepted_text : ℕ → ℕ → List ℕ
 accepted_text packets bound = codes "accepted packets " ++ decimal packets ++ codes " bound " ++ decimal bound
 
+-- that line k of the certificate doesn't hold
 abbrev pub bad_line_text : ℕ → List ℕ
 bad_line_text k = codes "refused V2 " ++ decimal k
 
+-- that p and r conflict and lack their pair lines
 abbrev pub pair_missing_text : ℕ → ℕ → List ℕ
 pair_missing_text p r = codes "refused V3 " ++ decimal p ++ codes " " ++ decimal r
 
+-- that a pair line of p and r doesn't hold
 abbrev pub bad_pair_text : ℕ → ℕ → List ℕ
 bad_pair_text p r = codes "refused V4 " ++ decimal p ++ codes " " ++ decimal r
 
@@ -91,6 +97,7 @@ SaysNoCertificate fault old new answered =
     ⊎ ((¬ (fault.reason ≡ reason.Memory))
     × Said old new (with_feed (cert_refusal fault)) (CertificateRefused fault) answered)
 
+-- why a certificate isn't accepted is written, or that memory ran out
 abbrev pub NoSaid : CheckNo → Option (List ℕ) → Option (List ℕ) → Status → Type 0
 NoSaid refusal old new answered = Said old new (with_feed (refusal_text refusal)) (refusal_status refusal) answered
 

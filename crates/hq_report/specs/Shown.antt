@@ -9,22 +9,25 @@ use Rattle.hq_packet.specs.Parts.{head_of, completion_of}
 use Rattle.hq_footprint.specs.declared.footprint.Range.{Range}
 use Rattle.hq_job.specs.declared.rows.Placed.{Placed}
 
+-- the word for a fence's scope
 abbrev pub scope_word : Scope → List ℕ
 scope_word scope.None = codes "none"
 scope_word scope.Agent = codes "agent"
 scope_word scope.System = codes "system"
 
+-- the word for a packet's kind
 abbrev pub kind_word : Packet → List ℕ
 kind_word (packet.Kernel k) = codes "kernel"
 kind_word (packet.Agent a) = codes "agent"
 kind_word (packet.And b) = codes "and"
 kind_word (packet.Or b) = codes "or"
 
--- texts with commas between them, or `-` where there is none
+-- texts, each of them behind a comma
 abbrev pub behind : List (List ℕ) → List ℕ
 behind [] = []
 behind (x ∷ xs) = codes "," ++ x ++ behind xs
 
+-- texts with commas between them, or `-` where there is none
 abbrev pub joined : List (List ℕ) → List ℕ
 joined [] = codes "-"
 joined (x ∷ xs) = x ++ behind xs
@@ -50,12 +53,14 @@ abbrev pub work_text : Placed → List ℕ
 work_text p = codes "reads " ++ ranges_text p.work.foot.reads ++ codes " writes " ++ ranges_text
     (p.work.foot.write ∷ [])
 
+-- what a packet does: this work, where it is a kernel or agent packet; else which signals it depends on
 abbrev pub doing_of : Packet → List ℕ → List ℕ
 doing_of (packet.Kernel k) work = work
 doing_of (packet.Agent a) work = work
 doing_of (packet.And b) work = codes "deps " ++ handles_text b.deps
 doing_of (packet.Or b) work = codes "deps " ++ handles_text b.deps
 
+-- what a packet of a job does: what it reads and writes, or which signals it depends on
 abbrev pub doing_text : Placed → List ℕ
 doing_text p = doing_of p.packet (work_text p)
 

@@ -17,5 +17,6 @@ spot_of (b ∷ bs) n = if nat_lt n (length b.bytes) then Some
 abbrev pub offset_text : Spot → List ℕ
 offset_text spot = spot.name ++ codes "+" ++ decimal spot.offset
 
+-- which buffer a byte lies in, how far from where that begins, and its address
 abbrev pub spot_text : Spot → List ℕ
 spot_text spot = offset_text spot ++ codes " (address " ++ decimal (spot.at + spot.offset) ++ codes ")"

@@ -21,9 +21,11 @@ packet_code packet.Dimensions = codes "P7"
 packet_code packet.ZeroSize = codes "P8"
 packet_code packet.UnusedNotOne = codes "P9"
 
+-- the refusal of a packet, with the fault's code
 abbrev pub packet_refusal : PacketFault → List ℕ
 packet_refusal fault = codes "refused " ++ packet_code fault
 
+-- a footprint fault's code
 abbrev pub foot_code : FootFault → List ℕ
 foot_code foot.Overflow = codes "F1"
 foot_code foot.OutsideBuffer = codes "F2"
@@ -54,5 +56,6 @@ reason_code reason.Items = codes "J19"
 reason_code reason.Read = codes "J20"
 reason_code reason.Memory = codes "J21"
 
+-- the refusal of a job's text: the line, and the code of what is wrong with it
 abbrev pub job_refusal : JobFault → List ℕ
 job_refusal fault = codes "refused line " ++ decimal fault.line ++ codes " " ++ reason_code fault.reason

@@ -18,12 +18,14 @@ use Rattle.hq_status.specs.declared.status.Status.TheVariants.{Done, RunFailed}
 
 -- ---- the lines
 
+-- the word for why a run was stopped, with the packet where a body failed
 abbrev pub failure_name : RunFailure → List ℕ
 failure_name (failure.Kernel packet) = codes "Kernel " ++ decimal packet
 failure_name failure.Split = codes "Split"
 failure_name (failure.Receipts queue) = codes "Receipts"
 failure_name failure.Unfinished = codes "Unfinished"
 
+-- that a run met a fault, and which
 abbrev pub failure_text : RunFailure → List ℕ
 failure_text found = codes "run fault " ++ failure_name found
 

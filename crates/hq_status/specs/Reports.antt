@@ -12,6 +12,7 @@ use Rattle.hq_report.specs.Texts.{job_refusal}
 use Rattle.hq_status.specs.declared.status.Status.{Status}
 use Rattle.hq_status.specs.declared.status.Status.TheVariants.{JobRefused, Memory, File}
 
+-- a text with a line feed behind it
 abbrev pub with_feed : List ℕ → List ℕ
 with_feed text = text ++ 10 ∷ []
 

@@ -11,6 +11,7 @@ code_of_found found.Ordered = 0
 code_of_found found.Conflict = 4
 code_of_found found.Stuck = 5
 
+-- the exit status for how a command ended
 abbrev pub code_of : Status → ℕ
 code_of status.Done = 0
 code_of status.Words = 2

@@ -84,10 +84,12 @@ abbrev pub Asks : Option (Text × List Row) → Asked → Type 0
 Asks None asked = ⊥
 Asks (Some (name, rows)) asked = AsksFor name rows asked
 
+-- The fault is what `clap` says of the words.
 abbrev pub IsWords : WordsFault → Type 0
 IsWords (Words e) = Unit {0}
 IsWords Memory = ⊥
 
+-- The fault is that memory ran out.
 abbrev pub IsMemory : WordsFault → Type 0
 IsMemory (Words e) = ⊥
 IsMemory Memory = Unit {0}
