@@ -11,9 +11,33 @@ use std::test::*;
 const TEXT: &[u8] =
     b"hsac 2\norder 0 1 2 3\nline 0 0 1 bit 0\nline 1 1 2 queue\nline 2 2 3 and 0\nline 3 0 2 or = 1\nline 4 0 2 through 0 1\npair 0 1 rw 0\npair 0 3 ww 0 = 2\npair 1 3 wr 1 2 = 1 2\npair 0 3 wwc 0 1 = 0 2\npair 0 3 wrc 0 1 2 3 = 0 1 2 =\nend\n";
 
+// Calls without contracts, so that no test is proved over the bytes of its texts.
+
 /// The certificate of a text.
 fn certificate_of(alloc: Global, text: &[u8]) -> Result<Certificate, Fail> {
     good(parse(alloc, text))
+}
+
+/// The fault of a text, if it has one.
+fn fault_of(alloc: Global, text: &[u8]) -> Option<CertFault> {
+    parse(alloc, text).err()
+}
+
+/// The certificate of a text that comes in pieces of so many bytes, and fails after so many turns.
+fn read_in(
+    alloc: Global,
+    text: &[u8],
+    len: usize,
+    turns: usize,
+) -> Result<Certificate, ReadFault<CertFault>> {
+    read(alloc, &mut Pieces::new(text, len, turns))
+}
+
+/// The text of a certificate.
+fn printed(alloc: Global, certificate: &Certificate) -> Result<Vec<u8>, Fail> {
+    let mut text = Vec::new(alloc);
+    good(print(alloc, certificate, &mut text))?;
+    Ok(text)
 }
 
 #[test]
@@ -22,8 +46,7 @@ fn printed_again(rt: HostRuntime) -> Result<(), Fail> {
     assert_eq!(rt; certificate.order().len(), 4);
     assert_eq!(rt; certificate.lines().len(), 5);
     assert_eq!(rt; certificate.pairs().len(), 5);
-    let mut text = Vec::new(rt.alloc());
-    good(print(rt.alloc(), &certificate, &mut text))?;
+    let text = printed(rt.alloc(), &certificate)?;
     assert!(rt; text.as_slice() == TEXT);
     Ok(())
 }
@@ -31,17 +54,13 @@ fn printed_again(rt: HostRuntime) -> Result<(), Fail> {
 #[test]
 fn plain_head(rt: HostRuntime) -> Result<(), Fail> {
     let certificate = certificate_of(rt.alloc(), b"hsac 2\norder\nend")?;
-    let mut text = Vec::new(rt.alloc());
-    good(print(rt.alloc(), &certificate, &mut text))?;
+    let text = printed(rt.alloc(), &certificate)?;
     assert!(rt; text.as_slice() == b"hsac 1\norder\nend\n".as_slice());
     Ok(())
 }
 
 fn is_fault(rt: &impl Abort, alloc: Global, text: &[u8], line: usize, reason: CertReason) {
-    match parse(alloc, text) {
-        Ok(_) => assert!(rt; false),
-        Err(fault) => assert!(rt; fault == CertFault { line, reason }),
-    }
+    assert!(rt; fault_of(alloc, text) == Some(CertFault { line, reason }));
 }
 
 #[test]
@@ -82,10 +101,8 @@ fn faults(rt: HostRuntime) {
 #[test]
 fn read_in_pieces(rt: HostRuntime) -> Result<(), Fail> {
     for len in 1..40 {
-        let mut reader = Pieces::new(TEXT, len, 1000);
-        let certificate = good(read(rt.alloc(), &mut reader))?;
-        let mut text = Vec::new(rt.alloc());
-        good(print(rt.alloc(), &certificate, &mut text))?;
+        let certificate = good(read_in(rt.alloc(), TEXT, len, 1000))?;
+        let text = printed(rt.alloc(), &certificate)?;
         assert!(rt; text.as_slice() == TEXT);
     }
     Ok(())
@@ -98,8 +115,7 @@ fn is_read_fault(
     text: &[u8],
     fault: ReadFault<CertFault>,
 ) {
-    let mut reader = Pieces::new(text, 3, turns);
-    match read(alloc, &mut reader) {
+    match read_in(alloc, text, 3, turns) {
         Ok(_) => assert!(rt; false),
         Err(found) => assert!(rt; found == fault),
     }
