@@ -9,29 +9,62 @@ use std::test::*;
 /// Lines of no, one and two numbers.
 const TEXT: &[u8] = b"hsat 1\nsubmit\nlaunch 0\nobserve 1 4294967295\npushlane 1023 65535\nend\n";
 
+// Calls without contracts, so that no test is proved over the bytes of its texts.
+
 /// The journal of a text.
 fn journal_of(alloc: Global, text: &[u8]) -> Result<Journal, Fail> {
     good(parse(alloc, text))
+}
+
+/// The fault of a text, if it has one.
+fn fault_of(alloc: Global, text: &[u8]) -> Option<TimeFault> {
+    parse(alloc, text).err()
+}
+
+/// The journal of a text that comes in pieces of so many bytes, and fails after so many turns.
+fn read_in(
+    alloc: Global,
+    text: &[u8],
+    len: usize,
+    turns: usize,
+) -> Result<Journal, ReadFault<TimeFault>> {
+    read(alloc, &mut Pieces::new(text, len, turns))
+}
+
+/// The text of a journal.
+fn printed(alloc: Global, journal: &Journal) -> Result<Vec<u8>, Fail> {
+    let mut text = Vec::new(alloc);
+    good(print(alloc, journal, &mut text))?;
+    Ok(text)
+}
+
+/// The journal of these events.
+fn journal_with(alloc: Global, events: &[Event]) -> Result<Journal, Fail> {
+    let mut journal = Journal::new(alloc);
+    for event in events {
+        good(journal.push(*event))?;
+    }
+    Ok(journal)
 }
 
 #[test]
 fn printed_again(rt: HostRuntime) -> Result<(), Fail> {
     let journal = journal_of(rt.alloc(), TEXT)?;
     assert_eq!(rt; journal.events().len(), 4);
-    let mut text = Vec::new(rt.alloc());
-    good(print(rt.alloc(), &journal, &mut text))?;
+    let text = printed(rt.alloc(), &journal)?;
     assert!(rt; text.as_slice() == TEXT);
     Ok(())
 }
 
 #[test]
 fn each_event(rt: HostRuntime) -> Result<(), Fail> {
-    let mut journal = Journal::new(rt.alloc());
-    good(journal.push(Event::Complete { packet: 7 }))?;
-    good(journal.push(Event::Finish { packet: 7 }))?;
-    good(journal.push(Event::DropAgent { agent: 1, byte: 2 }))?;
-    let mut text = Vec::new(rt.alloc());
-    good(print(rt.alloc(), &journal, &mut text))?;
+    let events = [
+        Event::Complete { packet: 7 },
+        Event::Finish { packet: 7 },
+        Event::DropAgent { agent: 1, byte: 2 },
+    ];
+    let journal = journal_with(rt.alloc(), &events)?;
+    let text = printed(rt.alloc(), &journal)?;
     assert!(rt;
         text.as_slice() == b"hsat 1\ncomplete 7\nfinish 7\ndropagent 1 2\nend\n".as_slice()
     );
@@ -41,10 +74,7 @@ fn each_event(rt: HostRuntime) -> Result<(), Fail> {
 }
 
 fn is_fault(rt: &impl Abort, alloc: Global, text: &[u8], line: usize, reason: TimeReason) {
-    match parse(alloc, text) {
-        Ok(_) => assert!(rt; false),
-        Err(fault) => assert!(rt; fault == TimeFault { line, reason }),
-    }
+    assert!(rt; fault_of(alloc, text) == Some(TimeFault { line, reason }));
 }
 
 #[test]
@@ -67,9 +97,8 @@ fn faults(rt: HostRuntime) {
 #[test]
 fn read_in_pieces(rt: HostRuntime) -> Result<(), Fail> {
     for len in 1..40 {
-        let journal = good(read(rt.alloc(), &mut Pieces::new(TEXT, len, 1000)))?;
-        let mut text = Vec::new(rt.alloc());
-        good(print(rt.alloc(), &journal, &mut text))?;
+        let journal = good(read_in(rt.alloc(), TEXT, len, 1000))?;
+        let text = printed(rt.alloc(), &journal)?;
         assert!(rt; text.as_slice() == TEXT);
     }
     Ok(())
@@ -82,7 +111,7 @@ fn is_read_fault(
     text: &[u8],
     fault: ReadFault<TimeFault>,
 ) {
-    match read(alloc, &mut Pieces::new(text, 3, turns)) {
+    match read_in(alloc, text, 3, turns) {
         Ok(_) => assert!(rt; false),
         Err(found) => assert!(rt; found == fault),
     }
