@@ -1,10 +1,10 @@
+ghost use Rattle.std.specs.Prelude.{IfSome};
 ghost use Rattle.hq_job.specs.Plan.{plan};
 ghost use Rattle.hq_machine.specs.View.{IsStateOf};
 
-use crate::calls::good;
 use hq_job::Job;
 use hq_jobtext::read_text;
-use hq_machine::{Event, Journal, State, StepFault};
+use hq_machine::{Event, Journal, State};
 use hq_timeline::replay;
 use hq_witness::{Kind, Origin, Place, Why, Witness, WitnessNo, witness};
 use std::alloc::Global;
@@ -51,45 +51,53 @@ struct Told {
     bytes: (u8, u8),
 }
 
-/// Makes the events happen.
-fn walk(state: &mut State, job: &Job, events: &[Event]) -> Result<(), StepFault>
+/// Makes the events happen. Of the state no more is said than that it is one of the job.
+fn walk(state: &mut State, job: &Job, events: &[Event]) -> bool
     requires { IsStateOf (plan job.now) state.old }
     ensures { IsStateOf (plan job.now) state.new }
 {
     for event in events {
-        state.apply(job, *event)?;
+        if state.apply(job, *event).is_err() {
+            return false;
+        }
     }
-    Ok(())
+    true
+}
+
+/// The state after a run, if the run can be made and there is memory for it.
+fn state_after(alloc: Global, job: &Job, journal: &Journal) -> Option<State>
+    ensures { IfSome result (λ s. IsStateOf (plan job.now) s) }
+{
+    let Ok(mut state) = State::start(alloc, job) else {
+        return None;
+    };
+    if !walk(&mut state, job, journal.events()) {
+        return None;
+    }
+    Some(state)
 }
 
 /// The byte that a packet has read as an entry after a run.
-fn read_after(
-    alloc: Global,
-    job: &Job,
-    journal: &Journal,
-    packet: u32,
-    entry: u32,
-) -> Result<Option<u8>, StepFault> {
-    let mut state = State::start(alloc, job)?;
-    walk(&mut state, job, journal.events())?;
+fn read_after(alloc: Global, job: &Job, journal: &Journal, packet: u32, entry: u32) -> Option<u8> {
+    let state = state_after(alloc, job, journal)?;
     let packet = packet as usize;
     if packet >= state.packets() {
-        return Ok(None);
+        return None;
     }
-    Ok(state.read_byte(packet, entry as usize))
+    state.read_byte(packet, entry as usize)
+}
+
+/// What memory is after a run.
+fn memory_after(alloc: Global, job: &Job, journal: &Journal) -> Option<Vec<u8>> {
+    replay(alloc, job, journal).ok()
 }
 
 /// The byte of a place after a run: a read one, or one of memory as a replay leaves it.
 fn byte_after(alloc: Global, job: &Job, journal: &Journal, place: Place) -> Option<u8> {
-    let Ok(memory) = replay(alloc, job, journal) else {
-        return None;
-    };
+    let memory = memory_after(alloc, job, journal)?;
     match place {
         Place::Memory { byte } => memory.get(byte as usize).copied(),
-        Place::Read { packet, entry } => match read_after(alloc, job, journal, packet, entry) {
-            Ok(byte) => byte,
-            Err(_) => None,
-        },
+        Place::Read { packet, entry } => read_after(alloc, job, journal, packet, entry),
     }
 }
 
@@ -104,13 +112,25 @@ fn is_told(rt: &impl Abort, alloc: Global, job: &Job, witness: &Witness, told: &
     assert!(rt; byte_after(alloc, job, witness.bad(), told.place) == Some(told.bytes.1));
 }
 
+// Calls without contracts, so that no test is proved over all that a witness promises.
+
+/// The job of a text.
+fn job_of(alloc: Global, text: &[u8]) -> Option<Job> {
+    read_text(alloc, text).ok()
+}
+
+/// The witness of a job, or why it has none.
+fn witness_of(alloc: Global, job: &Job) -> Result<Witness, WitnessNo> {
+    witness(alloc, job)
+}
+
 /// Whether a job's witness says so.
 fn shows(rt: &impl Abort, alloc: Global, text: &[u8], told: &Told) {
-    let Ok(job) = read_text(alloc, text) else {
+    let Some(job) = job_of(alloc, text) else {
         assert!(rt; false);
         return;
     };
-    match witness(alloc, &job) {
+    match witness_of(alloc, &job) {
         Ok(witness) => is_told(rt, alloc, &job, &witness, told),
         Err(_) => assert!(rt; false),
     }
@@ -172,10 +192,8 @@ fn older_byte_last(rt: HostRuntime) {
 
 /// Why the job of a text has no witness.
 fn no_witness(alloc: Global, text: &[u8]) -> Option<WitnessNo> {
-    let Ok(job) = read_text(alloc, text) else {
-        return None;
-    };
-    witness(alloc, &job).err()
+    let job = job_of(alloc, text)?;
+    witness_of(alloc, &job).err()
 }
 
 /// The packets that can never complete, if that is why the job of a text has no witness.
@@ -202,9 +220,9 @@ fn none_where_stuck(rt: HostRuntime) {
 
 /// The job of a text. It asks twice for memory.
 fn read_again(alloc: Global, text: &[u8]) -> Option<Job> {
-    match read_text(alloc, text) {
-        Ok(job) => Some(job),
-        Err(_) => read_text(alloc, text).ok(),
+    match job_of(alloc, text) {
+        Some(job) => Some(job),
+        None => job_of(alloc, text),
     }
 }
 
@@ -213,9 +231,9 @@ fn shows_again(alloc: Global, text: &[u8], pair: (u16, u16)) -> bool {
     let Some(job) = read_again(alloc, text) else {
         return false;
     };
-    match witness(alloc, &job) {
+    match witness_of(alloc, &job) {
         Ok(witness) => witness.pair() == pair,
-        Err(WitnessNo::Memory) => match witness(alloc, &job) {
+        Err(WitnessNo::Memory) => match witness_of(alloc, &job) {
             Ok(witness) => witness.pair() == pair,
             Err(_) => false,
         },
