@@ -1,3 +1,5 @@
+ghost use Rattle.std.specs.Prelude.{IsSome, IfSome};
+ghost use Rattle.hq_events.specs.Events.{single_of};
 ghost use Rattle.hq_job.specs.Plan.{plan};
 ghost use Rattle.hq_machine.specs.View.{IsStateOf};
 
@@ -6,7 +8,7 @@ use crate::jobs::job_of;
 use hq_footprint::evaluate;
 use hq_footprint::laws::{bytes_counted, entries_counted};
 use hq_job::Job;
-use hq_machine::{Event, Journal, Phase, State, StepFault};
+use hq_machine::{Event, Journal, Phase, State};
 use std::alloc::{AllocError, Global};
 use std::test::*;
 
@@ -35,6 +37,30 @@ fn add_steps(journal: &mut Journal, packet: u32, first: u32, reads: u32) -> Resu
     journal.push(Event::Finish { packet })
 }
 
+// Of a state no more is said than that it is one of its job: a test is proved over all that is known of each state.
+
+/// The state in which a run of a job starts, if there is memory for it.
+fn started(alloc: Global, job: &Job) -> Option<State>
+    ensures { IfSome result (λ s. IsStateOf (plan job.now) s) }
+{
+    match State::start(alloc, job) {
+        Ok(state) => Some(state),
+        Err(_) => None,
+    }
+}
+
+/// Makes a single step, if it is one of the state's.
+fn steps(state: &mut State, job: &Job, event: Event) -> bool
+    requires is { IsStateOf (plan job.now) state.old }
+    requires single { IsSome (single_of event) }
+    ensures { IsStateOf (plan job.now) state.new }
+{
+    match state.step(job, event) {
+        Ok(()) => true,
+        Err(_) => false,
+    }
+}
+
 /// Makes the events happen, each where work is left.
 fn walk(state: &mut State, job: &Job, events: &[Event]) -> bool
     requires { IsStateOf (plan job.now) state.old }
@@ -48,12 +74,21 @@ fn walk(state: &mut State, job: &Job, events: &[Event]) -> bool
     true
 }
 
+/// Whether nothing is left to do in a state, and all its packets are complete.
+fn is_over(state: &State, job: &Job) -> bool
+    requires { IsStateOf (plan job.now) state.now }
+{
+    state.work_left(job).is_none() && state.all_complete(0..state.packets())
+}
+
 /// Walks through a run of a job.
-fn ends(alloc: Global, job: &Job, journal: &Journal) -> Result<bool, StepFault> {
-    let mut state = State::start(alloc, job)?;
-    let whole = walk(&mut state, job, journal.events());
-    let rested = state.work_left(job).is_none() && state.all_complete(0..state.packets());
-    Ok(whole && rested && state.memory() == b"\x07\x07\x07\x07\x07\x07\x07\x07".as_slice())
+fn ends(alloc: Global, job: &Job, journal: &Journal) -> bool {
+    let Some(mut state) = started(alloc, job) else {
+        return false;
+    };
+    walk(&mut state, job, journal.events())
+        && is_over(&state, job)
+        && state.memory() == b"\x07\x07\x07\x07\x07\x07\x07\x07".as_slice()
 }
 
 #[test]
@@ -63,7 +98,7 @@ fn work_is_left_until_the_end(rt: HostRuntime) -> Result<(), Fail> {
     good(add_steps(&mut journal, 0, 0, 0))?;
     good(add_steps(&mut journal, 1, 4, 4))?;
     assert_eq!(rt; journal.events().len(), 34);
-    assert!(rt; good(ends(rt.alloc(), &job, &journal))?);
+    assert!(rt; ends(rt.alloc(), &job, &journal));
     Ok(())
 }
 
@@ -81,16 +116,19 @@ fn shows(state: &State, job: &Job, packet: usize, phase: Phase, read: Option<u8>
 }
 
 /// Takes the fill to its first store by single steps.
-fn stores_a_byte(alloc: Global, job: &Job) -> Result<bool, StepFault> {
-    let mut state = State::start(alloc, job)?;
+fn stores_a_byte(alloc: Global, job: &Job) -> bool {
+    let Some(mut state) = started(alloc, job) else {
+        return false;
+    };
     let queued = shows(&state, job, 0, Phase::InQueue, None, 0);
-    state.step(job, Event::Launch { queue: 0 })?;
+    let launch = steps(&mut state, job, Event::Launch { queue: 0 });
     let launched = shows(&state, job, 0, Phase::Launched, None, 0);
-    state.step(job, Event::Enter { packet: 0 })?;
+    let enter = steps(&mut state, job, Event::Enter { packet: 0 });
     let entry = 0;
-    state.step(job, Event::Store { packet: 0, entry })?;
+    let store = steps(&mut state, job, Event::Store { packet: 0, entry });
     let stored = shows(&state, job, 0, Phase::Active, None, 7);
-    Ok(queued && launched && stored && shows(&state, job, 1, Phase::InQueue, None, 0))
+    let second = shows(&state, job, 1, Phase::InQueue, None, 0);
+    launch && enter && store && queued && launched && stored && second
 }
 
 /// The fill, and the copy up to its fetch.
@@ -105,19 +143,21 @@ const UP_TO_THE_COPY: [Event; 7] = [
 ];
 
 /// Takes the fill to its end and the copy to its first read.
-fn reads_a_byte(alloc: Global, job: &Job) -> Result<bool, StepFault> {
-    let mut state = State::start(alloc, job)?;
+fn reads_a_byte(alloc: Global, job: &Job) -> bool {
+    let Some(mut state) = started(alloc, job) else {
+        return false;
+    };
     let walked = walk(&mut state, job, &UP_TO_THE_COPY);
     let (packet, entry) = (1, 0);
-    state.step(job, Event::Read { packet, entry })?;
-    Ok(walked && shows(&state, job, 1, Phase::Active, Some(7), 7))
+    let read = steps(&mut state, job, Event::Read { packet, entry });
+    walked && read && shows(&state, job, 1, Phase::Active, Some(7), 7)
 }
 
 #[test]
 fn single_steps_show(rt: HostRuntime) -> Result<(), Fail> {
     let job = job_of(rt.alloc(), JOB)?;
-    assert!(rt; good(stores_a_byte(rt.alloc(), &job))?);
-    assert!(rt; good(reads_a_byte(rt.alloc(), &job))?);
+    assert!(rt; stores_a_byte(rt.alloc(), &job));
+    assert!(rt; reads_a_byte(rt.alloc(), &job));
     Ok(())
 }
 
@@ -144,20 +184,27 @@ fn deliver_made(state: &mut State, job: &Job, packet: u32) -> bool
 }
 
 /// Runs the first packet of a job, whose bytes are handed in; they are delivered once alone.
-fn runs_from_outside(alloc: Global, job: &Job) -> Result<bool, StepFault> {
-    let mut state = State::start(alloc, job)?;
+fn runs_from_outside(alloc: Global, job: &Job) -> bool {
+    let Some(mut state) = started(alloc, job) else {
+        return false;
+    };
     let early = deliver_made(&mut state, job, 0);
-    state.apply(job, Event::Launch { queue: 0 })?;
-    state.apply(job, Event::Enter { packet: 0 })?;
+    let (queue, packet) = (0, 0);
+    let entered = walk(
+        &mut state,
+        job,
+        &[Event::Launch { queue }, Event::Enter { packet }],
+    );
     let once = deliver_made(&mut state, job, 0);
     let again = deliver_made(&mut state, job, 0);
-    state.apply(job, Event::Complete { packet: 0 })?;
-    Ok(!early && once && !again && state.memory() == b"\x07\x07\x07\x07\0\0\0\0".as_slice())
+    let completed = walk(&mut state, job, &[Event::Complete { packet }]);
+    let delivered = entered && completed && !early && once && !again;
+    delivered && state.memory() == b"\x07\x07\x07\x07\0\0\0\0".as_slice()
 }
 
 #[test]
 fn bytes_from_outside_are_delivered(rt: HostRuntime) -> Result<(), Fail> {
     let job = job_of(rt.alloc(), JOB)?;
-    assert!(rt; good(runs_from_outside(rt.alloc(), &job))?);
+    assert!(rt; runs_from_outside(rt.alloc(), &job));
     Ok(())
 }
