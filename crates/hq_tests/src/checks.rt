@@ -30,26 +30,45 @@ fn refused_wide<R: Threads + Sync>(
     }
 }
 
-#[test]
-fn two_barrier_packets(rt: HostRuntime) -> Result<(), Fail> {
-    let packet = good(format!(in rt.alloc(); "packet 03{:0126}\n", 0))?;
-    let text = good(format!(in rt.alloc(); "hsaq 1\nagent a\nqueue q a 4\n{packet}{packet}end"))?;
-    let job = job_of(rt.alloc(), text.as_bytes())?;
-    let lines = good(vec![in rt.alloc();
+/// A job of two barrier packets in one queue.
+const TWO_BARRIERS: &[u8] =
+    b"hsaq 1\nagent a\nqueue q a 4\npacket 03000000000000000000000000000000000000000000000000000000000000000000000000000000000000000000000000000000000000000000000000000000\npacket 03000000000000000000000000000000000000000000000000000000000000000000000000000000000000000000000000000000000000000000000000000000\nend";
+
+/// Its certificate: the queue has the first come before the second.
+fn by_queue(alloc: Global) -> Result<Certificate, Fail> {
+    let lines = good(vec![in alloc;
         Line {
             p: 0,
             r: 1,
             rule: Rule::Queue
         },
     ])?;
-    let pairs = good(vec![in rt.alloc();
+    let pairs = good(vec![in alloc;
         Pair {
             p: 0,
             r: 1,
             fences: Fences::ReadWrite(0)
         },
     ])?;
-    let certificate = Certificate::new(good(vec![in rt.alloc(); 0, 1])?, lines, pairs);
+    Ok(Certificate::new(good(vec![in alloc; 0, 1])?, lines, pairs))
+}
+
+/// A certificate of a line that cites itself.
+fn in_a_circle(alloc: Global) -> Result<Certificate, Fail> {
+    let lines = good(vec![in alloc;
+        Line {
+            p: 0,
+            r: 0,
+            rule: Rule::Through(0, 0)
+        },
+    ])?;
+    Ok(Certificate::new(Vec::new(alloc), lines, Vec::new(alloc)))
+}
+
+#[test]
+fn two_barrier_packets(rt: HostRuntime) -> Result<(), Fail> {
+    let job = job_of(rt.alloc(), TWO_BARRIERS)?;
+    let certificate = by_queue(rt.alloc())?;
     let Some(accepted) = accepted(rt.alloc(), job, &certificate) else {
         return Err("a certificate that holds".into());
     };
@@ -61,14 +80,7 @@ fn two_barrier_packets(rt: HostRuntime) -> Result<(), Fail> {
 #[test]
 fn a_line_that_cites_itself(rt: HostRuntime) -> Result<(), Fail> {
     let job = job_of(rt.alloc(), b"hsaq 1\nend")?;
-    let lines = good(vec![in rt.alloc();
-        Line {
-            p: 0,
-            r: 0,
-            rule: Rule::Through(0, 0)
-        },
-    ])?;
-    let certificate = Certificate::new(Vec::new(rt.alloc()), lines, Vec::new(rt.alloc()));
+    let certificate = in_a_circle(rt.alloc())?;
     let Some((no, job)) = refused(rt.alloc(), job, &certificate) else {
         return Err("a line that holds".into());
     };
