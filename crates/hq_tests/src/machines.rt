@@ -91,12 +91,18 @@ fn ends(alloc: Global, job: &Job, journal: &Journal) -> bool {
         && state.memory() == b"\x07\x07\x07\x07\x07\x07\x07\x07".as_slice()
 }
 
+/// The single steps of both packets.
+fn all_steps(alloc: Global) -> Result<Journal, Fail> {
+    let mut journal = Journal::new(alloc);
+    good(add_steps(&mut journal, 0, 0, 0))?;
+    good(add_steps(&mut journal, 1, 4, 4))?;
+    Ok(journal)
+}
+
 #[test]
 fn work_is_left_until_the_end(rt: HostRuntime) -> Result<(), Fail> {
     let job = job_of(rt.alloc(), JOB)?;
-    let mut journal = Journal::new(rt.alloc());
-    good(add_steps(&mut journal, 0, 0, 0))?;
-    good(add_steps(&mut journal, 1, 4, 4))?;
+    let journal = all_steps(rt.alloc())?;
     assert_eq!(rt; journal.events().len(), 34);
     assert!(rt; ends(rt.alloc(), &job, &journal));
     Ok(())
@@ -128,7 +134,7 @@ fn stores_a_byte(alloc: Global, job: &Job) -> bool {
     let store = steps(&mut state, job, Event::Store { packet: 0, entry });
     let stored = shows(&state, job, 0, Phase::Active, None, 7);
     let second = shows(&state, job, 1, Phase::InQueue, None, 0);
-    launch && enter && store && queued && launched && stored && second
+    launch & enter & store & queued & launched & stored & second
 }
 
 /// The fill, and the copy up to its fetch.
