@@ -25,6 +25,7 @@ pub record CopiesMove (job : Job) (state : State) : Type 0 where
   pub push_agent : (a b value : ℕ) → a < job.agents → IsByte job b → state.agent a b ≡ dirty value
       → Enabled job state (PushAgent a b)
 
+-- In every state of every job copies can be moved so.
 abbrev pub CopiesMoveAlways : Type 0
 CopiesMoveAlways = (job : Job) (state : State) → CopiesMove job state
 
@@ -33,6 +34,7 @@ pub record FillsUnseen (job : Job) (old new : State) : Type 0 where
   pub lane : (p b : ℕ) → Step job old (FillLane p b) new → (q c : ℕ) → lane_sees job new q c ≡ lane_sees job old q c
   pub agent : (a b : ℕ) → Step job old (FillAgent a b) new → (q c : ℕ) → lane_sees job new q c ≡ lane_sees job old q c
 
+-- In every state of every job a fill changes nothing that is seen through any lane.
 abbrev pub FillsUnseenAlways : Type 0
 FillsUnseenAlways = (job : Job) (old new : State) → FillsUnseen job old new
 
@@ -45,6 +47,7 @@ pub record PushesWrite (job : Job) (old new : State) : Type 0 where
   -- memory changes by the pushes of agents alone
   pub memory : (p b : ℕ) → Step job old (PushLane p b) new → new.memory ≡ old.memory
 
+-- In every state of every job a push gives its byte to the level below, and the one that pushed it still sees it.
 abbrev pub PushesWriteAlways : Type 0
 PushesWriteAlways = (job : Job) (old new : State) → PushesWrite job old new
 
@@ -66,5 +69,6 @@ pub record FenceLeaves (job : Job) (old : State) (p : ℕ) (new : State) : Type 
   pub no_system : reaches (packet job p).acquire scope.System ≡ false → (a b : ℕ) → new.agent a b ≡ old.agent a b
   pub memory : new.memory ≡ old.memory
 
+-- Wherever a packet enters, in any state of any job, this is what its acquire fence leaves of the copies.
 abbrev pub FenceLaw : Type 0
 FenceLaw = (job : Job) (old : State) (p : ℕ) (new : State) → Step job old (Enter p) new → FenceLeaves job old p new

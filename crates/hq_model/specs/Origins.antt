@@ -6,6 +6,7 @@ use Rattle.hq_model.specs.Machine.{State, Copy, Event, Step, Run, start, put, pu
 use Rattle.hq_model.specs.Machine.Event.{Read, Store, PushLane, PushAgent, FillLane, FillAgent}
 use Rattle.hq_model.specs.Theorems.{Valid}
 
+-- where a byte comes from: it is as memory starts, or packet p stored it
 pub data Origin : Type 0 where
   Start : Origin
   StoredBy : (p : ℕ) → Origin
@@ -17,6 +18,7 @@ pub record Origins : Type 0 where
   pub lane : ℕ → ℕ → Origin
   pub read : ℕ → ℕ → Origin
 
+-- the origins where a run begins: no packet has stored a byte yet
 abbrev pub all_start : Origins
 all_start = record { memory = λ b. Start; agent = λ a b. Start; lane = λ p b. Start; read = λ p i. Start }
 
@@ -29,6 +31,7 @@ origin_or (Some copy) own below = own
 abbrev pub agent_origin : State → Origins → ℕ → ℕ → Origin
 agent_origin state o a b = origin_or (state.agent a b) (o.agent a b) (o.memory b)
 
+-- the origin of byte b as it is seen through p's lane
 abbrev pub lane_origin : Job → State → Origins → ℕ → ℕ → Origin
 lane_origin job state o p b = origin_or (state.lane p b) (o.lane p b) (agent_origin state o (agent_of job p) b)
 
@@ -94,5 +97,6 @@ pub record RunHasOrigins (job : Job) (events : List Event) (state : State) : Typ
   pub is_run : (o : Origins) → OriginsOf job events state o → Run job events state
   pub once : (o n : Origins) → OriginsOf job events state o → OriginsOf job events state n → o ≡ n
 
+-- Of every job whose tables fit: each run has its origins, and no others, and only runs have some.
 abbrev pub RunsHaveOrigins : Type 0
 RunsHaveOrigins = (job : Job) (events : List Event) (state : State) → Valid job → RunHasOrigins job events state

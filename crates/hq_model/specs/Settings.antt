@@ -38,6 +38,7 @@ with_each job head = record job { packets = map (λ e. packet_with_head e head) 
 abbrev pub no_head : Head
 no_head = record { barrier = false; acquire = scope.None; release = scope.None }
 
+-- the bit and both fences of system scope
 abbrev pub full_head : Head
 full_head = record { barrier = true; acquire = scope.System; release = scope.System }
 
@@ -45,6 +46,7 @@ full_head = record { barrier = true; acquire = scope.System; release = scope.Sys
 abbrev pub lowest : Job → Job
 lowest job = with_each job no_head
 
+-- the job in its highest setting: each packet has the bit and both fences of system scope
 abbrev pub highest : Job → Job
 highest job = with_each job full_head
 
@@ -133,6 +135,7 @@ pub record ShowsAsMuch (j k : Job) (p r : ℕ) : Type 0 where
   pub acquire : (y2 y : ℕ) → Acquire j p r y2 y → Acquire k p r y2 y
   pub shown : (kind : Conflict) → ShownFor j kind p r → ShownFor k kind p r
 
+-- Whatever is shown of two packets in a setting is shown of them in each at or above it.
 abbrev pub RaisingShows : Type 0
 RaisingShows = (j k : Job) (p r : ℕ) → Raises j k → ShowsAsMuch j k p r
 
@@ -150,12 +153,16 @@ SomeRaisedIsOrdered = (j : Job) → ((k : Job) × Raises j k × Ordered k) ↔ O
 
 -- ---- the laws: how settings lie
 
+-- The highest setting of a job is at or above each of its settings.
 abbrev pub HighestIsHighest : Type 0
 HighestIsHighest = (j k : Job) → SameButHeads j k → Raises k (highest j)
 
+-- The lowest setting of a job is at or below each of its settings.
 abbrev pub LowestIsLowest : Type 0
 LowestIsLowest = (j k : Job) → SameButHeads j k → Raises (lowest j) k
 
+-- Each setting is at or above itself; one that is at or above a second is at or above all that the second is; and two
+-- that are at or above each other are the same.
 pub record RaisingIsPartialOrder : Type 0 where
   pub reflexive : (j : Job) → Raises j j
   pub transitive : (j k m : Job) → Raises j k → Raises k m → Raises j m
@@ -171,6 +178,7 @@ pub record HeadIsSet (j : Job) (p : ℕ) (head : Head) : Type 0 where
   pub higher : HeadRaises (head_at j p) head → Raises j (with_head j p head)
   pub above : (i : Job) → Raises i j → HeadRaises (head_at i p) head → Raises i (with_head j p head)
 
+-- So it is of each packet of each job, and of each head that it is given.
 abbrev pub HeadsAreSet : Type 0
 HeadsAreSet = (j : Job) (p : ℕ) (head : Head) → IsPacket j p → HeadIsSet j p head
 
