@@ -19,6 +19,7 @@ use Rattle.hq_model.specs.Certificate.Fences.{ForWriteReadChained}
 abbrev pub cited : Citation → Option ℕ
 cited c = if c.code == 4294967295 then None else Some c.code
 
+-- the model's rule that a rule of the code means
 abbrev pub rule_of : Rule → model.Rule
 rule_of (Bit j) = BitRule j
 rule_of Queue = QueueRule
@@ -26,9 +27,11 @@ rule_of (And slot) = AndRule slot
 rule_of (Or branches) = OrRule (map cited branches.value.citations.items)
 rule_of (Through first second) = ThroughRule first second
 
+-- the model's line that a line of the code means
 abbrev pub line_of : Line → model.Line
 line_of line = record { p = line.p; r = line.r; rule = rule_of line.rule }
 
+-- what a pair line of the code cites, as the model has it
 abbrev pub fences_of : Fences → model.Fences
 fences_of (ReadWrite line) = ForReadWrite line
 fences_of (WriteWrite x from on) = ForWriteWrite x (cited from) on
@@ -38,9 +41,11 @@ fences_of (WriteReadChained b) =
     let c = b.value in
     ForWriteReadChained c.x c.x2 c.y2 c.y (cited c.from) (cited c.link) c.between (cited c.link2) (cited c.to)
 
+-- the model's pair line that one of the code means
 abbrev pub pair_of : Pair → model.Pair
 pair_of pair = record { p = pair.p; r = pair.r; fences = fences_of pair.fences }
 
+-- the model's certificate that the code's fields mean: the same order, and their lines and pair lines as the model's
 abbrev pub certificate_of : Inside → model.Certificate
 certificate_of c = record
     { order = c.order.items; lines = map line_of c.lines.items; pairs = map pair_of c.pairs.items }

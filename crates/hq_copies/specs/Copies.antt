@@ -31,6 +31,7 @@ pub record IsCopies (memory : List ℕ) (agents lanes : List Held) (lane_agents 
   pub agents_there : All (λ a. a < length agents) lane_agents
   pub inside : AreInside lanes holding marked
 
+-- a copy of this byte, dirty or not
 abbrev pub a_copy : ℕ → Bool → Copy
 a_copy value dirty = record { value = value; dirty = dirty }
 
@@ -38,30 +39,37 @@ a_copy value dirty = record { value = value; dirty = dirty }
 abbrev pub held : List Held → ℕ → Held
 held maps k = slice_index_or maps k finite.empty
 
+-- the maps once the one at k holds this copy of byte b
 abbrev pub with_copy : List Held → ℕ → ℕ → Copy → List Held
 with_copy maps k b copy = set maps k (finite.insert (held maps k) b copy)
 
+-- the maps once the one at k holds no copy of byte b
 abbrev pub without_copy : List Held → ℕ → ℕ → List Held
 without_copy maps k b = set maps k (finite.remove (held maps k) b)
 
 -- ---- what is seen
 
+-- byte b as agent a sees it: its copy's, or where it holds none, memory's
 abbrev pub agent_byte : CopiesValue → ℕ → ℕ → ℕ
 agent_byte c a b = value_or (copies_of c.agents a b) (slice_index c.memory b)
 
+-- byte b as it is seen through lane p: its copy's, or where it holds none, the one that its agent sees
 abbrev pub lane_byte : CopiesValue → ℕ → ℕ → ℕ
 lane_byte c p b = value_or (copies_of c.lanes p b) (agent_byte c (slice_index c.lane_agents p) b)
 
 -- ---- numbers in range
 
+-- There is a lane p, and a byte b of memory.
 abbrev pub IsLaneByte : CopiesValue → ℕ → ℕ → Type 0
 IsLaneByte c p b = (p < length c.lanes) × (b < length c.memory)
 
+-- There is an agent a, and a byte b of memory.
 abbrev pub IsAgentByte : CopiesValue → ℕ → ℕ → Type 0
 IsAgentByte c a b = (a < length c.agents) × (b < length c.memory)
 
 -- ---- the changes
 
+-- memory with these bytes, so many agents, and for each number listed a lane on that agent; none of them holds a copy
 abbrev pub opened : List ℕ → ℕ → List ℕ → CopiesValue
 opened memory agents lane_agents =
     record {
@@ -72,6 +80,7 @@ opened memory agents lane_agents =
       lane_agents = lane_agents;
     }
 
+-- The byte is written through lane p, which then holds it, dirty.
 abbrev pub stored : CopiesValue → ℕ → ℕ → ℕ → CopiesValue
 stored c p b value = record c { lanes = with_copy c.lanes p b (a_copy value true) }
 
@@ -104,12 +113,15 @@ lane_filled c p b = record c {
       (a_copy (agent_byte c (slice_index c.lane_agents p) b) false);
 }
 
+-- Agent a takes a clean copy of byte b from memory.
 abbrev pub agent_filled : CopiesValue → ℕ → ℕ → CopiesValue
 agent_filled c a b = record c { agents = with_copy c.agents a b (a_copy (slice_index c.memory b) false) }
 
+-- Lane p lets its copy of byte b go.
 abbrev pub lane_dropped : CopiesValue → ℕ → ℕ → CopiesValue
 lane_dropped c p b = record c { lanes = without_copy c.lanes p b }
 
+-- Agent a lets its copy of byte b go.
 abbrev pub agent_dropped : CopiesValue → ℕ → ℕ → CopiesValue
 agent_dropped c a b = record c { agents = without_copy c.agents a b }
 
@@ -184,9 +196,11 @@ Released old start end a scope.System new = (mid : CopiesValue) × LanesReleased
 
 -- ---- what is asked
 
+-- There is a copy, and it is clean.
 abbrev pub IsClean : Option Copy → Type 0
 IsClean copy = (value : ℕ) × (copy ≡ Some (a_copy value false))
 
+-- There is a copy, and it is dirty.
 abbrev pub IsDirty : Option Copy → Type 0
 IsDirty copy = (value : ℕ) × (copy ≡ Some (a_copy value true))
 
@@ -202,18 +216,22 @@ pub record IsFirstDirty (m : Held) (b : ℕ) : Type 0 where
   pub dirty : is_dirty (finite.get m b) ≡ true
   pub least : (c : ℕ) → c < b → is_dirty (finite.get m c) ≡ false
 
+-- No byte that is held is dirty.
 abbrev pub NoneDirty : Held → Type 0
 NoneDirty m = (b : ℕ) → is_dirty (finite.get m b) ≡ false
 
+-- There is no copy.
 abbrev pub IsAbsent : Option Copy → Type 0
 IsAbsent copy = copy ≡ None
 
 -- ---- what a push does: of a dirty byte
 
+-- Lane p's copy of byte b was dirty, and all that changed is its write-back to the lane's agent.
 abbrev pub PushedLane : CopiesValue → ℕ → ℕ → CopiesValue → Type 0
 PushedLane old p b new = (value : ℕ) × (copies_of old.lanes p b ≡ Some (a_copy value true))
     × (new ≡ lane_pushed old p b value)
 
+-- Agent a's copy of byte b was dirty, and all that changed is its write-back to memory.
 abbrev pub PushedAgent : CopiesValue → ℕ → ℕ → CopiesValue → Type 0
 PushedAgent old a b new = (value : ℕ) × (copies_of old.agents a b ≡ Some (a_copy value true))
     × (new ≡ agent_pushed old a b value)
@@ -224,13 +242,16 @@ lane_bytes c p b count = listed count (λ i. lane_byte c p (b + i))
 
 -- ---- how the values are told apart
 
+-- copies are told apart by their byte, and by whether they are dirty
 abbrev pub copy_code : Coded Copy
 copy_code = code_by (ℕ × Bool) (coded× coded_ℕ coded_bool) (λ c. (c.value, c.dirty))
     (λ t. record { value = t.0; dirty = t.1 }) (λ _. refl)
 
+-- what agents and lanes hold is told apart by the bytes that are held and by their copies
 abbrev pub held_code : Coded Held
 held_code = finite.code coded_ℕ copy_code
 
+-- all of it is told apart by memory, by what each agent and each lane holds, and by each lane's agent
 abbrev pub copies_code : Coded CopiesValue
 copies_code =
     code_by (List ℕ × (List Held × (List Held × List ℕ)))
@@ -252,6 +273,7 @@ begins None before = false
 begins (Some copy) None = true
 begins (Some copy) (Some before) = not (beq copy.dirty before.dirty)
 
+-- whether this byte begins a run; before byte 0 nothing is held
 abbrev pub begins_run : Held → ℕ → Bool
 begins_run m zero = begins (finite.get m zero) None
 begins_run m (suc b) = begins (finite.get m (suc b)) (finite.get m b)

@@ -17,6 +17,7 @@ abbrev pub IsRising : ℕ → List ℕ → Type 0
 IsRising from [] = Unit {0}
 IsRising from (e ∷ edges) = (from ≤ e) × IsRising (suc e) edges
 
+-- whether the number of edges is odd: then the set doesn't end
 abbrev pub is_odd : List ℕ → Bool
 is_odd [] = false
 is_odd (e ∷ edges) = not (is_odd edges)
@@ -63,6 +64,7 @@ pub record IsRuns (edges bytes : List ℕ) : Type 0 where
 
 -- ---- lower bytes and upper ones together
 
+-- a clean copy of the byte, if there is one
 abbrev pub clean_copy : Option ℕ → Option Copy
 clean_copy None = None
 clean_copy (Some value) = Some (a_copy value false)
@@ -72,6 +74,7 @@ abbrev pub layered : Bool → Option ℕ → Option ℕ → Option Copy
 layered dirty None lower = clean_copy lower
 layered dirty (Some value) lower = Some (a_copy value dirty)
 
+-- what is held, and with it number n's copy, if there is one
 abbrev pub with_one : ℕ → Option Copy → Held → Held
 with_one n None held = held
 with_one n (Some copy) held = finite.insert held n copy
@@ -86,6 +89,7 @@ abbrev pub copy_at : List ℕ → List ℕ → List ℕ → List ℕ → Bool �
 copy_at lower lower_bytes upper upper_bytes dirty n = layered dirty (byte_at (has upper) upper_bytes n)
     (byte_at (has lower) lower_bytes n)
 
+-- all that is held where upper bytes with their mark stand over lower ones, which are clean
 abbrev pub level : List ℕ → List ℕ → List ℕ → List ℕ → Bool → Held
 level lower lower_bytes upper upper_bytes dirty = gathered (copy_at lower lower_bytes upper upper_bytes dirty)
     (max (ceiling lower) (ceiling upper))

@@ -5,9 +5,11 @@ use Rattle.hq_copies.specs.declared.runs.RunsLeft.{RunsLeft}
 use Rattle.hq_copies.specs.Edges.{has, byte_at, IsRuns}
 use Rattle.hq_copies.specs.Overlays.{run_at, Over}
 
+-- the byte that a number has in the runs that are left, if it has one
 abbrev pub left_of : RunsLeft → ℕ → Option ℕ
 left_of left n = byte_at (has left.edges.now) left.bytes.now n
 
+-- Of the runs that are left the edges rise, the last run ends, and there is a byte for each number.
 abbrev pub AreLeft : RunsLeft → Type 0
 AreLeft left = IsRuns left.edges.now left.bytes.now
 

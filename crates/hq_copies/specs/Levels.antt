@@ -9,8 +9,10 @@ pub record IsLevel (lower lower_bytes upper upper_bytes : List ℕ) : Type 0 whe
   pub lower_runs : IsRuns lower lower_bytes
   pub upper_runs : IsRuns upper upper_bytes
 
+-- what these fields hold: the upper bytes with their mark, over the lower ones, which are clean
 abbrev pub level_of : Inside → Held
 level_of l = level l.lower.edges.items l.lower.bytes.items l.upper.edges.items l.upper.bytes.items l.dirty
 
+-- The lower bytes of these fields stand in runs, and so do the upper ones.
 abbrev pub IsLevelOf : Inside → Type 0
 IsLevelOf l = IsLevel l.lower.edges.items l.lower.bytes.items l.upper.edges.items l.upper.bytes.items

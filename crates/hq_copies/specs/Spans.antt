@@ -4,6 +4,7 @@ use Rattle.hq_model.specs.Machine.{is_dirty}
 use Rattle.hq_model.specs.View.{Held, copies_of}
 use Rattle.hq_copies.specs.declared.span.Span.{Span}
 
+-- k is at least the span's first number, and at most its last.
 abbrev pub Inside : Span → ℕ → Type 0
 Inside span k = (span.first ≤ k) × (k ≤ span.last)
 

@@ -81,8 +81,10 @@ pub record LengthsSuit (w : Work) : Type 0 where
   pub each : (first second : Range) → w.foot.reads ≡ first ∷ second ∷ []
       → SuitsTwo w.task first.len second.len w.foot.write.len
 
+-- the ranges of each kernel have the lengths that its task wants, on however many items and with whatever arguments
 abbrev pub KernelsSuit : Type 0
 KernelsSuit = (code : Code) (n a b c : ℕ) → LengthsSuit (kernel_work code n a b c)
 
+-- so have those of each service, with whatever arguments and return address
 abbrev pub ServicesSuit : Type 0
 ServicesSuit = (kind : ℕ) (args : List ℕ) (ret : ℕ) (w : Work) → service_call kind args ret ≡ Some w → LengthsSuit w

@@ -12,6 +12,7 @@ use Rattle.hq_footprint.specs.declared.task.Code.TheVariants as code
 abbrev pub range : ℕ → ℕ → Range
 range at len = record { at = at; len = len }
 
+-- a range of no bytes
 abbrev pub nowhere : Range
 nowhere = range 0 0
 
@@ -50,6 +51,7 @@ kernel_call code n block = kernel_work code n (number_at 8 block 0) (number_at 8
 
 -- ---- services
 
+-- work that reads and writes nothing
 abbrev pub no_work : Work
 no_work = work nowhere nowhere nowhere task.Nop
 

@@ -5,6 +5,7 @@ use Rattle.hq_packet.specs.declared.packet.Kernel.{Kernel}
 use Rattle.hq_packet.specs.declared.packet.Packet.{Packet}
 use Rattle.hq_packet.specs.declared.packet.Packet.TheVariants as packet
 
+-- the packet's barrier bit, and the scopes of its acquire and its release fence
 abbrev pub head_of : Packet → Head
 head_of (packet.Kernel k) = k.head
 head_of (packet.Agent a) = a.head
@@ -15,6 +16,7 @@ head_of (packet.Or b) = b.head
 abbrev pub kernel_with_head : Kernel → Head → Kernel
 kernel_with_head k head = record k { head = head }
 
+-- the packet, whichever its format, with this head, and all else as it was
 abbrev pub with_head : Packet → Head → Packet
 with_head (packet.Kernel k) head = packet.Kernel (kernel_with_head k head)
 with_head (packet.Agent a) head = packet.Agent (record a { head = head })
