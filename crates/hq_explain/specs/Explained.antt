@@ -17,7 +17,7 @@ use Rattle.hq_explain.specs.declared.which.Which.TheVariants as which
 
 -- ---- packets that can never complete
 
--- nothing that packet r waits for by itself can never complete: it waits to be submitted behind another
+-- packet r waits for no packet, in any way
 abbrev pub AwaitsNone : Job → ℕ → Type 0
 AwaitsNone order r = (p : ℕ) (by : Wait) → IsPacket order p → ¬ Awaits order p r by
 

@@ -41,8 +41,6 @@ fn all_inside(foot: &Footprint, buffers: &[Range]) -> bool
 
 /// Whether each range of the footprint that has a byte lies within one of the ranges given.
 ///
-/// Overflow comes before OutsideBuffer.
-///
 /// # Errors
 ///
 /// `Overflow` where a range passes the last address, else `OutsideBuffer` where one lies in none of those given.

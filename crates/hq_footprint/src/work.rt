@@ -92,8 +92,6 @@ fn unchecked_kernel(code: Code, items: u64, args: &[u8]) -> Work
 /// What a kernel reads, writes and does on `items` items, with the arguments that stand in the kernarg block `args`:
 /// 8 bytes each, the least first.
 ///
-/// ArgsShort comes before Overflow.
-///
 /// # Errors
 ///
 /// `ArgsShort` where the block has fewer arguments than the kernel takes, else `Overflow` where a range passes the
@@ -159,8 +157,6 @@ fn unchecked_service(kind: u16, args: [u64; 4], ret: u64) -> Option<Work>
 }
 
 /// What a service reads, writes and does: `kind` is the type of its agent dispatch packet, `ret` the return address.
-///
-/// Service comes before Overflow.
 ///
 /// # Errors
 ///

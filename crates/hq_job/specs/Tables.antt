@@ -82,7 +82,7 @@ signal_number signals handle = if handle == 0 then None else position (λ s. s.h
 abbrev pub IsUndeclared : List OpenSignal → ℕ → Type 0
 IsUndeclared signals handle = (handle ≢ 0) × ¬ IsOpen signals handle
 
--- where the bytes of some buffers lie, the buffers laid end to end
+-- the addresses that the bytes of a buffer or a block lie at, as a range
 abbrev pub range_of : Bytes → Range
 range_of b = range b.at (length b.bytes)
 

@@ -38,28 +38,16 @@ pub fn one_head()
 {}
 
 /// Where bytes spell a packet, with the byte of another head they spell the packet with that head.
-///
-/// # Errors
-///
-/// Those of `decode`.
 pub fn another_head()
     ensures { AnotherHead }
 {}
 
 /// Fields are those of one kernel dispatch.
-///
-/// # Errors
-///
-/// Those of `decode`.
 pub fn one_dispatch()
     ensures { OneDispatch }
 {}
 
 /// The fields of a kernel dispatch have no fault.
-///
-/// # Errors
-///
-/// Those of `decode`.
 pub fn faultless_fields()
     ensures { FaultlessFields }
 {}
