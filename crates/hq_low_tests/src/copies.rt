@@ -58,16 +58,6 @@ fn answer(copies: &mut Copies, call: Call, byte: usize) -> Option<Result<(), Cop
     })
 }
 
-/// Whether calls for bytes answer so, one behind the other.
-fn answer_so(copies: &mut Copies, calls: &[(Call, usize, Result<(), CopiesFault>)]) -> bool {
-    for (call, byte, expected) in calls {
-        if answer(copies, *call, *byte) != Some(*expected) {
-            return false;
-        }
-    }
-    true
-}
-
 /// How many runs the lane's and the agent's bytes are held in.
 fn runs(copies: &Copies) -> Option<(usize, usize)> {
     if !is_small(copies) {
@@ -107,71 +97,6 @@ fn first_dirty(copies: &Copies) -> Option<(Option<u32>, Option<u32>)> {
     Some((copies.first_dirty_lane(0), copies.first_dirty_agent(0)))
 }
 
-#[test]
-fn a_byte_goes_down_to_memory(rt: HostRuntime) -> Result<(), Fail> {
-    let mut copies = zeros(rt.alloc())?;
-    assert_eq!(rt; seen(&copies, 0), Some(0));
-    assert!(rt; answer_so(&mut copies, &[(Call::Store(9), 0, Ok(()))]));
-    assert_eq!(rt; seen(&copies, 0), Some(9));
-    assert!(rt; !is_released(&copies, Scope::Agent));
-    assert!(rt; answer_so(&mut copies, &[(Call::PushLane, 0, Ok(()))]));
-    assert!(rt; is_released(&copies, Scope::Agent) && !is_released(&copies, Scope::System));
-    assert!(rt; answer_so(&mut copies, &[(Call::DropLane, 0, Ok(()))]));
-    assert_eq!(rt; seen(&copies, 0), Some(9));
-    assert!(rt; answer_so(&mut copies, &[(Call::PushAgent, 0, Ok(()))]));
-    assert_eq!(rt; copies.memory(), [9, 0, 0, 0].as_slice());
-    assert_eq!(rt;
-        good(copies.copy(rt.alloc()))?.memory(),
-        [9, 0, 0, 0].as_slice()
-    );
-    Ok(())
-}
-
-/// Calls for a byte that was stored.
-const REFUSED: [(Call, usize, Result<(), CopiesFault>); 4] = [
-    (Call::Store(9), 0, Ok(())),
-    (Call::FillLane, 0, Err(CopiesFault::Present)),
-    (Call::DropLane, 0, Err(CopiesFault::NotClean)),
-    (Call::PushAgent, 0, Err(CopiesFault::NotDirty)),
-];
-
-#[test]
-fn a_call_refuses(rt: HostRuntime) -> Result<(), Fail> {
-    let mut copies = zeros(rt.alloc())?;
-    assert!(rt; answer_so(&mut copies, &REFUSED));
-    Ok(())
-}
-
-/// The same byte stored everywhere, from the first place to the last.
-const STORED: [(Call, usize, Result<(), CopiesFault>); 4] = [
-    (Call::Store(7), 0, Ok(())),
-    (Call::Store(7), 1, Ok(())),
-    (Call::Store(7), 2, Ok(())),
-    (Call::Store(7), 3, Ok(())),
-];
-
-#[test]
-fn runs_split_and_merge(rt: HostRuntime) -> Result<(), Fail> {
-    let mut copies = zeros(rt.alloc())?;
-    assert!(rt; answer_so(&mut copies, &STORED));
-    assert_eq!(rt; runs(&copies), Some((1, 0)));
-    assert!(rt; answer_so(&mut copies, &[(Call::PushLane, 1, Ok(()))]));
-    assert_eq!(rt; runs(&copies), Some((3, 1)));
-    assert!(rt; answer_so(&mut copies, &[(Call::DropLane, 1, Ok(()))]));
-    assert_eq!(rt; runs(&copies), Some((2, 1)));
-    assert!(rt; answer_so(&mut copies, &[(Call::FillLane, 1, Ok(()))]));
-    assert_eq!(rt; runs(&copies), Some((3, 1)));
-    Ok(())
-}
-
-/// The same bytes pushed to the agent, from the last place to the first.
-const PUSHED: [(Call, usize, Result<(), CopiesFault>); 4] = [
-    (Call::PushLane, 3, Ok(())),
-    (Call::PushLane, 2, Ok(())),
-    (Call::PushLane, 1, Ok(())),
-    (Call::PushLane, 0, Ok(())),
-];
-
 /// Has the lane acquire from the system.
 fn acquires(copies: &mut Copies) -> bool {
     if !is_small(copies) {
@@ -181,34 +106,179 @@ fn acquires(copies: &mut Copies) -> bool {
     true
 }
 
+/// Stores two bytes from the second place on.
+fn stores_two(copies: &mut Copies) -> bool {
+    is_small(copies) && copies.store_run(0, 1, &[7, 8]).is_ok()
+}
+
+/// Releases all to the system.
+fn releases(copies: &mut Copies) -> bool {
+    is_small(copies) && copies.release(0..1, 0, Scope::System).is_ok()
+}
+
+/// What happens to copies, or what is seen of them.
+#[derive(Clone, Copy)]
+enum Step {
+    /// A call for a byte answers so.
+    Answers(Call, usize, Result<(), CopiesFault>),
+    /// A call for a byte goes well.
+    Does(Call, usize),
+    /// The lane's and the agent's bytes are held in so many runs.
+    Runs(usize, usize),
+    /// A byte is so through the lane.
+    Sees(usize, u8),
+    /// The bytes from the second one on are so through the lane.
+    SeesFromOne([u8; 3]),
+    /// Whether a release with this scope has nothing left to do.
+    Released(Scope, bool),
+    /// The least dirty bytes of the lane and of the agent.
+    FirstDirty(Option<u32>, Option<u32>),
+    /// The bytes of memory.
+    Memory([u8; COUNT]),
+    /// The lane acquires from the system.
+    Acquires,
+    /// Two bytes are stored from the second place on.
+    StoresTwo,
+    /// All is released to the system.
+    Releases,
+}
+
+/// Whether a step is as it says.
+fn is_so(copies: &mut Copies, step: Step) -> bool {
+    match step {
+        Step::Answers(call, byte, is) => answer(copies, call, byte) == Some(is),
+        Step::Does(call, byte) => answer(copies, call, byte) == Some(Ok(())),
+        Step::Runs(lane, agent) => runs(copies) == Some((lane, agent)),
+        Step::Sees(byte, is) => seen(copies, byte) == Some(is),
+        Step::SeesFromOne(bytes) => seen_from_one(copies) == Some(bytes),
+        Step::Released(scope, is) => is_released(copies, scope) == is,
+        Step::FirstDirty(lane, agent) => first_dirty(copies) == Some((lane, agent)),
+        Step::Memory(bytes) => copies.memory() == bytes.as_slice(),
+        Step::Acquires => acquires(copies),
+        Step::StoresTwo => stores_two(copies),
+        Step::Releases => releases(copies),
+    }
+}
+
+/// The first of these steps, one behind the other, that isn't as it says.
+fn first_wrong(copies: &mut Copies, steps: &[Step]) -> Option<usize> {
+    for index in 0..steps.len() {
+        if !is_so(copies, steps[index]) {
+            return Some(index);
+        }
+    }
+    None
+}
+
+/// The first of these steps from zeros on that isn't as it says.
+fn first_wrong_from_zeros(alloc: Global, steps: &[Step]) -> Result<Option<usize>, Fail> {
+    let mut copies = zeros(alloc)?;
+    Ok(first_wrong(&mut copies, steps))
+}
+
 #[test]
-fn runs_of_pushed_bytes_merge(rt: HostRuntime) -> Result<(), Fail> {
-    let mut copies = zeros(rt.alloc())?;
-    assert!(rt; answer_so(&mut copies, &STORED) && answer_so(&mut copies, &PUSHED));
-    assert_eq!(rt; runs(&copies), Some((1, 1)));
-    assert_eq!(rt; first_dirty(&copies), Some((None, Some(0))));
-    assert_eq!(rt; seen_from_one(&copies), Some([7, 7, 7]));
-    assert!(rt; acquires(&mut copies));
-    assert_eq!(rt; runs(&copies), Some((0, 1)));
+fn a_byte_goes_down_to_memory(rt: HostRuntime) -> Result<(), Fail> {
+    let steps = [
+        Step::Sees(0, 0),
+        Step::Does(Call::Store(9), 0),
+        Step::Sees(0, 9),
+        Step::Released(Scope::Agent, false),
+        Step::Does(Call::PushLane, 0),
+        Step::Released(Scope::Agent, true),
+        Step::Released(Scope::System, false),
+        Step::Does(Call::DropLane, 0),
+        Step::Sees(0, 9),
+        Step::Does(Call::PushAgent, 0),
+        Step::Memory([9, 0, 0, 0]),
+    ];
+    assert_eq!(rt; first_wrong_from_zeros(rt.alloc(), &steps)?, None);
     Ok(())
 }
 
-/// Stores two bytes from the second place on, and releases them to the system.
-fn stores_and_releases(copies: &mut Copies) -> bool {
-    is_small(copies)
-        && copies.store_run(0, 1, &[7, 8]).is_ok()
-        && is_small(copies)
-        && copies.release(0..1, 0, Scope::System).is_ok()
+/// Whether copies to which a byte goes down have it, and a copy of them too.
+fn is_copied(alloc: Global, copies: &mut Copies) -> Result<bool, Fail> {
+    let steps = [
+        Step::Does(Call::Store(9), 0),
+        Step::Does(Call::PushLane, 0),
+        Step::Does(Call::PushAgent, 0),
+    ];
+    if first_wrong(copies, &steps).is_some() {
+        return Ok(false);
+    }
+    let copied = good(copies.copy(alloc))?;
+    Ok(copied.memory() == [9, 0, 0, 0].as_slice())
+}
+
+#[test]
+fn a_copy_has_the_same_memory(rt: HostRuntime) -> Result<(), Fail> {
+    let mut copies = zeros(rt.alloc())?;
+    assert!(rt; is_copied(rt.alloc(), &mut copies)?);
+    Ok(())
+}
+
+#[test]
+fn a_call_refuses(rt: HostRuntime) -> Result<(), Fail> {
+    let steps = [
+        Step::Does(Call::Store(9), 0),
+        Step::Answers(Call::FillLane, 0, Err(CopiesFault::Present)),
+        Step::Answers(Call::DropLane, 0, Err(CopiesFault::NotClean)),
+        Step::Answers(Call::PushAgent, 0, Err(CopiesFault::NotDirty)),
+    ];
+    assert_eq!(rt; first_wrong_from_zeros(rt.alloc(), &steps)?, None);
+    Ok(())
+}
+
+#[test]
+fn runs_split_and_merge(rt: HostRuntime) -> Result<(), Fail> {
+    let steps = [
+        Step::Does(Call::Store(7), 0),
+        Step::Does(Call::Store(7), 1),
+        Step::Does(Call::Store(7), 2),
+        Step::Does(Call::Store(7), 3),
+        Step::Runs(1, 0),
+        Step::Does(Call::PushLane, 1),
+        Step::Runs(3, 1),
+        Step::Does(Call::DropLane, 1),
+        Step::Runs(2, 1),
+        Step::Does(Call::FillLane, 1),
+        Step::Runs(3, 1),
+    ];
+    assert_eq!(rt; first_wrong_from_zeros(rt.alloc(), &steps)?, None);
+    Ok(())
+}
+
+#[test]
+fn runs_of_pushed_bytes_merge(rt: HostRuntime) -> Result<(), Fail> {
+    let steps = [
+        Step::Does(Call::Store(7), 0),
+        Step::Does(Call::Store(7), 1),
+        Step::Does(Call::Store(7), 2),
+        Step::Does(Call::Store(7), 3),
+        Step::Does(Call::PushLane, 3),
+        Step::Does(Call::PushLane, 2),
+        Step::Does(Call::PushLane, 1),
+        Step::Does(Call::PushLane, 0),
+        Step::Runs(1, 1),
+        Step::FirstDirty(None, Some(0)),
+        Step::SeesFromOne([7, 7, 7]),
+        Step::Acquires,
+        Step::Runs(0, 1),
+    ];
+    assert_eq!(rt; first_wrong_from_zeros(rt.alloc(), &steps)?, None);
+    Ok(())
 }
 
 #[test]
 fn ranges_are_stored_and_released(rt: HostRuntime) -> Result<(), Fail> {
-    let mut copies = zeros(rt.alloc())?;
-    assert!(rt; answer_so(&mut copies, &[(Call::FillAgent, 3, Ok(()))]));
-    assert_eq!(rt; runs(&copies), Some((0, 1)));
-    assert!(rt; answer_so(&mut copies, &[(Call::DropAgent, 3, Ok(()))]));
-    assert_eq!(rt; runs(&copies), Some((0, 0)));
-    assert!(rt; stores_and_releases(&mut copies));
-    assert_eq!(rt; copies.memory(), [0, 7, 8, 0].as_slice());
+    let steps = [
+        Step::Does(Call::FillAgent, 3),
+        Step::Runs(0, 1),
+        Step::Does(Call::DropAgent, 3),
+        Step::Runs(0, 0),
+        Step::StoresTwo,
+        Step::Releases,
+        Step::Memory([0, 7, 8, 0]),
+    ];
+    assert_eq!(rt; first_wrong_from_zeros(rt.alloc(), &steps)?, None);
     Ok(())
 }
