@@ -6,34 +6,56 @@ use std::io;
 use std::io::Read;
 use std::test::*;
 
+/// A job of rings, with three bytes in a buffer.
+const RINGS: &[u8] = b"hsaq 2\nagent a\nbuffer b 16 3 0aFf10\nqueue q a 4\nend\n";
+
 /// The job of a text.
 fn job_of(alloc: Global, text: &[u8]) -> Result<Job, Fail> {
     good(read_text(alloc, text))
 }
 
+/// Whether the bytes of the job's buffers are these.
+fn has_memory(alloc: Global, job: &Job, wanted: &[u8]) -> Result<bool, Fail> {
+    Ok(good(job.memory(alloc))?.as_slice() == wanted)
+}
+
+/// Whether queues are rings, how many agents there are, and the first packet of the first queue.
+fn facts(job: &Job) -> (bool, usize, Option<u16>) {
+    job.valid();
+    (job.rings(), job.agents(), job.number(0, 0))
+}
+
+/// The numbers of the bytes at these addresses.
+fn bytes_of(job: &Job, first: u64, second: u64) -> (Option<u32>, Option<u32>) {
+    (job.byte_of(first), job.byte_of(second))
+}
+
+/// Whether a job is that of `RINGS`.
+fn is_rings(alloc: Global, job: &Job) -> Result<bool, Fail> {
+    Ok(
+        facts(job) == (true, 1, None)
+            && bytes_of(job, 18, 19) == (Some(2), None)
+            && has_memory(alloc, job, &[10, 255, 16])?,
+    )
+}
+
 #[test]
 fn a_job(rt: HostRuntime) -> Result<(), Fail> {
-    let text = b"hsaq 2\nagent a\nbuffer b 16 3 0aFf10\nqueue q a 4\nend\n";
-    let job = job_of(rt.alloc(), text)?;
-    job.valid();
-    assert!(rt; job.rings());
-    assert_eq!(rt; job.agents(), 1);
-    assert_eq!(rt; job.byte_of(18), Some(2));
-    assert_eq!(rt; job.byte_of(19), None);
-    assert_eq!(rt; job.number(0, 0), None);
-    assert_eq!(rt;
-        good(job.memory(rt.alloc()))?.as_slice(),
-        [10, 255, 16].as_slice()
-    );
+    let job = job_of(rt.alloc(), RINGS)?;
+    assert!(rt; is_rings(rt.alloc(), &job)?);
     Ok(())
+}
+
+/// Whether a job is itself, and not that of a text.
+fn is_only_itself(alloc: Global, job: &Job, text: &[u8]) -> Result<bool, Fail> {
+    let other = job_of(alloc, text)?;
+    Ok(job.same(job) && !job.same(&other))
 }
 
 #[test]
 fn the_same_job(rt: HostRuntime) -> Result<(), Fail> {
     let job = job_of(rt.alloc(), b"hsaq 1\nagent a\nend\n")?;
-    let other = job_of(rt.alloc(), b"hsaq 2\nagent a\nend\n")?;
-    assert!(rt; job.same(&job));
-    assert!(rt; !job.same(&other));
+    assert!(rt; is_only_itself(rt.alloc(), &job, b"hsaq 2\nagent a\nend\n")?);
     Ok(())
 }
 
