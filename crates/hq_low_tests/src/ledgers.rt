@@ -109,54 +109,81 @@ fn a_piece_gives_its_bytes(rt: HostRuntime) -> Result<(), Fail> {
     Ok(())
 }
 
+/// Whether what came home is of this packet and place, and is four bytes that are all this one.
+fn is_home(home: &Home, (packet, place, byte): (u16, u8, u8)) -> bool {
+    home.packet == packet
+        && home.place == place
+        && home.at == 4096
+        && home.bytes.as_slice() == [byte; 4].as_slice()
+}
+
+/// Whether these pieces came home, in this order.
+fn are_home(homes: &[Home], wanted: &[(u16, u8, u8)]) -> bool {
+    if homes.len() != wanted.len() {
+        return false;
+    }
+    for (home, piece) in homes.iter().zip(wanted) {
+        if !is_home(home, *piece) {
+            return false;
+        }
+    }
+    true
+}
+
+/// Whether these pieces came home to a tray, in this order.
+fn came_home(alloc: Global, tray: &mut Tray, wanted: &[(u16, u8, u8)]) -> Result<bool, Fail> {
+    let homes = good(gathered(alloc, tray))?;
+    Ok(are_home(&homes, wanted))
+}
+
+/// How many bytes a piece gives that is opened.
+fn opened(alloc: Global, tray: &Tray, packet: u16, place: u8) -> Result<usize, Fail>
+    requires packet { packet < tray.now.packets }
+    requires place { place < 3 }
+{
+    let piece = good(piece_of(alloc, tray, packet, place, 6))?;
+    Ok(piece.open().len())
+}
+
 #[test]
 fn dropped_pieces_come_home(rt: HostRuntime) -> Result<(), Fail> {
     let Ok(mut tray) = Tray::open(rt.alloc(), 4) else {
         return Err("there is memory".into());
     };
     let late = good(piece_of(rt.alloc(), &tray, 1, 2, 8))?;
-    let opened = good(piece_of(rt.alloc(), &tray, 3, 0, 6))?;
-    drop(good(piece_of(rt.alloc(), &tray, 2, 1, 7))?);
-    drop(good(piece_of(rt.alloc(), &tray, 2, 0, 5))?);
-    assert_eq!(rt; opened.open().len(), 4);
-    let homes = good(tray.gather(rt.alloc()))?;
-    assert_eq!(rt; homes.len(), 2);
-    assert!(rt; homes[0].packet == 2 && homes[0].place == 0 && homes[0].at == 4096);
-    assert!(rt; homes[0].bytes.as_slice() == [5, 5, 5, 5].as_slice());
-    assert!(rt; homes[1].packet == 2 && homes[1].place == 1);
-    assert!(rt; homes[1].bytes.as_slice() == [7, 7, 7, 7].as_slice());
+    good(drop_one(rt.alloc(), &tray, 2, 1, 7))?;
+    good(drop_one(rt.alloc(), &tray, 2, 0, 5))?;
+    assert_eq!(rt; opened(rt.alloc(), &tray, 3, 0)?, 4);
+    assert!(rt; came_home(rt.alloc(), &mut tray, &[(2, 0, 5), (2, 1, 7)])?);
     drop(late);
-    let homes = good(tray.gather(rt.alloc()))?;
-    assert_eq!(rt; homes.len(), 3);
-    assert!(rt; homes[0].packet == 1 && homes[0].place == 2 && homes[2].place == 1);
+    assert!(rt; came_home(rt.alloc(), &mut tray, &[(1, 2, 8), (2, 0, 5), (2, 1, 7)])?);
     Ok(())
 }
 
-// A call that is refused memory changes nothing, so that the next answers as if it hadn't been. Here no allocation is refused; with
-// `rt try --test --fail-alloc N` the Nth is.
+/// Whether a grant of four bytes, asked for once more where memory is refused, is out.
+fn is_granted(alloc: Global) -> bool {
+    let mut grants = Grants::new(alloc);
+    let granted = grants.grant(0, &writer(4096, 4));
+    if granted.is_ok() {
+        return grants.is_out(0);
+    }
+    granted == Err(GrantFault::Memory)
+        && !grants.is_out(0)
+        && grants.grant(0, &writer(4096, 4)).is_ok()
+        && grants.is_out(0)
+}
+
+// A call that is refused memory changes nothing, so that the next answers as if it hadn't been. Here no allocation is
+// refused; with `rt try --test --fail-alloc N` the Nth is.
 #[test]
 fn what_is_refused_is_asked_for_once_more(rt: HostRuntime) -> Result<(), Fail> {
-    let mut grants = Grants::new(rt.alloc());
-    let granted = grants.grant(0, &writer(4096, 4));
-    if granted.is_err() {
-        assert_eq!(rt; granted, Err(GrantFault::Memory));
-        assert!(rt; !grants.is_out(0));
-        assert_eq!(rt; grants.grant(0, &writer(4096, 4)), Ok(()));
-    }
-    assert!(rt; grants.is_out(0));
+    assert!(rt; is_granted(rt.alloc()));
     let Ok(mut tray) = tray_of(rt.alloc(), 4) else {
         return Err("there is memory".into());
     };
     good(drop_one(rt.alloc(), &tray, 2, 1, 7))?;
     good(drop_one(rt.alloc(), &tray, 1, 2, 8))?;
     good(drop_one(rt.alloc(), &tray, 2, 0, 5))?;
-    let homes = good(gathered(rt.alloc(), &mut tray))?;
-    assert_eq!(rt; homes.len(), 3);
-    assert!(rt; homes[0].packet == 1 && homes[0].place == 2);
-    assert!(rt; homes[0].bytes.as_slice() == [8, 8, 8, 8].as_slice());
-    assert!(rt; homes[1].packet == 2 && homes[1].place == 0);
-    assert!(rt; homes[1].bytes.as_slice() == [5, 5, 5, 5].as_slice());
-    assert!(rt; homes[2].packet == 2 && homes[2].place == 1);
-    assert!(rt; homes[2].bytes.as_slice() == [7, 7, 7, 7].as_slice());
+    assert!(rt; came_home(rt.alloc(), &mut tray, &[(1, 2, 8), (2, 0, 5), (2, 1, 7)])?);
     Ok(())
 }
