@@ -4,7 +4,6 @@ use hq_lines::{Line, LineFault, Version, first_line, line_behind_end, read_line}
 use hq_packet::{Packet, PacketFault};
 use hq_text::Name;
 use std::alloc::Global;
-use std::process::Abort;
 use std::test::*;
 
 /// The digits of a kernel packet, in small letters.
@@ -66,31 +65,47 @@ fn buffers(rt: HostRuntime) -> Result<(), Fail> {
     Ok(())
 }
 
+/// The name of an agent, or of the queue to which packets go.
+fn name_of(alloc: Global, line: &[u8]) -> Result<Option<Name>, Fail> {
+    match line_of(alloc, line)? {
+        Line::Agent(name) | Line::To(name) => Ok(Some(name)),
+        _ => Ok(None),
+    }
+}
+
+/// The name of a queue, that of its agent, and its size.
+fn queue_of(alloc: Global, line: &[u8]) -> Result<Option<(Name, Name, u16)>, Fail> {
+    match line_of(alloc, line)? {
+        Line::Queue { name, agent, size } => Ok(Some((name, agent, size))),
+        _ => Ok(None),
+    }
+}
+
 #[test]
 fn names(rt: HostRuntime) -> Result<(), Fail> {
-    if let Line::Agent(name) = line_of(rt.alloc(), b"agent a")? {
-        assert!(rt; is_name(name, "a"));
-    } else {
-        assert!(rt; false);
-    }
-    if let Line::To(name) = line_of(rt.alloc(), b"to q")? {
-        assert!(rt; is_name(name, "q"));
-    } else {
-        assert!(rt; false);
-    }
-    let line = line_of(rt.alloc(), b"queue q a 1024")?;
-    if let Line::Queue { name, agent, size } = line {
-        assert!(rt; is_name(name, "q") && is_name(agent, "a"));
-        assert_eq!(rt; size, 1024);
+    let agent = name_of(rt.alloc(), b"agent a")?;
+    assert!(rt; agent.is_some_and(|name| is_name(name, "a")));
+    let queue = name_of(rt.alloc(), b"to q")?;
+    assert!(rt; queue.is_some_and(|name| is_name(name, "q")));
+    if let Some((name, agent, size)) = queue_of(rt.alloc(), b"queue q a 1024")? {
+        assert!(rt; is_name(name, "q") && is_name(agent, "a") && size == 1024);
     } else {
         assert!(rt; false);
     }
     Ok(())
 }
 
+/// The object of a kernel, and its code.
+fn kernel_of(alloc: Global, line: &[u8]) -> Result<Option<(u64, Code)>, Fail> {
+    match line_of(alloc, line)? {
+        Line::Kernel { object, code, .. } => Ok(Some((object, code))),
+        _ => Ok(None),
+    }
+}
+
 #[test]
 fn kernels(rt: HostRuntime) -> Result<(), Fail> {
-    for (line, wanted) in [
+    for (line, code) in [
         (b"kernel f 1 fill".as_slice(), Code::Fill),
         (b"kernel f 1 copy", Code::Copy),
         (b"kernel f 1 rev", Code::Rev),
@@ -98,41 +113,44 @@ fn kernels(rt: HostRuntime) -> Result<(), Fail> {
         (b"kernel f 1 add", Code::Add),
         (b"kernel f 1 sum", Code::Sum),
     ] {
-        if let Line::Kernel { object, code, .. } = line_of(rt.alloc(), line)? {
-            assert_eq!(rt; object, 1);
-            assert_eq!(rt; code, wanted);
-        } else {
-            assert!(rt; false);
-        }
+        assert!(rt; kernel_of(rt.alloc(), line)? == Some((1, code)));
     }
     Ok(())
+}
+
+/// The handle of a signal, and its start.
+fn signal_of(alloc: Global, line: &[u8]) -> Result<Option<(u64, u64)>, Fail> {
+    match line_of(alloc, line)? {
+        Line::Signal { handle, start, .. } => Ok(Some((handle, start))),
+        _ => Ok(None),
+    }
+}
+
+/// The object and the kernarg address of a kernel packet.
+fn dispatch_of(alloc: Global, line: &[u8]) -> Result<Option<(u64, u64)>, Fail> {
+    match line_of(alloc, line)? {
+        Line::Packet(Packet::Kernel(kernel)) => Ok(Some((kernel.object, kernel.kernarg))),
+        _ => Ok(None),
+    }
+}
+
+/// Whether a line is the last one.
+fn is_end(alloc: Global, line: &[u8]) -> Result<bool, Fail> {
+    Ok(matches!(line_of(alloc, line)?, Line::End))
 }
 
 #[test]
 fn others(rt: HostRuntime) -> Result<(), Fail> {
-    if let Line::Signal { handle, start, .. } = line_of(
-        rt.alloc(),
-        b"signal s 9 9223372036854775807",
-    )? {
-        assert_eq!(rt; handle, 9);
-        assert_eq!(rt; start, 9_223_372_036_854_775_807);
-    } else {
-        assert!(rt; false);
-    }
-    if let Line::Packet(Packet::Kernel(kernel)) = line_of(rt.alloc(), PACKET)? {
-        assert_eq!(rt; (kernel.object, kernel.kernarg), (1, 256));
-    } else {
-        assert!(rt; false);
-    }
-    assert!(rt; matches!(line_of(rt.alloc(), b"end")?, Line::End));
+    let signal = signal_of(rt.alloc(), b"signal s 9 9223372036854775807")?;
+    assert_eq!(rt; signal, Some((9, 9_223_372_036_854_775_807)));
+    assert_eq!(rt; dispatch_of(rt.alloc(), PACKET)?, Some((1, 256)));
+    assert!(rt; is_end(rt.alloc(), b"end")?);
     Ok(())
 }
 
-fn is_fault(rt: &impl Abort, alloc: Global, line: &[u8], fault: LineFault) {
-    match read_line(alloc, line) {
-        Ok(_) => assert!(rt; false),
-        Err(found) => assert!(rt; found == fault),
-    }
+/// What is wrong with a line.
+fn fault_of(alloc: Global, line: &[u8]) -> Option<LineFault> {
+    read_line(alloc, line).err()
 }
 
 #[test]
@@ -177,7 +195,7 @@ fn faults(rt: HostRuntime) {
         (b"queue q a 3", LineFault::QueueSize),
         (b"queue q a 1023", LineFault::QueueSize),
     ] {
-        is_fault(&rt, rt.alloc(), line, fault);
+        assert!(rt; fault_of(rt.alloc(), line) == Some(fault));
     }
 }
 
@@ -202,7 +220,7 @@ fn packets(rt: HostRuntime) -> Result<(), Fail> {
         (104, b'1', LineFault::Packet(PacketFault::ReservedField(48))),
     ] {
         let line = changed(rt.alloc(), PACKET, at, byte)?;
-        is_fault(&rt, rt.alloc(), &line, fault);
+        assert!(rt; fault_of(rt.alloc(), &line) == Some(fault));
     }
     Ok(())
 }
@@ -219,15 +237,14 @@ fn long_line(alloc: Global, more: &[u8]) -> Result<Vec<u8>, Fail> {
 
 #[test]
 fn long_args(rt: HostRuntime) -> Result<(), Fail> {
-    let line = long_line(rt.alloc(), b"")?;
-    assert!(rt; read_line(rt.alloc(), &line).is_ok());
     for (more, fault) in [
-        (b"0".as_slice(), LineFault::Hex),
-        (b"00", LineFault::TooLong),
-        (b"0g", LineFault::Hex),
+        (b"".as_slice(), None),
+        (b"0", Some(LineFault::Hex)),
+        (b"00", Some(LineFault::TooLong)),
+        (b"0g", Some(LineFault::Hex)),
     ] {
         let line = long_line(rt.alloc(), more)?;
-        is_fault(&rt, rt.alloc(), &line, fault);
+        assert!(rt; fault_of(rt.alloc(), &line) == fault);
     }
     Ok(())
 }
