@@ -20,46 +20,69 @@ fn reads(first: Range) -> Footprint {
     footprint(first, Range::new(0, 0), Range::new(0, 0))
 }
 
+/// How what writes a range and what reads one conflict.
+fn conflict_of(write: Range, read: Range) -> Option<Kinds> {
+    conflict(&writes(write), &reads(read))
+}
+
+/// The kinds of conflict between what writes a range and what reads one.
+fn kinds_between(write: Range, read: Range) -> Kinds {
+    kinds_of(&writes(write), &reads(read))
+}
+
 #[test]
 fn touching_ranges(rt: HostRuntime) {
-    let write = writes(Range::new(4096, 4));
-    assert_eq!(rt; conflict(&write, &reads(Range::new(4100, 4))), None);
-    let write = writes(Range::new(4096, 5));
+    let read = Range::new(4100, 4);
+    assert_eq!(rt; conflict_of(Range::new(4096, 4), read), None);
     let kinds = Kinds {
         wr: true,
         ww: false,
         rw: false,
     };
-    assert_eq!(rt; conflict(&write, &reads(Range::new(4100, 4))), Some(kinds));
-    assert_eq!(rt; kinds_of(&write, &reads(Range::new(4100, 4))), kinds);
-    assert!(rt; Range::new(4096, 5).overlaps(Range::new(4100, 4)));
+    let write = Range::new(4096, 5);
+    assert_eq!(rt; conflict_of(write, read), Some(kinds));
+    assert_eq!(rt; kinds_between(write, read), kinds);
+    assert!(rt; write.overlaps(read));
 }
 
 #[test]
 fn buffers(rt: HostRuntime) {
-    let buffers = [Range::new(4096, 8)];
     let copy = footprint(Range::new(4096, 8), Range::new(0, 0), Range::new(4096, 8));
-    assert_eq!(rt; inside(&copy, &buffers), Ok(()));
     let long = writes(Range::new(4096, 9));
-    assert_eq!(rt; inside(&long, &buffers), Err(FootFault::OutsideBuffer));
     let last = writes(Range::new(u64::MAX, 1));
-    assert_eq!(rt; inside(&last, &buffers), Err(FootFault::OutsideBuffer));
     let past = writes(Range::new(u64::MAX, 2));
-    assert_eq!(rt; inside(&past, &buffers), Err(FootFault::Overflow));
+    for (foot, is) in [
+        (copy, Ok(())),
+        (long, Err(FootFault::OutsideBuffer)),
+        (last, Err(FootFault::OutsideBuffer)),
+        (past, Err(FootFault::Overflow)),
+    ] {
+        assert_eq!(rt; inside(&foot, &[Range::new(4096, 8)]), is);
+    }
     assert!(rt; Range::new(u64::MAX, 1).fits());
     assert!(rt; Range::new(4097, 7).is_within(Range::new(4096, 8)));
 }
 
-#[test]
-fn kernels(rt: HostRuntime) {
+/// Three addresses as arguments: 4096, 8192 and 12288, and a byte at the head of the second.
+fn arguments(byte: u8) -> [u8; 24] {
     let mut args = [0u8; 24];
     args[1] = 16;
+    args[8] = byte;
     args[9] = 32;
     args[17] = 48;
-    assert_eq!(rt;
-        of_kernel(Code::Xor, 8, &args[..23]),
-        Err(FootFault::ArgsShort)
-    );
+    args
+}
+
+/// The work of a kernel that is given so many bytes of these arguments.
+fn work_of(code: Code, items: u64, args: [u8; 24], len: usize) -> Result<Work, FootFault> {
+    match args.get(..len) {
+        Some(args) => of_kernel(code, items, args),
+        None => of_kernel(code, items, &args),
+    }
+}
+
+#[test]
+fn kernels(rt: HostRuntime) {
     let xor = Work {
         foot: footprint(
             Range::new(4096, 8),
@@ -68,22 +91,23 @@ fn kernels(rt: HostRuntime) {
         ),
         task: Task::Xor,
     };
-    assert_eq!(rt; of_kernel(Code::Xor, 8, &args), Ok(xor));
     let sum = Work {
         foot: footprint(Range::new(4096, 3), Range::new(0, 0), Range::new(8192, 8)),
         task: Task::Sum,
     };
-    assert_eq!(rt; of_kernel(Code::Sum, 3, &args), Ok(sum));
-    assert_eq!(rt;
-        of_kernel(Code::Copy, u64::MAX, &args),
-        Err(FootFault::Overflow)
-    );
-    args[8] = 7;
     let fill = Work {
         foot: writes(Range::new(4096, 2)),
         task: Task::Fill(7),
     };
-    assert_eq!(rt; of_kernel(Code::Fill, 2, &args[..16]), Ok(fill));
+    for (code, items, byte, len, is) in [
+        (Code::Xor, 8, 0, 23, Err(FootFault::ArgsShort)),
+        (Code::Xor, 8, 0, 24, Ok(xor)),
+        (Code::Sum, 3, 0, 24, Ok(sum)),
+        (Code::Copy, u64::MAX, 0, 24, Err(FootFault::Overflow)),
+        (Code::Fill, 2, 7, 16, Ok(fill)),
+    ] {
+        assert!(rt; work_of(code, items, arguments(byte), len) == is);
+    }
 }
 
 #[test]
@@ -104,46 +128,87 @@ fn services(rt: HostRuntime) {
         foot: writes(Range::new(4096, 8)),
         task: Task::Store64(0),
     };
-    assert_eq!(rt; of_service(0x8000, [5, 0, 0, 0], 4096), Ok(store));
-    assert_eq!(rt; of_service(0x8001, [5, 3, 257, 0], 4096), Ok(count));
-    assert_eq!(rt; of_service(0x8001, [5, 0, 1, 0], 4096), Ok(zero));
-    assert_eq!(rt; of_service(0x8002, [5, 3, 1, 0], 4096), Ok(nothing));
-    assert_eq!(rt; of_service(0x8001, [5, 3, 1, 0], 0), Ok(nothing));
-    assert_eq!(rt;
-        of_service(0x8003, [5, 3, 1, 0], 0),
-        Err(FootFault::Service)
-    );
-    assert_eq!(rt;
-        of_service(0x8000, [5, 3, 1, 0], u64::MAX),
-        Err(FootFault::Overflow)
-    );
+    for (kind, args, at, is) in [
+        (0x8000, [5, 0, 0, 0], 4096, Ok(store)),
+        (0x8001, [5, 3, 257, 0], 4096, Ok(count)),
+        (0x8001, [5, 0, 1, 0], 4096, Ok(zero)),
+        (0x8002, [5, 3, 1, 0], 4096, Ok(nothing)),
+        (0x8001, [5, 3, 1, 0], 0, Ok(nothing)),
+        (0x8003, [5, 3, 1, 0], 0, Err(FootFault::Service)),
+        (0x8000, [5, 3, 1, 0], u64::MAX, Err(FootFault::Overflow)),
+    ] {
+        assert!(rt; of_service(kind, args, at) == is);
+    }
+}
+
+/// The word that a task writes.
+fn word_of(task: &Task, reads: &[u8]) -> Option<[u8; 8]> {
+    if !matches!(task, Task::Sum | Task::Count(_)) {
+        return None;
+    }
+    let mut out = [0u8; 8];
+    evaluate(task, reads, &mut out);
+    Some(out)
+}
+
+/// The word that is stored.
+fn stored(word: u64) -> [u8; 8] {
+    let mut out = [0u8; 8];
+    evaluate(&Task::Store64(word), &[], &mut out);
+    out
 }
 
 #[test]
 fn words(rt: HostRuntime) {
-    let mut out = [0u8; 8];
-    evaluate(&Task::Sum, &[1, 2, 3, 0xff], &mut out);
-    assert_eq!(rt; out, [5, 1, 0, 0, 0, 0, 0, 0]);
-    evaluate(&Task::Count(1), &[1, 2, 1], &mut out);
-    assert_eq!(rt; out, [2, 0, 0, 0, 0, 0, 0, 0]);
-    evaluate(&Task::Store64(0x0102), &[], &mut out);
-    assert_eq!(rt; out, [2, 1, 0, 0, 0, 0, 0, 0]);
+    let sum = word_of(&Task::Sum, &[1, 2, 3, 0xff]);
+    assert_eq!(rt; sum, Some([5, 1, 0, 0, 0, 0, 0, 0]));
+    let count = word_of(&Task::Count(1), &[1, 2, 1]);
+    assert_eq!(rt; count, Some([2, 0, 0, 0, 0, 0, 0, 0]));
+    assert_eq!(rt; stored(0x0102), [2, 1, 0, 0, 0, 0, 0, 0]);
     evaluate(&Task::Nop, &[], &mut []);
+}
+
+/// The two bytes that a task makes of the bytes of two ranges.
+fn of_two(task: &Task, first: [u8; 2], second: [u8; 2]) -> Option<[u8; 2]> {
+    if !matches!(task, Task::Xor | Task::Add) {
+        return None;
+    }
+    let mut out = [0u8; 2];
+    evaluate_ranges(task, &first, &second, &mut out);
+    Some(out)
+}
+
+/// The two bytes that a task makes of as many.
+fn of_one(task: &Task, reads: [u8; 2]) -> Option<[u8; 2]> {
+    if !matches!(task, Task::Copy | Task::Rev) {
+        return None;
+    }
+    let mut out = [0u8; 2];
+    evaluate(task, &reads, &mut out);
+    Some(out)
+}
+
+/// The sum of two ranges of two bytes that stand behind one another.
+fn sum_of(reads: [u8; 4]) -> [u8; 2] {
+    let mut out = [0u8; 2];
+    evaluate(&Task::Add, &reads, &mut out);
+    out
+}
+
+/// Two bytes that are filled.
+fn filled(byte: u8) -> [u8; 2] {
+    let mut out = [0u8; 2];
+    evaluate(&Task::Fill(byte), &[], &mut out);
+    out
 }
 
 #[test]
 fn bytes(rt: HostRuntime) {
-    let mut out = [0u8; 2];
-    evaluate(&Task::Add, &[0xff, 1, 2, 3], &mut out);
-    assert_eq!(rt; out, [1, 4]);
-    evaluate_ranges(&Task::Xor, &[0xff, 1], &[2, 3], &mut out);
-    assert_eq!(rt; out, [0xfd, 2]);
-    evaluate(&Task::Rev, &[8, 9], &mut out);
-    assert_eq!(rt; out, [9, 8]);
-    evaluate(&Task::Copy, &[8, 9], &mut out);
-    assert_eq!(rt; out, [8, 9]);
-    evaluate(&Task::Fill(7), &[], &mut out);
-    assert_eq!(rt; out, [7, 7]);
+    assert_eq!(rt; sum_of([0xff, 1, 2, 3]), [1, 4]);
+    assert_eq!(rt; of_two(&Task::Xor, [0xff, 1], [2, 3]), Some([0xfd, 2]));
+    assert_eq!(rt; of_one(&Task::Rev, [8, 9]), Some([9, 8]));
+    assert_eq!(rt; of_one(&Task::Copy, [8, 9]), Some([8, 9]));
+    assert_eq!(rt; filled(7), [7, 7]);
 }
 
 #[test]

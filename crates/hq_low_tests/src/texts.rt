@@ -31,20 +31,29 @@ impl Read for OneByOne {
     }
 }
 
+/// How long the text is that this reader gives, or why it is refused.
+fn taken(alloc: Global, left: usize, fails: bool) -> Result<usize, TextFault> {
+    let mut reader = OneByOne { left, fails };
+    let text = take_text(alloc, &mut reader)?;
+    Ok(text.len())
+}
+
+/// Whether the text of these bytes is them.
+fn is_taken(alloc: Global, bytes: &[u8]) -> Result<bool, Fail> {
+    let mut slice = bytes;
+    Ok(good(take_text(alloc, &mut slice))?.as_slice() == bytes)
+}
+
 #[test]
 fn takes(rt: HostRuntime) -> Result<(), Fail> {
-    let mut slice: &[u8] = b"hsaq 1\nend\n";
-    let text = good(take_text(rt.alloc(), &mut slice))?;
-    assert_eq!(rt; text.as_slice(), b"hsaq 1\nend\n".as_slice());
-    let mut reader = OneByOne {
-        left: 1_999_999,
-        fails: false,
-    };
-    assert_eq!(rt; good(take_text(rt.alloc(), &mut reader))?.len(), 1_999_999);
-    for (left, fails) in [(2_000_000, false), (3, true), (0, true)] {
-        let mut reader = OneByOne { left, fails };
-        let taken = take_text(rt.alloc(), &mut reader);
-        assert_eq!(rt; taken.err(), Some(TextFault::Read));
+    assert!(rt; is_taken(rt.alloc(), b"hsaq 1\nend\n")?);
+    for (left, fails, is) in [
+        (1_999_999, false, Ok(1_999_999)),
+        (2_000_000, false, Err(TextFault::Read)),
+        (3, true, Err(TextFault::Read)),
+        (0, true, Err(TextFault::Read)),
+    ] {
+        assert!(rt; taken(rt.alloc(), left, fails) == is);
     }
     Ok(())
 }
@@ -141,22 +150,32 @@ fn takes_lines(rt: HostRuntime) {
     assert!(rt; counted.map(|c| c.count) == Ok(3));
 }
 
+/// Whether a text has these lines.
+fn has_lines(alloc: Global, text: &[u8], wanted: &[&[u8]]) -> Result<bool, Fail> {
+    Ok(good(lines_of(alloc, text))?.as_slice() == wanted)
+}
+
+/// Whether a line has these words.
+fn has_words(alloc: Global, line: &[u8], wanted: &[&[u8]]) -> Result<bool, Fail> {
+    Ok(good(words_of(alloc, line))?.as_slice() == wanted)
+}
+
+/// Whether a text has this first line, and this behind it.
+fn begins(text: &[u8], line: &[u8], rest: &[u8]) -> bool {
+    !text.is_empty() && first_line(text) == (line, rest)
+}
+
 #[test]
 fn cuts(rt: HostRuntime) -> Result<(), Fail> {
-    assert_eq!(rt; good(lines_of(rt.alloc(), b""))?.len(), 0);
-    assert_eq!(rt; good(lines_of(rt.alloc(), b"a\nb"))?.len(), 2);
-    let lines = good(lines_of(rt.alloc(), b"a\n\nb c\n"))?;
-    assert_eq!(rt; lines.as_slice(), [b"a".as_slice(), b"", b"b c"].as_slice());
-    assert_eq!(rt; good(lines_of(rt.alloc(), b"\n\n"))?.len(), 2);
-    assert!(rt; first_line(b"a\nb\n") == (b"a".as_slice(), b"b\n".as_slice()));
-    assert!(rt; first_line(b"\n") == (b"".as_slice(), b"".as_slice()));
-    assert!(rt; first_line(b"a b") == (b"a b".as_slice(), b"".as_slice()));
-    let words = good(words_of(rt.alloc(), b"a  b "))?;
-    assert_eq!(rt;
-        words.as_slice(),
-        [b"a".as_slice(), b"", b"b", b""].as_slice()
-    );
-    assert_eq!(rt; good(words_of(rt.alloc(), b""))?.len(), 1);
+    assert!(rt; has_lines(rt.alloc(), b"", &[])?);
+    assert!(rt; has_lines(rt.alloc(), b"a\nb", &[b"a", b"b"])?);
+    assert!(rt; has_lines(rt.alloc(), b"a\n\nb c\n", &[b"a", b"", b"b c"])?);
+    assert!(rt; has_lines(rt.alloc(), b"\n\n", &[b"", b""])?);
+    assert!(rt; begins(b"a\nb\n", b"a", b"b\n"));
+    assert!(rt; begins(b"\n", b"", b""));
+    assert!(rt; begins(b"a b", b"a b", b""));
+    assert!(rt; has_words(rt.alloc(), b"a  b ", &[b"a", b"", b"b", b""])?);
+    assert!(rt; has_words(rt.alloc(), b"", &[b""])?);
     Ok(())
 }
 
@@ -177,6 +196,27 @@ fn numbers(rt: HostRuntime) {
     }
 }
 
+/// Whether a word is a name.
+fn is_name(word: &[u8]) -> bool {
+    Name::new(word).is_some()
+}
+
+/// Whether a word is a name that is told so.
+fn is_named(word: &[u8], told: &str) -> bool {
+    match Name::new(word) {
+        Some(name) => name.as_str() == told,
+        None => false,
+    }
+}
+
+/// Whether two words are the same name.
+fn are_same(word: &[u8], other: &[u8]) -> bool {
+    match (Name::new(word), Name::new(other)) {
+        (Some(name), Some(second)) => name == second,
+        _ => false,
+    }
+}
+
 #[test]
 fn names(rt: HostRuntime) {
     for (word, is) in [
@@ -190,9 +230,8 @@ fn names(rt: HostRuntime) {
         (b"aB", false),
         (b"a-", false),
     ] {
-        assert_eq!(rt; Name::new(word).is_some(), is);
+        assert_eq!(rt; is_name(word), is);
     }
-    let name = Name::new(b"q_1");
-    assert_eq!(rt; name.map(|n| n.as_str() == "q_1"), Some(true));
-    assert!(rt; name == Name::new(b"q_1") && name != Name::new(b"q_") && name.is_some());
+    assert!(rt; is_named(b"q_1", "q_1"));
+    assert!(rt; are_same(b"q_1", b"q_1") && !are_same(b"q_1", b"q_"));
 }
