@@ -30,19 +30,24 @@ fn kinds_between(write: Range, read: Range) -> Kinds {
     kinds_of(&writes(write), &reads(read))
 }
 
+/// Whether two ranges have a byte in common.
+fn overlap(first: Range, second: Range) -> bool {
+    first.overlaps(second)
+}
+
 #[test]
 fn touching_ranges(rt: HostRuntime) {
     let read = Range::new(4100, 4);
-    assert_eq!(rt; conflict_of(Range::new(4096, 4), read), None);
+    assert!(rt; conflict_of(Range::new(4096, 4), read).is_none());
     let kinds = Kinds {
         wr: true,
         ww: false,
         rw: false,
     };
     let write = Range::new(4096, 5);
-    assert_eq!(rt; conflict_of(write, read), Some(kinds));
-    assert_eq!(rt; kinds_between(write, read), kinds);
-    assert!(rt; write.overlaps(read));
+    assert!(rt; conflict_of(write, read) == Some(kinds));
+    assert!(rt; kinds_between(write, read) == kinds);
+    assert!(rt; overlap(write, read));
 }
 
 #[test]
@@ -158,6 +163,11 @@ fn stored(word: u64) -> [u8; 8] {
     out
 }
 
+/// Writes nothing.
+fn do_nothing() {
+    evaluate(&Task::Nop, &[], &mut []);
+}
+
 #[test]
 fn words(rt: HostRuntime) {
     let sum = word_of(&Task::Sum, &[1, 2, 3, 0xff]);
@@ -165,7 +175,7 @@ fn words(rt: HostRuntime) {
     let count = word_of(&Task::Count(1), &[1, 2, 1]);
     assert_eq!(rt; count, Some([2, 0, 0, 0, 0, 0, 0, 0]));
     assert_eq!(rt; stored(0x0102), [2, 1, 0, 0, 0, 0, 0, 0]);
-    evaluate(&Task::Nop, &[], &mut []);
+    do_nothing();
 }
 
 /// The two bytes that a task makes of the bytes of two ranges.

@@ -1,4 +1,4 @@
-ghost use Rattle.std.specs.Prelude.{◌≡◌, ◌+◌, ◌^◌, ◌<◌, ◌≤◌, IfOk};
+ghost use Rattle.std.specs.Prelude.{◌≡◌, ◌+◌, ◌<◌, ◌≤◌, IfOk};
 ghost use Rattle.hq_signals.specs.Table.{noted};
 
 use hq_signals::{Signal, SignalFault, SignalTable, Undershoot};
@@ -17,11 +17,16 @@ fn a_signal_counts_down(rt: HostRuntime) {
     assert_eq!(rt; signal.value(), 0);
 }
 
+/// What a start is below.
+const LIMIT: u64 = 1 << 63;
+
 /// A table with this signal.
 fn one(alloc: Global, handle: u64, start: u64) -> Result<SignalTable, Fail>
-    requires { start < 2 ^ 63 }
     ensures { IfOk result (λ table. noted table ≡ 0) }
 {
+    if start >= LIMIT {
+        return Err("a start fits".into());
+    }
     let mut table = SignalTable::new(alloc);
     let Ok(()) = table.open(handle, start) else {
         return Err("there is memory".into());
@@ -31,14 +36,12 @@ fn one(alloc: Global, handle: u64, start: u64) -> Result<SignalTable, Fail>
 
 /// A table with these signals, in this order.
 fn two(alloc: Global, first: (u64, u64), second: (u64, u64)) -> Result<SignalTable, Fail>
-    requires first { first.1 < 2 ^ 63 }
-    requires second { second.1 < 2 ^ 63 }
     ensures { IfOk result (λ table. noted table ≡ 0) }
 {
     let (handle, start) = second;
     let mut table = one(alloc, first.0, first.1)?;
-    if table.has(handle) {
-        return Err("handles differ".into());
+    if table.has(handle) || start >= LIMIT {
+        return Err("handles differ, and a start fits".into());
     }
     let Ok(()) = table.open(handle, start) else {
         return Err("there is memory".into());
@@ -123,11 +126,10 @@ fn is_open(table: &SignalTable, handle: u64) -> bool {
 fn places_in_order_of_opening(rt: HostRuntime) -> Result<(), Fail> {
     let table = two(rt.alloc(), (10, 0), (9, 9223372036854775807))?;
     assert!(rt; is_open(&table, 9) && !is_open(&table, 8));
-    assert_eq!(rt; place_of(&table, 9), Some(1));
-    assert_eq!(rt; place_of(&table, 8), None);
-    assert_eq!(rt; at(&table, 0), Some((10, 0)));
-    assert_eq!(rt; at(&table, 1), Some((9, 9223372036854775807)));
-    assert_eq!(rt; at(&table, 2), None);
+    assert!(rt; place_of(&table, 9) == Some(1) && place_of(&table, 8).is_none());
+    assert!(rt; at(&table, 0) == Some((10, 0)));
+    assert!(rt; at(&table, 1) == Some((9, 9223372036854775807)));
+    assert!(rt; at(&table, 2).is_none());
     Ok(())
 }
 
