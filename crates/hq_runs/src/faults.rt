@@ -4,13 +4,11 @@ ghost use Rattle.std.specs.Prelude.{◌<◌};
 
 use crate::bodies::{Faulting, Opening, Refusing};
 use crate::calls::good;
-use crate::jobs::{accepted, run_with};
+use crate::jobs::{Told, accepted, run_faults, same};
 use crate::texts::{EITHER, FILL_COPY_COPY};
-use hq_certcheck::Accepted;
 use hq_footprint::Task;
-use hq_kernels::{Body, KernelBody, Stock, stock_kits};
+use hq_kernels::{Body, Stock, stock_kits};
 use hq_ledger::{Piece, Tray};
-use hq_runner::{OpenGate, RunFault};
 use std::alloc::Global;
 use std::sync::Wait;
 use std::test::*;
@@ -19,97 +17,63 @@ use std::thread::Threads;
 /// Whose body it is: the queue, and the place among its kit's bodies.
 type Place = (usize, usize);
 
-/// What was told of a fault: the packet, how many of its pieces came home, how many didn't, and how many came home
-/// in all.
-type Told = (u16, u8, u8, usize);
-
-/// The fault of a run of the job with these bodies in place of stock ones.
+/// What is told of the fault of a run of the job of this text with this body in place of a stock one.
 fn fault_of<R: Threads + Wait + Sync>(
     rt: &R,
     alloc: Global,
-    accepted: &Accepted,
-    bodies: Vec<(Place, Box<dyn KernelBody + Send>)>,
+    parts: &[&[u8]],
+    place: Place,
+    body: Body,
 ) -> Result<Told, Fail> {
+    let accepted = accepted(alloc, parts)?;
     let mut kits = good(stock_kits(alloc, accepted.job()))?;
-    for ((queue, place), body) in bodies {
-        let Some(kit) = kits.get_mut(queue) else {
-            return Err("there is this queue".into());
-        };
-        let Some(old) = kit.bodies.get_mut(place) else {
-            return Err("there is this body".into());
-        };
-        *old = Body::Kernel(body);
-    }
-    match run_with(rt, alloc, accepted, kits, &OpenGate)? {
-        Err(
-            RunFault::Kernel {
-                packet,
-                home,
-                lost,
-                found,
-            },
-        ) => Ok((packet, home, lost, found.len())),
-        _ => Err("a body fails".into()),
-    }
+    let Some(kit) = kits.get_mut(place.0) else {
+        return Err("there is this queue".into());
+    };
+    let Some(old) = kit.bodies.get_mut(place.1) else {
+        return Err("there is this body".into());
+    };
+    *old = body;
+    run_faults(rt, alloc, &accepted, kits)
 }
 
 #[test]
 fn a_body_that_faults(rt: HostRuntime) -> Result<(), Fail> {
-    let accepted = accepted(rt.alloc(), FILL_COPY_COPY)?;
-    let mut bodies: Vec<(Place, Box<dyn KernelBody + Send>)> = Vec::new(rt.alloc());
-    good(bodies.push((
-        (0, 2),
-        good(Box::new(rt.alloc(), Faulting::new(Task::Copy)))?,
-    )))?;
-    assert_eq!(rt; fault_of(&rt, rt.alloc(), &accepted, bodies)?, (2, 2, 0, 2));
+    let body = Body::Kernel(good(Box::new(rt.alloc(), Faulting::new(Task::Copy)))?);
+    let told = fault_of(&rt, rt.alloc(), FILL_COPY_COPY, (0, 2), body)?;
+    assert!(rt; same(told, (2, 2, 0, 2)));
     Ok(())
 }
 
 #[test]
 fn a_body_that_refuses_a_piece(rt: HostRuntime) -> Result<(), Fail> {
-    let accepted = accepted(rt.alloc(), FILL_COPY_COPY)?;
-    let mut bodies: Vec<(Place, Box<dyn KernelBody + Send>)> = Vec::new(rt.alloc());
-    good(bodies.push((
-        (0, 2),
-        good(Box::new(rt.alloc(), Refusing::new(Task::Copy)))?,
-    )))?;
-    assert_eq!(rt; fault_of(&rt, rt.alloc(), &accepted, bodies)?, (2, 2, 0, 2));
+    let body = Body::Kernel(good(Box::new(rt.alloc(), Refusing::new(Task::Copy)))?);
+    let told = fault_of(&rt, rt.alloc(), FILL_COPY_COPY, (0, 2), body)?;
+    assert!(rt; same(told, (2, 2, 0, 2)));
     Ok(())
 }
 
 #[test]
 fn a_fault_ends_the_wait_of_others(rt: HostRuntime) -> Result<(), Fail> {
-    let accepted = accepted(rt.alloc(), EITHER)?;
-    let mut bodies: Vec<(Place, Box<dyn KernelBody + Send>)> = Vec::new(rt.alloc());
-    good(bodies.push((
-        (0, 0),
-        good(Box::new(rt.alloc(), Faulting::new(Task::Fill(7))))?,
-    )))?;
-    assert_eq!(rt; fault_of(&rt, rt.alloc(), &accepted, bodies)?, (0, 1, 0, 1));
+    let body = Body::Kernel(good(Box::new(rt.alloc(), Faulting::new(Task::Fill(7))))?);
+    let told = fault_of(&rt, rt.alloc(), EITHER, (0, 0), body)?;
+    assert!(rt; same(told, (0, 1, 0, 1)));
     Ok(())
 }
 
 #[test]
 fn the_last_packet_faults(rt: HostRuntime) -> Result<(), Fail> {
-    let accepted = accepted(rt.alloc(), EITHER)?;
-    let mut bodies: Vec<(Place, Box<dyn KernelBody + Send>)> = Vec::new(rt.alloc());
-    good(bodies.push((
-        (3, 0),
-        good(Box::new(rt.alloc(), Faulting::new(Task::Copy)))?,
-    )))?;
-    assert_eq!(rt; fault_of(&rt, rt.alloc(), &accepted, bodies)?, (4, 2, 0, 2));
+    let body = Body::Kernel(good(Box::new(rt.alloc(), Faulting::new(Task::Copy)))?);
+    let told = fault_of(&rt, rt.alloc(), EITHER, (3, 0), body)?;
+    assert!(rt; same(told, (4, 2, 0, 2)));
     Ok(())
 }
 
 #[test]
 fn a_piece_that_is_opened_is_lost(rt: HostRuntime) -> Result<(), Fail> {
-    let accepted = accepted(rt.alloc(), FILL_COPY_COPY)?;
-    let mut bodies: Vec<(Place, Box<dyn KernelBody + Send>)> = Vec::new(rt.alloc());
-    good(bodies.push((
-        (0, 2),
-        good(Box::new(rt.alloc(), Opening::new(Task::Copy)))?,
-    )))?;
-    assert_eq!(rt; fault_of(&rt, rt.alloc(), &accepted, bodies)?, (2, 1, 1, 1));
+    let body = Body::Kernel(good(Box::new(rt.alloc(), Opening::new(Task::Copy)))?);
+    let told = fault_of(&rt, rt.alloc(), FILL_COPY_COPY, (0, 2), body)?;
+    assert!(rt; same(told, (2, 1, 1, 1)));
     Ok(())
 }
 
@@ -141,10 +105,9 @@ fn a_body_that_holds_a_piece_of_another_tray(rt: HostRuntime) -> Result<(), Fail
         return Err("there is memory".into());
     };
     let stock = holding(rt.alloc(), &tray)?;
-    let accepted = accepted(rt.alloc(), FILL_COPY_COPY)?;
-    let mut bodies: Vec<(Place, Box<dyn KernelBody + Send>)> = Vec::new(rt.alloc());
-    good(bodies.push(((0, 2), good(Box::new(rt.alloc(), stock))?)))?;
-    assert_eq!(rt; fault_of(&rt, rt.alloc(), &accepted, bodies)?, (2, 2, 0, 2));
+    let body = Body::Kernel(good(Box::new(rt.alloc(), stock))?);
+    let told = fault_of(&rt, rt.alloc(), FILL_COPY_COPY, (0, 2), body)?;
+    assert!(rt; same(told, (2, 2, 0, 2)));
     assert!(rt; is_home(rt.alloc(), &mut tray, 7)?);
     Ok(())
 }

@@ -4,7 +4,7 @@ use crate::texts::joined;
 use hq_audit::audit;
 use hq_certcheck::{Accepted, check};
 use hq_kernels::{Kit, kits_fit};
-use hq_runner::{Gate, Outcome, RunFault, run};
+use hq_runner::{Gate, OpenGate, Outcome, RunFault, run};
 use std::alloc::Global;
 use std::sync::Wait;
 use std::test::*;
@@ -46,7 +46,7 @@ pub fn accepted(alloc: Global, parts: &[&[u8]]) -> Result<Accepted, Fail> {
 }
 
 /// What a run of the job with these kits answers.
-pub fn run_with<R: Threads + Wait + Sync, G: Gate>(
+fn run_with<R: Threads + Wait + Sync, G: Gate>(
     rt: &R,
     alloc: Global,
     accepted: &Accepted,
@@ -57,4 +57,48 @@ pub fn run_with<R: Threads + Wait + Sync, G: Gate>(
         return Err("the kits are the job's".into());
     }
     Ok(run(rt, alloc, accepted, kits, gate))
+}
+
+/// Whether a run of the job with these kits leaves this memory.
+pub fn run_leaves<R: Threads + Wait + Sync, G: Gate>(
+    rt: &R,
+    alloc: Global,
+    accepted: &Accepted,
+    kits: Vec<Kit>,
+    gate: &G,
+    memory: &[u8],
+) -> Result<bool, Fail> {
+    match run_with(rt, alloc, accepted, kits, gate)? {
+        Ok(outcome) => Ok(outcome.memory.as_slice() == memory),
+        Err(_) => Err("the run ends".into()),
+    }
+}
+
+/// What is told of a fault: the packet, how many of its pieces came home, how many didn't, and how many came home
+/// in all.
+pub type Told = (u16, u8, u8, usize);
+
+/// What is told of the fault of a body that ends a run of the job with these kits.
+pub fn run_faults<R: Threads + Wait + Sync>(
+    rt: &R,
+    alloc: Global,
+    accepted: &Accepted,
+    kits: Vec<Kit>,
+) -> Result<Told, Fail> {
+    match run_with(rt, alloc, accepted, kits, &OpenGate)? {
+        Err(
+            RunFault::Kernel {
+                packet,
+                home,
+                lost,
+                found,
+            },
+        ) => Ok((packet, home, lost, found.len())),
+        _ => Err("a body fails".into()),
+    }
+}
+
+/// Whether both say the same.
+pub fn same(told: Told, wanted: Told) -> bool {
+    told.0 == wanted.0 && told.1 == wanted.1 && told.2 == wanted.2 && told.3 == wanted.3
 }

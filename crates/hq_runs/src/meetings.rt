@@ -1,17 +1,18 @@
 //! Bodies that wait for each other, each in its own queue.
 
 use crate::calls::good;
-use crate::jobs::{accepted, run_with};
+use crate::jobs::{Told, accepted, run_faults, run_leaves, same};
 use crate::texts::TWO_FILLS;
 use hq_footprint::Task;
 use hq_kernels::{Body, KernelBody, KernelFault, Kit, Stock};
 use hq_ledger::Piece;
-use hq_runner::{OpenGate, RunFault};
+use hq_runner::OpenGate;
 use std::alloc::{AllocError, Global};
-use std::sync::Arc;
 use std::sync::atomic::{AtomicBool, Ordering};
+use std::sync::{Arc, Wait};
 use std::test::*;
 use std::thread;
+use std::thread::Threads;
 
 /// Puts up its own flag where it should run, and then waits for the other's, for at most a million turns. Where
 /// both are up it runs, or faults.
@@ -71,54 +72,71 @@ fn kit_of(alloc: Global, body: Meeting) -> Result<Kit, AllocError> {
     Ok(Kit { bodies })
 }
 
-/// Kits for the two fills, whose bodies wait for each other, and then run, or fault.
-fn two_that_meet(alloc: Global, faults: bool) -> Result<Vec<Kit>, AllocError> {
-    let first = Arc::new(alloc, AtomicBool::new(false))?;
-    let second = Arc::new(alloc, AtomicBool::new(false))?;
-    let sevens = Meeting {
-        stock: Stock::new(Task::Fill(7)),
-        own: Arc::try_clone(&first)?,
-        other: Arc::try_clone(&second)?,
+/// A body for a fill with this byte.
+fn filling(byte: u8, own: Arc<AtomicBool>, other: Arc<AtomicBool>, faults: bool) -> Meeting {
+    Meeting {
+        stock: Stock::new(Task::Fill(byte)),
+        own,
+        other,
         faults,
-    };
-    let fives = Meeting {
-        stock: Stock::new(Task::Fill(5)),
-        own: second,
-        other: first,
-        faults,
-    };
+    }
+}
+
+/// A kit for each of these bodies.
+fn kits_of(alloc: Global, first: Meeting, second: Meeting) -> Result<Vec<Kit>, Fail> {
     let mut kits = Vec::new(alloc);
-    kits.push(kit_of(alloc, sevens)?)?;
-    kits.push(kit_of(alloc, fives)?)?;
+    good(kits.push(good(kit_of(alloc, first))?))?;
+    good(kits.push(good(kit_of(alloc, second))?))?;
     Ok(kits)
+}
+
+/// A flag that isn't up.
+fn flag(alloc: Global) -> Result<Arc<AtomicBool>, Fail> {
+    good(Arc::new(alloc, AtomicBool::new(false)))
+}
+
+/// The flag once more.
+fn again(flag: &Arc<AtomicBool>) -> Result<Arc<AtomicBool>, Fail> {
+    good(Arc::try_clone(flag))
+}
+
+/// Kits for the two fills, whose bodies wait for each other, and then run, or fault.
+fn two_that_meet(alloc: Global, faults: bool) -> Result<Vec<Kit>, Fail> {
+    let first = flag(alloc)?;
+    let second = flag(alloc)?;
+    let sevens = filling(7, again(&first)?, again(&second)?, faults);
+    kits_of(alloc, sevens, filling(5, second, first, faults))
+}
+
+/// Whether the two fills run where their bodies wait for each other.
+fn both_run<R: Threads + Wait + Sync>(rt: &R, alloc: Global) -> Result<bool, Fail> {
+    let accepted = accepted(alloc, TWO_FILLS)?;
+    let kits = two_that_meet(alloc, false)?;
+    run_leaves(
+        rt,
+        alloc,
+        &accepted,
+        kits,
+        &OpenGate,
+        &[7, 7, 7, 7, 5, 5, 5, 5],
+    )
 }
 
 #[test]
 fn bodies_run_side_by_side(rt: HostRuntime) -> Result<(), Fail> {
-    let accepted = accepted(rt.alloc(), TWO_FILLS)?;
-    let kits = good(two_that_meet(rt.alloc(), false))?;
-    let Ok(outcome) = run_with(&rt, rt.alloc(), &accepted, kits, &OpenGate)? else {
-        return Err("both flags are up".into());
-    };
-    assert!(rt; outcome.memory.as_slice() == [7u8, 7, 7, 7, 5, 5, 5, 5].as_slice());
+    assert!(rt; both_run(&rt, rt.alloc())?);
     Ok(())
+}
+
+/// What is told where both fault.
+fn both_fault<R: Threads + Wait + Sync>(rt: &R, alloc: Global) -> Result<Told, Fail> {
+    let accepted = accepted(alloc, TWO_FILLS)?;
+    let kits = two_that_meet(alloc, true)?;
+    run_faults(rt, alloc, &accepted, kits)
 }
 
 #[test]
 fn of_two_faults_the_least_packet_is_told(rt: HostRuntime) -> Result<(), Fail> {
-    let accepted = accepted(rt.alloc(), TWO_FILLS)?;
-    let kits = good(two_that_meet(rt.alloc(), true))?;
-    let Err(
-        RunFault::Kernel {
-            packet,
-            home,
-            lost,
-            found,
-        },
-    ) = run_with(&rt, rt.alloc(), &accepted, kits, &OpenGate)?
-    else {
-        return Err("both bodies fail".into());
-    };
-    assert_eq!(rt; (packet, home, lost, found.len()), (0, 1, 0, 2));
+    assert!(rt; same(both_fault(&rt, rt.alloc())?, (0, 1, 0, 2)));
     Ok(())
 }
