@@ -1,29 +1,14 @@
-//! Tests of the crates below by examples from outside: each public call once with ample memory, and what it refuses.
+//! Tests of the crates by examples from outside: each public call once with ample memory, and what it refuses.
 //!
-//! They stand in one crate, so that the gate proves the crates that they are of only once.
+//! They stand in one crate, so that the gate proves the crates that they are of only once, and loads their contracts
+//! only once.
 #![tactic(auto)]
 
 #[cfg(test)]
-mod audits;
-#[cfg(test)]
 mod calls;
 #[cfg(test)]
-mod certificates;
+mod lower;
 #[cfg(test)]
-mod checks;
+mod runs;
 #[cfg(test)]
-mod engines;
-#[cfg(test)]
-mod fences;
-#[cfg(test)]
-mod jobs;
-#[cfg(test)]
-mod machines;
-#[cfg(test)]
-mod orders;
-#[cfg(test)]
-mod readers;
-#[cfg(test)]
-mod timelines;
-#[cfg(test)]
-mod witnesses;
+mod upper;

@@ -1,0 +1,57 @@
+use crate::calls::good;
+use crate::upper::jobs::job_of;
+use hq_audit::{AuditNo, audit};
+use hq_cert::{Certificate, Fences, Rule};
+use hq_finding::{Kind, Why};
+use std::alloc::Global;
+use std::test::*;
+
+// The audit of a text, without a contract, so that no test is proved over all that a certificate and a refusal promise.
+
+/// The certificate of a job's text.
+fn certificate_of(alloc: Global, text: &[u8]) -> Result<Certificate, Fail> {
+    let job = job_of(alloc, text)?;
+    good(audit(alloc, &job))
+}
+
+/// Why a job's text has none.
+fn refusal_of(alloc: Global, text: &[u8]) -> Result<Option<AuditNo>, Fail> {
+    let job = job_of(alloc, text)?;
+    Ok(audit(alloc, &job).err())
+}
+
+#[test]
+fn two_stores_with_a_barrier_bit(rt: HostRuntime) -> Result<(), Fail> {
+    let text =
+        b"hsaq 1\nagent a\nbuffer b 16 16\nqueue q a 4\npacket 04150080000000001000000000000000000000000000000000000000000000000000000000000000000000000000000000000000000000000000000000000000\npacket 04150080000000001000000000000000000000000000000000000000000000000000000000000000000000000000000000000000000000000000000000000000\nend";
+    let certificate = certificate_of(rt.alloc(), text)?;
+    assert_eq!(rt; certificate.order(), [0, 1].as_slice());
+    let [line] = certificate.lines() else {
+        return Err("one line".into());
+    };
+    assert!(rt; line.p == 0 && line.r == 1);
+    assert!(rt; matches!(&line.rule, Rule::Bit(1)));
+    let [pair] = certificate.pairs() else {
+        return Err("one pair line".into());
+    };
+    assert!(rt; pair.p == 0 && pair.r == 1);
+    let Fences::WriteWrite { x, from, on } = &pair.fences else {
+        return Err("two writes".into());
+    };
+    assert!(rt; *x == 0 && *on == 0);
+    assert_eq!(rt; from.number(), None);
+    Ok(())
+}
+
+#[test]
+fn two_stores_in_no_order(rt: HostRuntime) -> Result<(), Fail> {
+    let text =
+        b"hsaq 1\nagent a\nbuffer b 16 16\nqueue q a 4\npacket 04140080000000001000000000000000000000000000000000000000000000000000000000000000000000000000000000000000000000000000000000000000\npacket 04140080000000001000000000000000000000000000000000000000000000000000000000000000000000000000000000000000000000000000000000000000\nend";
+    let Some(AuditNo::Conflict { p, r, kind, why }) = refusal_of(rt.alloc(), text)? else {
+        return Err("no conflict".into());
+    };
+    assert!(rt; p == 0 && r == 1);
+    assert_eq!(rt; kind, Kind::WriteWrite);
+    assert_eq!(rt; why, Why::Unordered);
+    Ok(())
+}

@@ -1,0 +1,140 @@
+use crate::calls::good;
+use crate::upper::readers::Pieces;
+use hq_cert::Certificate;
+use hq_certread::{CertFault, CertReason, ReadFault, parse, read};
+use hq_certtext::print;
+use std::alloc::Global;
+use std::process::Abort;
+use std::test::*;
+
+/// Every form of line, in the form that is printed.
+const TEXT: &[u8] =
+    b"hsac 2\norder 0 1 2 3\nline 0 0 1 bit 0\nline 1 1 2 queue\nline 2 2 3 and 0\nline 3 0 2 or = 1\nline 4 0 2 through 0 1\npair 0 1 rw 0\npair 0 3 ww 0 = 2\npair 1 3 wr 1 2 = 1 2\npair 0 3 wwc 0 1 = 0 2\npair 0 3 wrc 0 1 2 3 = 0 1 2 =\nend\n";
+
+// Calls without contracts, so that no test is proved over the bytes of its texts.
+
+/// The certificate of a text.
+fn certificate_of(alloc: Global, text: &[u8]) -> Result<Certificate, Fail> {
+    good(parse(alloc, text))
+}
+
+/// The fault of a text, if it has one.
+fn fault_of(alloc: Global, text: &[u8]) -> Option<CertFault> {
+    parse(alloc, text).err()
+}
+
+/// The certificate of a text that comes in pieces of so many bytes, and fails after so many turns.
+fn read_in(
+    alloc: Global,
+    text: &[u8],
+    len: usize,
+    turns: usize,
+) -> Result<Certificate, ReadFault<CertFault>> {
+    read(alloc, &mut Pieces::new(text, len, turns))
+}
+
+/// The text of a certificate.
+fn printed(alloc: Global, certificate: &Certificate) -> Result<Vec<u8>, Fail> {
+    let mut text = Vec::new(alloc);
+    good(print(alloc, certificate, &mut text))?;
+    Ok(text)
+}
+
+#[test]
+fn printed_again(rt: HostRuntime) -> Result<(), Fail> {
+    let certificate = certificate_of(rt.alloc(), TEXT)?;
+    assert_eq!(rt; certificate.order().len(), 4);
+    assert_eq!(rt; certificate.lines().len(), 5);
+    assert_eq!(rt; certificate.pairs().len(), 5);
+    let text = printed(rt.alloc(), &certificate)?;
+    assert!(rt; text.as_slice() == TEXT);
+    Ok(())
+}
+
+#[test]
+fn plain_head(rt: HostRuntime) -> Result<(), Fail> {
+    let certificate = certificate_of(rt.alloc(), b"hsac 2\norder\nend")?;
+    let text = printed(rt.alloc(), &certificate)?;
+    assert!(rt; text.as_slice() == b"hsac 1\norder\nend\n".as_slice());
+    Ok(())
+}
+
+fn is_fault(rt: &impl Abort, alloc: Global, text: &[u8], line: usize, reason: CertReason) {
+    assert!(rt; fault_of(alloc, text) == Some(CertFault { line, reason }));
+}
+
+#[test]
+fn faults(rt: HostRuntime) {
+    for (text, line, reason) in [
+        (b"".as_slice(), 1, CertReason::NoEnd),
+        (b"hsac 1\norder", 3, CertReason::NoEnd),
+        (b"hsac 3\n", 1, CertReason::Word),
+        (b"hsac 1\norder\nend\n\n", 4, CertReason::Word),
+        (b"hsac 1\norder \nend\n", 2, CertReason::Number),
+        (
+            b"hsac 1\norder\npair 0 1 wwc 0 0 = 0 0\n",
+            3,
+            CertReason::Word,
+        ),
+        (b"hsac 1\norder\nline 1 0 1 bit 0\n", 3, CertReason::Number),
+        (
+            b"hsac 1\norder\nline 0 0 1 through = 0\n",
+            3,
+            CertReason::Number,
+        ),
+        (
+            b"hsac 1\norder\nline 0 0 4294967296 or 0\n",
+            3,
+            CertReason::Number,
+        ),
+        (b"hsac 1\norder\nline 0 0 1 or 0\n", 3, CertReason::Citation),
+        (
+            b"hsac 1\norder\npair 0 1 rw 0\nend\n",
+            3,
+            CertReason::Citation,
+        ),
+    ] {
+        is_fault(&rt, rt.alloc(), text, line, reason);
+    }
+}
+
+#[test]
+fn read_in_pieces(rt: HostRuntime) -> Result<(), Fail> {
+    for len in 1..40 {
+        let certificate = good(read_in(rt.alloc(), TEXT, len, 1000))?;
+        let text = printed(rt.alloc(), &certificate)?;
+        assert!(rt; text.as_slice() == TEXT);
+    }
+    Ok(())
+}
+
+fn is_read_fault(
+    rt: &impl Abort,
+    alloc: Global,
+    turns: usize,
+    text: &[u8],
+    fault: ReadFault<CertFault>,
+) {
+    match read_in(alloc, text, 3, turns) {
+        Ok(_) => assert!(rt; false),
+        Err(found) => assert!(rt; found == fault),
+    }
+}
+
+#[test]
+fn read_faults(rt: HostRuntime) {
+    let word = ReadFault::Text(CertFault {
+        line: 1,
+        reason: CertReason::Word,
+    });
+    is_read_fault(&rt, rt.alloc(), 1000, b"hsac 3\norder\nend\n", word);
+    for turns in 0..6 {
+        is_read_fault(
+            &rt,
+            rt.alloc(),
+            turns,
+            b"hsac 3\norder\nend\n",
+            ReadFault::Reader,
+        );
+    }
+}
