@@ -83,7 +83,8 @@ fn write_chain(
     requires entered { AllEntered lines.now }
     requires released { ReleasesBefore before.now p r (release.Chained chain.x chain.x2) }
     ensures { IfSome result
-        (λ c. FencesHold before.now (lines_of lines.now) p r (ForWriteWriteChained c.x c.x2 (cited c.from) c.link c.on)) }
+        (λ c. FencesHold before.now (lines_of lines.now) p r
+        (ForWriteWriteChained c.x c.x2 (cited c.from) c.link c.on)) }
 {
     let from = cite(lines, p, chain.x as usize)?;
     let link = lines.known(chain.x as usize, chain.x2 as usize)?;

@@ -1,7 +1,8 @@
 //! Lines read.
 
 ghost use Rattle.std.specs.Prelude.{map};
-ghost use Rattle.hq_certread.specs.LineTests.{bit_said, and_said, or_said, through_of, through_said, rule_said, line_said};
+ghost use Rattle.hq_certread.specs.LineTests.{bit_said, and_said, or_said, through_of, through_said, rule_said};
+ghost use Rattle.hq_certread.specs.LineTests.{line_said};
 ghost use Rattle.hq_certread.specs.LineTests as tests;
 ghost use Rattle.hq_certread.specs.Gives.{Gives};
 ghost use Rattle.hq_cert.specs.View.{rule_of, line_of};

@@ -42,10 +42,15 @@ impl Model for Copies {
 
     ghost coded = { copies_code };
 
-    ghost view = { λ c. record
-        { memory = c.memory.items; agents = c.agents.items; lanes = c.lanes.items; lane_agents = c.lane_agents.items } };
+    ghost view = { λ c. record {
+      memory = c.memory.items;
+      agents = c.agents.items;
+      lanes = c.lanes.items;
+      lane_agents = c.lane_agents.items;
+    } };
 
-    ghost invariant = { λ c. IsCopies c.memory.items c.agents.items c.lanes.items c.lane_agents.items c.holding c.marked };
+    ghost invariant = { λ c. IsCopies c.memory.items c.agents.items c.lanes.items c.lane_agents.items
+        c.holding c.marked };
 }
 
 impl Copies {

@@ -138,7 +138,8 @@ impl State {
         requires packet { packet < length self.old.stores }
         requires there { entry < length (stores_of self.old packet).stored }
         requires fresh { slice_index_or (stores_of self.old packet).stored entry false ≡ false }
-        ensures { self.new ≡ with_stores self.old packet (with_byte_stored (stores_of self.old packet) entry) self.old.copies }
+        ensures { self.new ≡ with_stores self.old packet (with_byte_stored (stores_of self.old packet) entry)
+            self.old.copies }
     {
         self.stores[packet].set(entry);
     }

@@ -19,7 +19,8 @@ use Rattle.hq_runner.specs.Lists.{IsProgram}
 -- packet's, and so many more it had.
 abbrev pub IsCounted : List Placed → RunFault → Type 0
 IsCounted packets (fault.Kernel packet home lost found) = (packet < length packets)
-    × (home ≡ count_by (λ one. one.packet == packet) found.items) × (home + lost ≡ pieces_of (work_of packets packet).task)
+    × (home ≡ count_by (λ one. one.packet == packet) found.items)
+    × (home + lost ≡ pieces_of (work_of packets packet).task)
 IsCounted packets other = Unit {0}
 
 -- No processor met a fault.

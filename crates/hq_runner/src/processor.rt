@@ -35,8 +35,8 @@ fn run_body(
 ) -> Result<Vec<Piece>, Fault>
     requires { AreFor work pieces.items }
     ensures worked { IfOk result (λ back. IsWorked work back.items) }
-    ensures task { (value_of (λ b. kernel (b.vtable, b.value)) (λ b. service (b.vtable, b.value)) body.new).task ≡ (value_of
-        (λ b. kernel (b.vtable, b.value)) (λ b. service (b.vtable, b.value)) body.old).task }
+    ensures task { (value_of (λ b. kernel (b.vtable, b.value)) (λ b. service (b.vtable, b.value)) body.new).task
+        ≡ (value_of (λ b. kernel (b.vtable, b.value)) (λ b. service (b.vtable, b.value)) body.old).task }
     ensures ran { OnOk result
         ((value_of (λ b. kernel (b.vtable, b.value)) (λ b. service (b.vtable, b.value)) body.new).ran ≡ true) }
 {
@@ -60,8 +60,8 @@ pub fn do_work<R: Wait, G: Gate>(
     desk: &mut Desk,
 ) -> Result<(), Fault>
     ensures list { OnOk result (desk.new.events.items ≡ desk.old.events.items ++ work_events placed.now.queue packet) }
-    ensures task { (value_of (λ b. kernel (b.vtable, b.value)) (λ b. service (b.vtable, b.value)) body.new).task ≡ (value_of
-        (λ b. kernel (b.vtable, b.value)) (λ b. service (b.vtable, b.value)) body.old).task }
+    ensures task { (value_of (λ b. kernel (b.vtable, b.value)) (λ b. service (b.vtable, b.value)) body.new).task
+        ≡ (value_of (λ b. kernel (b.vtable, b.value)) (λ b. service (b.vtable, b.value)) body.old).task }
     ensures ran { OnOk result
         ((value_of (λ b. kernel (b.vtable, b.value)) (λ b. service (b.vtable, b.value)) body.new).ran ≡ true) }
 {
