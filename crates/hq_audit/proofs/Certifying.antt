@@ -15,7 +15,7 @@ use Rattle.hq_model.specs.Certificate.{Certificate, CertHolds, HasPairs}
 use Rattle.hq_audit.specs.declared.fault.AuditNo.{AuditNo}
 use Rattle.hq_audit.specs.declared.fault.AuditNo.TheVariants as audit
 use Rattle.hq_audit.specs.declared.directed.Unshown.{Unshown}
-use Rattle.hq_derive.specs.Kept.{AllFollow}
+use Rattle.hq_derive.specs.Gathered.{AllFollow}
 use Rattle.hq_audit.specs.Paired.{AllHold, HasAll, AllPaired}
 use Rattle.hq_audit.specs.Refused.{IsUnshown, AllShown, IsFirstUnshown, IsRefused, AllRefused, no_of_order}
 use Rattle.hq_audit.specs.Lawful.{OrderedIsNotRefused}

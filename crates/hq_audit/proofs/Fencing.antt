@@ -3,7 +3,7 @@ use Rattle.std.proofs.Common.{ℕ, List, length, Option, Some, None}
 use Rattle.hq_model.specs.Job.{Job}
 use Rattle.hq_model.specs.Certificate.{Line, Fences, FencesHold, ReleaseHolds, AcquireHolds}
 use Rattle.hq_model.specs.Certificate.Fences.{ForReadWrite, ForWriteWrite, ForWriteRead, ForWriteWriteChained, ForWriteReadChained}
-use Rattle.hq_derive.specs.Kept.{Grown}
+use Rattle.hq_derive.specs.Gathered.{Grown}
 use Rattle.hq_derive.proofs.Growing.{says_more, cites_more}
 
 pub release_more : (job : Job) (old new : List Line) (p r x x2 : ℕ) (link : Option ℕ) → Grown old new → ReleaseHolds job old p r x x2 link → ReleaseHolds job new p r x x2 link

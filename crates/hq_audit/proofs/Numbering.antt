@@ -16,7 +16,7 @@ use Rattle.hq_model.specs.Fence.{Conflict}
 use Rattle.hq_model.specs.Certificate as model
 use Rattle.hq_model.specs.Certificate.{FencesHold, kind_of}
 use Rattle.hq_derive.specs.declared.lines.Lines.{Lines}
-use Rattle.hq_derive.specs.Kept.{lines_of, Kept, Goes}
+use Rattle.hq_derive.specs.Gathered.{lines_of, AreSound, Goes}
 use Rattle.hq_audit.specs.Drafted.{Drafted, AllDrafted}
 use Rattle.hq_audit.specs.Paired.{Fenced, AllHold, HasPairIn, HasAll, AllPaired, IsSameHead, SameHeads}
 use Rattle.hq_derive.proofs.Adding.{goes_same, goes_more}
@@ -37,7 +37,7 @@ pub record CitedUpto (job : Job) (old new : Lines) (first now : List Pair) (i : 
 heads_same : (pairs : List Pair) → SameHeads pairs pairs
 heads_same pairs = record { len = refl; each = λ k d. record { first = refl; second = refl; kind_is = refl } }
 
-pub cited_start : (job : Job) (l : Lines) (pairs : List Pair) → Kept job l → CitedUpto job l l pairs pairs 0
+pub cited_start : (job : Job) (l : Lines) (pairs : List Pair) → AreSound job l → CitedUpto job l l pairs pairs 0
 cited_start job l pairs kept = record {
   goes = goes_same job l kept;
   heads = heads_same pairs;

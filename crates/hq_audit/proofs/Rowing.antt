@@ -16,7 +16,7 @@ use Rattle.hq_model.specs.Certificate.{FencesHold}
 use Rattle.hq_audit.specs.Paired.{pairs_of, Fenced, Longer, HasPairIn, HasAll, AllHold, RowPaired, RowsPaired, AllPaired, SameHeads}
 use Rattle.hq_cert.specs.declared.certificate.Fences.{Fences}
 use Rattle.hq_derive.specs.declared.lines.Lines.{Lines}
-use Rattle.hq_derive.specs.Kept.{lines_of, Goes, Kept}
+use Rattle.hq_derive.specs.Gathered.{lines_of, Goes, AreSound}
 use Rattle.hq_audit.specs.Rowed.{RowsBetween, DraftsRows, IsWhole, CitesRows, AllMayCite, Holds}
 use Rattle.hq_derive.proofs.Adding.{goes_same}
 use Rattle.hq_audit.proofs.Pairing.{one_later}
@@ -46,7 +46,7 @@ pub fenced_by : (job : Job) (old new : Lines) (kind : Conflict) (p r : ℕ) (fen
 fenced_by job old new kind p r fences goes h = record { goes = goes; hold = h.hold; kind_is = h.kind_is }
 
 -- and by lines that stay as they are
-pub fenced : (job : Job) (l : Lines) (kind : Conflict) (p r : ℕ) (fences : Fences) → Kept job l → Holds job (lines_of l) kind p r fences → Fenced job l l kind p r fences
+pub fenced : (job : Job) (l : Lines) (kind : Conflict) (p r : ℕ) (fences : Fences) → AreSound job l → Holds job (lines_of l) kind p r fences → Fenced job l l kind p r fences
 fenced job l kind p r fences kept h = fenced_by job l l kind p r fences (goes_same job l kept) h
 
 -- ---- one part behind another

@@ -14,7 +14,7 @@ use Rattle.hq_fence.specs.declared.shown.Acquire.{Acquire}
 use Rattle.hq_audit.specs.declared.citing.CitedRelease.{CitedRelease}
 use Rattle.hq_audit.specs.declared.citing.CitedAcquire.{CitedAcquire}
 use Rattle.hq_derive.specs.declared.lines.Lines.{Lines}
-use Rattle.hq_derive.specs.Kept.{lines_of, Goes}
+use Rattle.hq_derive.specs.Gathered.{lines_of, Goes}
 
 -- a release of p, with what it cites: that p is x or before it, and that x is x2 or before it
 pub record ReleaseCited (job : Job) (lines : List model.Line) (p r : ℕ) (release : Release)

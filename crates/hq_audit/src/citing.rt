@@ -9,7 +9,7 @@ ghost use Rattle.hq_cert.specs.View.{cited, fences_of, pair_of};
 ghost use Rattle.hq_fence.specs.Judgement.{IsRelease, IsAcquire, ReleasesBefore, ReleasesToAcquire};
 ghost use Rattle.hq_fence.specs.declared.shown.Release.TheVariants as release;
 ghost use Rattle.hq_packet.specs.declared.packet.Scope.TheVariants as scope;
-ghost use Rattle.hq_derive.specs.Kept.{lines_of, AllEntered, Kept};
+ghost use Rattle.hq_derive.specs.Gathered.{lines_of, AllEntered, AreSound};
 ghost use Rattle.hq_audit.specs.Drafted.{acquire_by, release_by, Drafted, AllDrafted};
 ghost use Rattle.hq_audit.specs.Paired.{pairs_of, ReleaseCited, AcquireCited, AllHold, SameHeads};
 ghost use Rattle.hq_audit.specs.Rowed.{Holds, AllMayDraft, AllMayCite, CitesPart, CitesRows, DraftsRows};
@@ -277,7 +277,7 @@ pub fn cite_fences(lines: &Lines, before: &Before, p: usize, r: usize, fences: &
 
 /// Gives each pair line the numbers of the lines that it cites, or answers that one of these isn't there.
 fn cite_known(pairs: &mut [Pair], lines: &Lines, before: &Before) -> bool
-    requires kept { Kept before.now lines.now }
+    requires kept { AreSound before.now lines.now }
     requires drafted { AllDrafted before.now (map pair_of pairs.old) }
     ensures hold { IsTrue result → AllHold before.now (lines_of lines.now) (map pair_of pairs.new) }
     ensures heads { IsTrue result → SameHeads pairs.old pairs.new }
@@ -293,7 +293,7 @@ fn cite_known(pairs: &mut [Pair], lines: &Lines, before: &Before) -> bool
 
 /// The pair lines with the numbers of the lines that they cite, if these are there.
 fn cite_drafts(lines: &Lines, before: &Before, drafts: Drafts) -> Option<Vec<Pair>>
-    requires kept { Kept before.now lines.now }
+    requires kept { AreSound before.now lines.now }
     requires drafted { AllDrafted before.now (pairs_of drafts.pairs) }
     ensures { (a b : ℕ) → DraftsRows before.now a b drafts.pairs
         → IfSome result (CitesRows before.now (lines_of lines.now) a b) }
@@ -308,7 +308,7 @@ fn cite_drafts(lines: &Lines, before: &Before, drafts: Drafts) -> Option<Vec<Pai
 
 /// Those of a part, if it is there.
 fn cite_part(lines: &Lines, before: &Before, part: Option<Drafts>) -> Option<Vec<Pair>>
-    requires kept { Kept before.now lines.now }
+    requires kept { AreSound before.now lines.now }
     requires drafted { IfSome part (λ d. AllDrafted before.now (pairs_of d.pairs)) }
     ensures { CitesPart before.now (lines_of lines.now) part result }
 {
@@ -325,7 +325,7 @@ pub fn cite_wide<R: Threads + Sync>(
     before: &Before,
     parts: Vec<Option<Drafts>>,
 ) -> Option<Vec<Option<Vec<Pair>>>>
-    requires kept { Kept before.now lines.now }
+    requires kept { AreSound before.now lines.now }
     requires drafts { AllMayDraft before.now parts.items }
     ensures each { IfSome result (λ all. AllMayCite before.now (lines_of lines.now) all.items) }
     ensures count { IfSome result (λ all. length all.items ≡ length parts.items) }
@@ -334,7 +334,7 @@ pub fn cite_wide<R: Threads + Sync>(
         rt,
         parts,
         &|part: Option<Drafts>| -> Option<Vec<Pair>>
-            requires { Kept before.now lines.now × IfSome part (λ d. AllDrafted before.now (pairs_of d.pairs)) }
+            requires { AreSound before.now lines.now × IfSome part (λ d. AllDrafted before.now (pairs_of d.pairs)) }
             ensures { CitesPart before.entry.now (lines_of lines.entry.now) part result }
         { cite_part(lines, before, part) },
     );

@@ -3,7 +3,7 @@
 ghost use Rattle.std.specs.Prelude.{IfOk, OnOk, map};
 ghost use Rattle.hq_model.specs.Certificate.{kind_of};
 ghost use Rattle.hq_cert.specs.View.{fences_of, pair_of};
-ghost use Rattle.hq_derive.specs.Kept.{lines_of, Goes, Kept};
+ghost use Rattle.hq_derive.specs.Gathered.{lines_of, Goes, AreSound};
 ghost use Rattle.hq_audit.specs.Drafted.{Drafted, AllDrafted};
 ghost use Rattle.hq_audit.specs.Paired.{Fenced, AllHold, SameHeads};
 
@@ -36,7 +36,7 @@ fn add_line(
     p: usize,
     r: usize,
 ) -> Result<(), AllocError>
-    requires kept { Kept before.now lines.old }
+    requires kept { AreSound before.now lines.old }
     ensures { OnOk result (Goes before.now lines.old lines.new) }
 {
     if before.holds(p, r) {
@@ -54,7 +54,7 @@ fn add_from(
     p: usize,
     packets: &[usize],
 ) -> Result<(), AllocError>
-    requires kept { Kept before.now lines.old }
+    requires kept { AreSound before.now lines.old }
     ensures { OnOk result (Goes before.now lines.old lines.new) }
 {
     for r in packets {
@@ -71,7 +71,7 @@ fn add_between(
     before: &Before,
     packets: &[usize],
 ) -> Result<(), AllocError>
-    requires kept { Kept before.now lines.old }
+    requires kept { AreSound before.now lines.old }
     ensures { OnOk result (Goes before.now lines.old lines.new) }
 {
     for p in packets {
@@ -91,7 +91,7 @@ fn cite_anew(
     r: usize,
     fences: &mut Fences,
 ) -> Result<(), AllocError>
-    requires kept { Kept before.now lines.old }
+    requires kept { AreSound before.now lines.old }
     requires drafted { Drafted before.now p r (fences_of fences.old) }
     ensures { OnOk result
         (Fenced before.now lines.old lines.new (kind_of (fences_of fences.old)) p r fences.new) }
@@ -115,7 +115,7 @@ fn cite(
     r: usize,
     fences: &mut Fences,
 ) -> Result<(), AllocError>
-    requires kept { Kept before.now lines.old }
+    requires kept { AreSound before.now lines.old }
     requires drafted { Drafted before.now p r (fences_of fences.old) }
     ensures { OnOk result
         (Fenced before.now lines.old lines.new (kind_of (fences_of fences.old)) p r fences.new) }
@@ -133,7 +133,7 @@ pub fn cite_all(
     alloc: Global,
     before: &Before,
 ) -> Result<(), AllocError>
-    requires kept { Kept before.now lines.old }
+    requires kept { AreSound before.now lines.old }
     requires drafted { AllDrafted before.now (map pair_of pairs.old) }
     ensures goes { OnOk result (Goes before.now lines.old lines.new) }
     ensures hold { OnOk result (AllHold before.now (lines_of lines.new) (map pair_of pairs.new)) }

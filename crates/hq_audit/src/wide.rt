@@ -5,7 +5,7 @@ ghost use Rattle.hq_job.specs.Plan.{plan};
 ghost use Rattle.hq_model.specs.Certificate.{CertHolds};
 ghost use Rattle.hq_model.specs.Fence.{Ordered};
 ghost use Rattle.hq_model.specs.Order.{OrderList};
-ghost use Rattle.hq_derive.specs.Kept.{lines_of, Kept};
+ghost use Rattle.hq_derive.specs.Gathered.{lines_of, AreSound};
 ghost use Rattle.hq_audit.specs.Paired.{pairs_of, AllHold, RowsPaired};
 ghost use Rattle.hq_parts.specs.Parts.{AreParts};
 ghost use Rattle.hq_audit.specs.Refused.{IsRefused, AllRefused};
@@ -90,7 +90,7 @@ fn joined(
 
 /// The lines that are needed, if there is memory for them.
 fn lines_if(alloc: Global, before: &Before, needs: Needs) -> Option<Lines>
-    ensures { IfSome result (Kept before.now) }
+    ensures { IfSome result (AreSound before.now) }
 {
     match lines_for(alloc, before, needs) {
         Ok(lines) => Some(lines),

@@ -16,7 +16,7 @@ use Rattle.hq_board.specs.declared.entry.View.{View}
 use Rattle.hq_board.specs.declared.known.Known.{Known}
 use Rattle.hq_board.specs.Calls.{AreInOrder, Closes}
 use Rattle.hq_board.specs.Told.{IsTold}
-use Rattle.hq_board.specs.Rule.{Fits, Kept}
+use Rattle.hq_board.specs.Rule.{Fits, HasHistory}
 
 start_count : (job : JobValue) → length (plan job).starts ≡ length job.signals
 start_count job = length-map job.signals (λ s. s.start)
@@ -65,7 +65,7 @@ index_is (y ∷ xs) (suc i) x e = index_is xs i x e
 -- ---- the end
 
 -- what the words say of the signals at the end of a history
-pub closes : (job : model.Job) (words values : List ℕ) (views : List View) → Valid job → (k : Kept job words views) → length values ≡ length job.starts → ((s : ℕ) → s < length values → slice_index values s ≡ slice_index words s) → IsTold job k.m → Closes job values k.m
+pub closes : (job : model.Job) (words values : List ℕ) (views : List View) → Valid job → (k : HasHistory job words views) → length values ≡ length job.starts → ((s : ℕ) → s < length values → slice_index values s ≡ slice_index words s) → IsTold job k.m → Closes job values k.m
 closes job words values views valid k count same told = record {
   legal = k.legal;
   right = k.right;

@@ -17,7 +17,7 @@ use Rattle.hq_board.specs.declared.entry.Entry.{Entry}
 use Rattle.hq_board.specs.declared.entry.Entry.TheVariants.{DidLaunch, DidEnter, DidObserve, DidComplete, Looked}
 use Rattle.hq_board.specs.declared.entry.View.{View}
 use Rattle.hq_board.specs.History.{queue_of, next, after, May, MayLook, Sees, Legal, part, own_step, without_signal}
-use Rattle.hq_board.specs.Rule.{own_steps, Fits, Words, Deals, Kept, added, dealer, newcomer, seen, OwnStep, IsSettled}
+use Rattle.hq_board.specs.Rule.{own_steps, Fits, Words, Deals, HasHistory, added, dealer, newcomer, seen, OwnStep, IsSettled}
 use Rattle.hq_board.proofs.Settled.{settled_zero}
 use Rattle.hq_board.proofs.Histories.{part_here, part_else, Agree, agree_own, same_may, legal_part, kept_after, steps_room, signal_above}
 
@@ -37,8 +37,8 @@ may_after : (job : Job) (v : View) (x : Entry) (m : List Entry) → queue_of job
 may_after job v x m q e may = same_may job (after job v.log) (after job m) x (agree_with job v x m q e) may
 
 -- The entry of a seat comes at the history's end.
-pub grown : (job : Job) (words new : List ℕ) (views : List View) (id : ℕ) (v : View) (x : Entry) (k : Kept job words views) → get_elem? views id ≡ some v
-    → v.deals ≡ false → queue_of job x ≡ v.queue → May job (after job v.log) x → Sees job (after job k.m) x → Words job new (x ∷ k.m) → Kept job new (set views id (added v x))
+pub grown : (job : Job) (words new : List ℕ) (views : List View) (id : ℕ) (v : View) (x : Entry) (k : HasHistory job words views) → get_elem? views id ≡ some v
+    → v.deals ≡ false → queue_of job x ≡ v.queue → May job (after job v.log) x → Sees job (after job k.m) x → Words job new (x ∷ k.m) → HasHistory job new (set views id (added v x))
 grown job words new views id v x k at plain q may sees w = record {
   m = x ∷ k.m;
   legal = (may_after job v x k.m q (k.parts id v at) may, k.legal);
@@ -142,7 +142,7 @@ words_signal job words p s m n done near is w = record {
 -- ---- the three kinds of step
 
 abbrev pub kept_by : Job → State ℕ View → Type 0
-kept_by job s = Kept job s.words s.views
+kept_by job s = HasHistory job s.words s.views
 
 -- launch, enter, and a completion on no signal
 pub steps_own : (job : Job) → Fits job → (slots id : ℕ) (me : Me ℕ View) (x : Entry) (i : ℕ) → me.0.deals ≡ false → queue_of job x ≡ me.0.queue → own_step job x ≡ 1
@@ -202,15 +202,15 @@ steps_look job slots id me p slot s plain q may d near t k _ here wide = (added 
     value r f = ap (λ z. (after job k.m).signal z) (some_same (slice_get (packet job p).deps slot) s r d.signal f.signal) ∙ sym (k.words_right.signals s near)
 
     AfterLook : Entry → Type 0
-    AfterLook x = Kept job (set t.words s (slice_index t.words s)) (set t.views id (added me.0 x))
+    AfterLook x = HasHistory job (set t.words s (slice_index t.words s)) (set t.views id (added me.0 x))
 
     with_words : {x : Entry} → Words job t.words (x ∷ k.m) → Words job (set t.words s (slice_index t.words s)) (x ∷ k.m)
     with_words {x} w = subst (λ l. Words job l (x ∷ k.m)) (sym (set-get_or t.words s 0)) w
 
-    after_look : (slice_index t.words s ≡ 0) ⊎ (slice_index t.words s ≢ 0) → Kept job (set t.words s (slice_index t.words s)) (set t.views id (added me.0 (seen p slot (slice_index t.words s))))
-    after_look (inl e) = subst (λ x. Kept job (set t.words s (slice_index t.words s)) (set t.views id (added me.0 x))) (sym (cond-true (eqb (slice_index t.words s) 0) (DidObserve p slot) (Looked p slot (slice_index t.words s)) (eq-eqb (slice_index t.words s) 0 e)))
+    after_look : (slice_index t.words s ≡ 0) ⊎ (slice_index t.words s ≢ 0) → HasHistory job (set t.words s (slice_index t.words s)) (set t.views id (added me.0 (seen p slot (slice_index t.words s))))
+    after_look (inl e) = subst (λ x. HasHistory job (set t.words s (slice_index t.words s)) (set t.views id (added me.0 x))) (sym (cond-true (eqb (slice_index t.words s) 0) (DidObserve p slot) (Looked p slot (slice_index t.words s)) (eq-eqb (slice_index t.words s) 0 e)))
         (grown job t.words (set t.words s (slice_index t.words s)) t.views id me.0 (DidObserve p slot) k here plain q may (λ r f. value r f ∙ e) (with_words (words_same job t.words (DidObserve p slot) k.m refl (λ z. refl) k.words_right)))
-    after_look (inr e) = subst (λ x. Kept job (set t.words s (slice_index t.words s)) (set t.views id (added me.0 x))) (sym (cond-false (eqb (slice_index t.words s) 0) (DidObserve p slot) (Looked p slot (slice_index t.words s)) (ne_eqb (slice_index t.words s) 0 e)))
+    after_look (inr e) = subst (λ x. HasHistory job (set t.words s (slice_index t.words s)) (set t.views id (added me.0 x))) (sym (cond-false (eqb (slice_index t.words s) 0) (DidObserve p slot) (Looked p slot (slice_index t.words s)) (ne_eqb (slice_index t.words s) 0 e)))
         (grown job t.words (set t.words s (slice_index t.words s)) t.views id me.0 (Looked p slot (slice_index t.words s)) k here plain q may (omega arith, λ r f. value r f) (with_words (words_same job t.words (Looked p slot (slice_index t.words s)) k.m refl (λ z. refl) k.words_right)))
 
 -- ---- a new seat
@@ -307,7 +307,7 @@ one_view : (k : ℕ) (v : View) → get_elem? (dealer 0 ∷ []) k ≡ some v →
 one_view zero v e = (refl, some-injective (dealer 0) v e)
 one_view (suc k) v e = absurd (some-ne-none v (sym e))
 
-pub opens : (job : Job) (words : List ℕ) → words ≡ job.starts ++ replicate (length job.queues) 0 → Kept job words (dealer 0 ∷ [])
+pub opens : (job : Job) (words : List ℕ) → words ≡ job.starts ++ replicate (length job.queues) 0 → HasHistory job words (dealer 0 ∷ [])
 opens job words e = record {
   m = [];
   legal = tt;

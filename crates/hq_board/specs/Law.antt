@@ -9,7 +9,7 @@ use Rattle.hq_model.specs.Order.{Before}
 use Rattle.hq_board.specs.declared.entry.Entry.{Entry}
 use Rattle.hq_board.specs.declared.entry.View.{View}
 use Rattle.hq_board.specs.History.{after, Legal, Right, part}
-use Rattle.hq_board.specs.Rule.{Fits, Kept, own_steps}
+use Rattle.hq_board.specs.Rule.{Fits, HasHistory, own_steps}
 
 -- p's phase by the list of its own queue
 abbrev pub phase_by : Job → (ℕ → List Entry) → ℕ → Phase
@@ -43,6 +43,6 @@ pub record BoardRule (job : Job) (words : List ℕ) (lists : ℕ → List Entry)
 -- In every state that the rule allows, the words and the lists of all seats agree.
 abbrev pub RuleLaw : Type 0
 RuleLaw =
-    (job : Job) (words : List ℕ) (views : List View) → Fits job → Kept job words views
+    (job : Job) (words : List ℕ) (views : List View) → Fits job → HasHistory job words views
     → (lists : ℕ → List Entry) × BoardRule job words lists
     × ((k : ℕ) (v : View) → get_elem? views k ≡ some v → lists v.queue ≡ v.log)

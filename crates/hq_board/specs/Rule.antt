@@ -39,7 +39,7 @@ pub record Deals (job : Job) (views : List View) (m : List Entry) (k : ℕ) (v :
 
 -- One history, which its queues and signals allow, has the lists of all seats as its queues' parts, and the words
 -- are right after it.
-pub record Kept (job : Job) (words : List ℕ) (views : List View) : Type 0 where
+pub record HasHistory (job : Job) (words : List ℕ) (views : List View) : Type 0 where
   pub m : List Entry
   pub legal : Legal job m
   pub right : Right job m

@@ -10,9 +10,9 @@ pub struct ByJob;
 
 impl TableRule<u64, View, Job> for ByJob {
     ghost use Rattle.hq_job.specs.Plan.{plan};
-    ghost use Rattle.hq_board.specs.Rule.{Kept, dealer};
+    ghost use Rattle.hq_board.specs.Rule.{HasHistory, dealer};
 
-    ghost holds = { λ job s. Kept (plan job) s.words s.views };
+    ghost holds = { λ job s. HasHistory (plan job) s.words s.views };
 
     ghost first = { λ job. dealer 0 };
 }

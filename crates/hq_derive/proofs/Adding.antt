@@ -13,10 +13,10 @@ use Rattle.hq_model.specs.Certificate.{Says, Follows}
 use Rattle.std.specs.Prelude.{All}
 use Rattle.hq_derive.specs.declared.lines.Entry.{Entry}
 use Rattle.hq_derive.specs.declared.lines.Lines.{Lines}
-use Rattle.hq_derive.specs.Kept.{lines_of, AllEntered, AllFollow, EntrySays, Kept, Grown, Goes, Numbered}
+use Rattle.hq_derive.specs.Gathered.{lines_of, AllEntered, AllFollow, EntrySays, AreSound, Grown, Goes, Numbered}
 use Rattle.hq_derive.proofs.Growing.{grown_same, grown_more, grown_by, says_more, follows_more}
 
-pub goes_same : (job : Job) (l : Lines) → Kept job l → Goes job l l
+pub goes_same : (job : Job) (l : Lines) → AreSound job l → Goes job l l
 goes_same job l k = record { kept = k; grown = grown_same (lines_of l) }
 
 pub goes_more : (job : Job) (a b c : Lines) → Goes job a b → Goes job b c → Goes job a c
@@ -60,8 +60,8 @@ says_added old new p r rule k a = record {
   second = refl;
 }
 
-pub kept_added : (job : Job) (old new : Lines) (p r : ℕ) (rule : Rule) → Kept job old → Follows job (lines_of old) (length (lines_of old)) p r (rule_of rule)
-    → lines_of new ≡ lines_of old ++ line_by p r rule ∷ [] → (AllEntered old → AllEntered new) → Kept job new
+pub kept_added : (job : Job) (old new : Lines) (p r : ℕ) (rule : Rule) → AreSound job old → Follows job (lines_of old) (length (lines_of old)) p r (rule_of rule)
+    → lines_of new ≡ lines_of old ++ line_by p r rule ∷ [] → (AllEntered old → AllEntered new) → AreSound job new
 kept_added job old new p r rule kept f added entered = record {
   few = kept.few;
   follow = subst (AllFollow job) (sym added) (follow_more job (lines_of old) (line_by p r rule) kept.follow f);
@@ -72,7 +72,7 @@ kept_added job old new p r rule kept f added entered = record {
 entered_more : (old new : List model.Line) (entries : List Entry) → Grown old new → All (EntrySays old) entries → All (EntrySays new) entries
 entered_more old new entries g all = λ k d low. λ there. let e = slice_index_or entries k d in says_more old new (length old) (length new) (e.next - 1) e.p e.r g g.len (all k d low there)
 
-pub numbered_added : (job : Job) (old new : Lines) (p r : ℕ) (rule : Rule) (k : ℕ) → Kept job old → IsPacket job p → IsPacket job r
+pub numbered_added : (job : Job) (old new : Lines) (p r : ℕ) (rule : Rule) (k : ℕ) → AreSound job old → IsPacket job p → IsPacket job r
     → Follows job (lines_of old) (length (lines_of old)) p r (rule_of rule) → Added old new p r rule k → k + 1 < 2 ^ 32 → Numbered job old new p r k
 numbered_added job old new p r rule k kept a b f added small = record {
   goes = record {

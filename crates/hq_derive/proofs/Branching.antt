@@ -13,7 +13,7 @@ use Rattle.hq_model.specs.Certificate.Rule.{Or as OrRule, Through as ThroughRule
 use Rattle.hq_order.specs.Rounds.{ByOr}
 use Rattle.hq_derive.specs.declared.lines.Lines.{Lines}
 use Rattle.hq_derive.specs.Rests.{Below, ByBranch}
-use Rattle.hq_derive.specs.Kept.{lines_of, AllEntered, Grown, Goes, Numbered, CitesBranch, Branched, AllBranched}
+use Rattle.hq_derive.specs.Gathered.{lines_of, AllEntered, Grown, Goes, Numbered, CitesBranch, Branched, AllBranched}
 use Rattle.hq_derive.proofs.Growing.{zip_more, cites_more, says_more}
 use Rattle.hq_derive.proofs.Adding.{goes_more, numbered_added, numbered_from, line_by}
 

@@ -6,7 +6,7 @@ use Rattle.hq_job.proofs.Grouped.{get_before}
 use Rattle.hq_model.specs.Job.{Job, packet, Decrements}
 use Rattle.hq_model.specs.Certificate.{Line, Rule, Says, Cites, Follows, signals}
 use Rattle.hq_model.specs.Certificate.Rule.{Bit, Queue, And, Or, Through}
-use Rattle.hq_derive.specs.Kept.{Grown}
+use Rattle.hq_derive.specs.Gathered.{Grown}
 
 pub grown_same : (lines : List Line) → Grown lines lines
 grown_same lines = record { len = omega arith; lines = λ k line e. e }

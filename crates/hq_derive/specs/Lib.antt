@@ -1,3 +1,3 @@
 pub mod Rests
 pub mod Derived
-pub mod Kept
+pub mod Gathered

@@ -3,7 +3,7 @@
 ghost use Rattle.std.specs.Prelude.{All, IfOk, OnOk, ◌+◌, ◌<◌, ◌≤◌};
 ghost use Rattle.hq_model.specs.Job.{IsPacket};
 ghost use Rattle.hq_derive.specs.Derived.{AllDerived, IsDerived};
-ghost use Rattle.hq_derive.specs.Kept.{Kept};
+ghost use Rattle.hq_derive.specs.Gathered.{AreSound};
 
 use crate::grounds::rule_alone;
 use crate::lines::Lines;
@@ -22,9 +22,9 @@ fn add_one(
     p: usize,
     r: usize,
 ) -> Result<(), AllocError>
-    requires kept { Kept before.now lines.old }
+    requires kept { AreSound before.now lines.old }
     requires p_is { IsPacket before.now p }
-    ensures { OnOk result (Kept before.now lines.new) }
+    ensures { OnOk result (AreSound before.now lines.new) }
 {
     if r >= before.len() {
         return Ok(());
@@ -43,8 +43,8 @@ fn add_by_round(
     p: usize,
     r: usize,
 ) -> Result<(), AllocError>
-    requires { Kept before.now lines.old }
-    ensures { OnOk result (Kept before.now lines.new) }
+    requires { AreSound before.now lines.old }
+    ensures { OnOk result (AreSound before.now lines.new) }
 {
     if let Some(round) = before.round(p, r) {
         lines.numbered(alloc, before, round, p, r)?;
@@ -63,8 +63,8 @@ fn add_word(
 ) -> Result<(), AllocError>
     requires first { first + 64 ≤ WIDTH }
     requires p_is { IsPacket before.now p }
-    requires kept { Kept before.now lines.old }
-    ensures { OnOk result (Kept before.now lines.new) }
+    requires kept { AreSound before.now lines.old }
+    ensures { OnOk result (AreSound before.now lines.new) }
 {
     let mut rest = word;
     'each: while rest != 0 {
@@ -84,8 +84,8 @@ fn add_row(
     p: usize,
 ) -> Result<(), AllocError>
     requires p_is { IsPacket before.now p }
-    requires kept { Kept before.now lines.old }
-    ensures { OnOk result (Kept before.now lines.new) }
+    requires kept { AreSound before.now lines.old }
+    ensures { OnOk result (AreSound before.now lines.new) }
 {
     for place in 0..WORDS {
         let needed = lines.word(p * WORDS + place);
@@ -104,8 +104,8 @@ fn add_round(
     before: &Before,
     round: usize,
 ) -> Result<(), AllocError>
-    requires { Kept before.now lines.old }
-    ensures { OnOk result (Kept before.now lines.new) }
+    requires { AreSound before.now lines.old }
+    ensures { OnOk result (AreSound before.now lines.new) }
 {
     before.job().valid();
     for p in 0..before.len() {
@@ -122,9 +122,9 @@ fn add_line(
     round: usize,
     line: Derived,
 ) -> Result<(), AllocError>
-    requires kept { Kept before.now lines.old }
+    requires kept { AreSound before.now lines.old }
     requires derived { IsDerived before.now round line }
-    ensures { OnOk result (Kept before.now lines.new) }
+    ensures { OnOk result (AreSound before.now lines.new) }
 {
     let (p, r) = (line.p as usize, line.r as usize);
     let Some(m) = line.middle else {
@@ -142,9 +142,9 @@ fn add_derived(
     round: usize,
     derived: &[Derived],
 ) -> Result<(), AllocError>
-    requires kept { Kept before.now lines.old }
+    requires kept { AreSound before.now lines.old }
     requires derived { All (IsDerived before.now round) derived.now }
-    ensures { OnOk result (Kept before.now lines.new) }
+    ensures { OnOk result (AreSound before.now lines.new) }
 {
     for line in derived {
         add_line(lines, alloc, before, round, *line)?;
@@ -159,9 +159,9 @@ fn add_rounds(
     before: &Before,
     rounds: &[Derivations],
 ) -> Result<(), AllocError>
-    requires kept { Kept before.now lines.old }
+    requires kept { AreSound before.now lines.old }
     requires derived { All (AllDerived before.now) rounds.now }
-    ensures { OnOk result (Kept before.now lines.new) }
+    ensures { OnOk result (AreSound before.now lines.new) }
 {
     for behind in 0..rounds.len() {
         let derived = &rounds[rounds.len() - 1 - behind];
@@ -176,7 +176,7 @@ fn add_rounds(
 ///
 /// `AllocError` where there is no memory.
 pub fn lines_for(alloc: Global, before: &Before, needs: Needs) -> Result<Lines, AllocError>
-    ensures { IfOk result (Kept before.now) }
+    ensures { IfOk result (AreSound before.now) }
 {
     let mut needs = needs;
     let rounds = derive_all(alloc, &mut needs, before)?;

@@ -10,7 +10,7 @@ ghost use Rattle.hq_model.specs.Certificate.{Says, signals};
 ghost use Rattle.hq_model.specs.Order as order;
 ghost use Rattle.hq_order.specs.Rounds.{IsFirstWithin, Reaches, ByOr};
 ghost use Rattle.hq_derive.specs.Rests.{Below, ByMiddle, FollowsAlone};
-ghost use Rattle.hq_derive.specs.Kept.{items_of, lines_of, AllEntered, Kept, Numbered, Ruled, Branched, AllBranched};
+ghost use Rattle.hq_derive.specs.Gathered.{items_of, lines_of, AllEntered, AreSound, Numbered, Ruled, Branched, AllBranched};
 
 use crate::grounds::{Ground, branch_of, ground_of};
 use crate::needs::Needs;
@@ -76,7 +76,7 @@ impl Entry {
 impl Lines {
     /// No lines, with room for those that are needed.
     pub(crate) fn new(alloc: Global, before: &Before, needs: Needs) -> Result<Lines, AllocError>
-        ensures { IfOk result (λ l. Kept before.now l) }
+        ensures { IfOk result (λ l. AreSound before.now l) }
     {
         before.job().valid();
         let slots = Slots::new(alloc, needs)?;
@@ -170,11 +170,11 @@ impl Lines {
         r: usize,
         rule: Rule,
     ) -> Result<(), AllocError>
-        requires kept { Kept before.now self.old }
+        requires kept { AreSound before.now self.old }
         requires p_is { IsPacket before.now p }
         requires r_is { IsPacket before.now r }
         requires rule { FollowsAlone before.now p r rule }
-        ensures { OnOk result (Kept before.now self.new) }
+        ensures { OnOk result (AreSound before.now self.new) }
     {
         self.add(p, r, rule)?;
         Ok(())
@@ -193,7 +193,7 @@ impl Lines {
         p: usize,
         r: usize,
     ) -> Result<u32, AllocError>
-        requires kept { Kept before.now self.old }
+        requires kept { AreSound before.now self.old }
         requires before { order.Before before.now p r }
         ensures { IfOk result (λ k. Numbered before.now self.old self.new p r k) }
     {
@@ -214,7 +214,7 @@ impl Lines {
         p: usize,
         r: usize,
     ) -> Result<u32, AllocError>
-        requires kept { Kept before.now self.old }
+        requires kept { AreSound before.now self.old }
         requires first { IsFirstWithin before.now round p r }
         ensures { IfOk result (λ k. Numbered before.now self.old self.new p r k) }
     {
@@ -246,7 +246,7 @@ impl Lines {
         m: usize,
         r: usize,
     ) -> Result<Rule, AllocError>
-        requires kept { Kept before.now self.old }
+        requires kept { AreSound before.now self.old }
         requires middle { ByMiddle before.now round p r m }
         ensures { IfOk result (λ rule. Ruled before.now self.old self.new p r rule) }
     {
@@ -267,7 +267,7 @@ impl Lines {
         m: usize,
         r: usize,
     ) -> Result<u32, AllocError>
-        requires kept { Kept before.now self.old }
+        requires kept { AreSound before.now self.old }
         requires middle { ByMiddle before.now round p r m }
         ensures { IfOk result (λ k. Numbered before.now self.old self.new p r k) }
     {
@@ -285,7 +285,7 @@ impl Lines {
         p: usize,
         r: usize,
     ) -> Result<u32, AllocError>
-        requires kept { Kept before.now self.old }
+        requires kept { AreSound before.now self.old }
         requires below { Below before.now round p r }
         ensures { IfOk result (λ k. Numbered before.now self.old self.new p r k) }
     {
@@ -306,7 +306,7 @@ impl Lines {
         p: usize,
         r: usize,
     ) -> Result<Rule, AllocError>
-        requires kept { Kept before.now self.old }
+        requires kept { AreSound before.now self.old }
         requires first { IsFirstWithin before.now round p r }
         ensures { IfOk result (λ rule. Ruled before.now self.old self.new p r rule) }
     {
@@ -328,7 +328,7 @@ impl Lines {
         m: usize,
         r: usize,
     ) -> Result<Rule, AllocError>
-        requires kept { Kept before.now self.old }
+        requires kept { AreSound before.now self.old }
         requires middle { ByMiddle before.now round p r m }
         ensures { IfOk result (λ rule. Ruled before.now self.old self.new p r rule) }
     {
@@ -347,7 +347,7 @@ impl Lines {
         p: usize,
         r: usize,
     ) -> Result<Rule, AllocError>
-        requires kept { Kept before.now self.old }
+        requires kept { AreSound before.now self.old }
         requires p_is { IsPacket before.now p }
         requires either { ByOr before.now (Below before.now round) p r }
         ensures { IfOk result (λ rule. Ruled before.now self.old self.new p r rule) }
@@ -367,7 +367,7 @@ impl Lines {
         p: usize,
         slots: &[Option<u16>],
     ) -> Result<Vec<Citation>, AllocError>
-        requires kept { Kept before.now self.old }
+        requires kept { AreSound before.now self.old }
         requires p_is { IsPacket before.now p }
         requires each { (slot s : ℕ) → slice_get slots.now slot ≡ Some (Some s)
             → Reaches before.now (Below before.now round) p s }
@@ -393,7 +393,7 @@ impl Lines {
         p: usize,
         signal: u16,
     ) -> Result<Citation, AllocError>
-        requires kept { Kept before.now self.old }
+        requires kept { AreSound before.now self.old }
         requires p_is { IsPacket before.now p }
         requires reaches { Reaches before.now (Below before.now round) p signal }
         ensures { IfOk result (λ citation. Branched before.now self.old self.new p signal citation) }

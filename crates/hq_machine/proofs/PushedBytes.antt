@@ -12,7 +12,7 @@ use Rattle.hq_copies.specs.Copies.{CopiesValue, IsDirty, IsFirstDirty, NoneDirty
 use Rattle.hq_copies.specs.declared.fault.CopiesFault.{CopiesFault}
 use Rattle.hq_copies.specs.declared.fault.CopiesFault.TheVariants as copies_fault
 use Rattle.hq_machine.specs.Pushes.Holders.{Lanes, Agents}
-use Rattle.hq_machine.specs.Pushes.{Holders, maps_of, push_of, PushedBy, AllPushed, Within, Counts, Kept, dirty_of, Cleaned}
+use Rattle.hq_machine.specs.Pushes.{Holders, maps_of, push_of, PushedBy, AllPushed, Within, Counts, StaysWithin, dirty_of, Cleaned}
 
 -- ---- lists of numbers that pass a test
 
@@ -63,7 +63,7 @@ put_inside n f k l x was here p b d = elim (cases_eq b l) [
 pub record OnePush (h : Holders) (old : CopiesValue) (k b : ℕ) (new : CopiesValue) : Type 0 where
   pub value : ℕ
   pub maps : copies_of (maps_of h new) ≡ put2 (copies_of (maps_of h old)) k b (clean value)
-  pub kept : Kept old new
+  pub kept : StaysWithin old new
 
 lane_push : (old : CopiesValue) (p b value : ℕ) → p < length old.lanes → b < length old.memory → Within old → OnePush Lanes old p b (lane_pushed old p b value)
 lane_push old p b value l m within =
@@ -111,10 +111,10 @@ pub maps_count : (h : Holders) (old new : CopiesValue) → Counts old new → le
 maps_count Lanes old new c = c.lanes
 maps_count Agents old new c = c.agents
 
-pub kept_same : (c : CopiesValue) → Within c → Kept c c
+pub kept_same : (c : CopiesValue) → Within c → StaysWithin c c
 kept_same c within = record { counts = record { memory = refl; agents = refl; lanes = refl; lane_agents = refl }; within = within }
 
-pub kept_on : (old mid new : CopiesValue) → Kept old mid → Kept mid new → Kept old new
+pub kept_on : (old mid new : CopiesValue) → StaysWithin old mid → StaysWithin mid new → StaysWithin old new
 kept_on old mid new a b = record {
   counts = record {
     memory = b.counts.memory ∙ a.counts.memory;
@@ -135,7 +135,7 @@ pub record Cleaning (h : Holders) (old : CopiesValue) (k : ℕ) (cur : CopiesVal
   pub bytes : List ℕ
   pub run : AllPushed old (map (push_of h k) bytes) cur
   pub list : dirty_of h old k ≡ bytes ++ dirty_of h cur k
-  pub kept : Kept old cur
+  pub kept : StaysWithin old cur
   pub others : (q b : ℕ) → q ≢ k → copies_of (maps_of h cur) q b ≡ copies_of (maps_of h old) q b
 
 pub cleaning_starts : (h : Holders) (old : CopiesValue) (k : ℕ) → Within old → Cleaning h old k old

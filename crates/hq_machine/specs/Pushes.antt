@@ -57,14 +57,14 @@ abbrev pub dirty_of : Holders → CopiesValue → ℕ → List ℕ
 dirty_of h c k = filter (λ b. is_dirty (copies_of (maps_of h c) k b)) (numbers (length c.memory))
 
 -- what all pushes keep
-pub record Kept (old new : CopiesValue) : Type 0 where
+pub record StaysWithin (old new : CopiesValue) : Type 0 where
   pub counts : Counts old new
   pub within : Within new
 
 -- the holder's dirty bytes are pushed, and the others of its kind hold what they held
 pub record Cleaned (h : Holders) (old : CopiesValue) (k : ℕ) (new : CopiesValue) : Type 0 where
   pub run : AllPushed old (map (push_of h k) (dirty_of h old k)) new
-  pub kept : Kept old new
+  pub kept : StaysWithin old new
   pub others : (q b : ℕ) → q ≢ k → copies_of (maps_of h new) q b ≡ copies_of (maps_of h old) q b
 
 -- the numbers from start up to, but not with, stop
@@ -78,7 +78,7 @@ pushes_of h c ks = flat_map (λ k. map (push_of h k) (dirty_of h c k)) ks
 -- the dirty bytes of these holders are pushed, in turn; those from stop on hold what they held
 pub record Swept (h : Holders) (old : CopiesValue) (start stop : ℕ) (new : CopiesValue) : Type 0 where
   pub run : AllPushed old (pushes_of h old (span start stop)) new
-  pub kept : Kept old new
+  pub kept : StaysWithin old new
   pub later : (q b : ℕ) → stop ≤ q → copies_of (maps_of h new) q b ≡ copies_of (maps_of h old) q b
 
 -- those of lanes, and then those of agents

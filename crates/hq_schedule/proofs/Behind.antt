@@ -9,8 +9,8 @@ use Rattle.hq_model.specs.Job.Kind.{BarrierAnd, BarrierOr}
 use Rattle.hq_model.specs.Order.{FreesFor}
 use Rattle.hq_bits.specs.Bits.{has}
 use Rattle.hq_waits.specs.Waits.{OfDependencies}
-use Rattle.hq_schedule.specs.Placing.{Needs}
-use Rattle.hq_schedule.specs.Placing.Needs.{by_queue, by_slot, by_and}
+use Rattle.hq_schedule.specs.Placing.{StaysBehind}
+use Rattle.hq_schedule.specs.Placing.StaysBehind.{by_queue, by_slot, by_and}
 
 pub and_packet : (p : Packet) → kind_of p ≡ BarrierAnd → (b : Barrier) × (p ≡ format.And b)
 and_packet (format.Kernel k) e = absurd (cc)
@@ -27,7 +27,7 @@ or_packet (format.Or b) e = (b, refl)
 module _ (job : Job) (p : ℕ) (old first second : List ℕ)
     (queue : (e : ℕ) → IsTrue (has first e) ↔ (IsTrue (has old e) ⊎ Earlier job e p))
     (both : (e : ℕ) → IsTrue (has second e) ↔ (IsTrue (has first e) ⊎ FreesFor job e p)) where
-  into : (e : ℕ) → IsTrue (has second e) → IsTrue (has old e) ⊎ Needs job p e
+  into : (e : ℕ) → IsTrue (has second e) → IsTrue (has old e) ⊎ StaysBehind job p e
   into e h = elim ((both e).0 h) [
     | inl t ↦ elim ((queue e).0 t) [ inl o ↦ inl o | inr q ↦ inr (by_queue q) ]
     | inr f ↦ inr (by_slot f)
@@ -42,7 +42,7 @@ module _ (job : Job) (p : ℕ) (old first second : List ℕ)
   from_slot : (e : ℕ) → FreesFor job e p → IsTrue (has second e)
   from_slot e h = (both e).1 (inr h)
 
-  pub needs_without : (packet job p).kind ≢ BarrierAnd → (e : ℕ) → IsTrue (has second e) ↔ (IsTrue (has old e) ⊎ Needs job p e)
+  pub needs_without : (packet job p).kind ≢ BarrierAnd → (e : ℕ) → IsTrue (has second e) ↔ (IsTrue (has old e) ⊎ StaysBehind job p e)
   needs_without other e = (
     into e,
     λ h. elim h [
@@ -55,7 +55,7 @@ module _ (job : Job) (p : ℕ) (old first second : List ℕ)
     ],
   )
 
-  pub needs_with : (third : List ℕ) → (packet job p).kind ≡ BarrierAnd → ((e : ℕ) → IsTrue (has third e) ↔ (IsTrue (has second e) ⊎ OfDependencies job p e)) → (e : ℕ) → IsTrue (has third e) ↔ (IsTrue (has old e) ⊎ Needs job p e)
+  pub needs_with : (third : List ℕ) → (packet job p).kind ≡ BarrierAnd → ((e : ℕ) → IsTrue (has third e) ↔ (IsTrue (has second e) ⊎ OfDependencies job p e)) → (e : ℕ) → IsTrue (has third e) ↔ (IsTrue (has old e) ⊎ StaysBehind job p e)
   needs_with third kind last e = (
     λ h. elim ((last e).0 h) [ inl t ↦ into e t | inr d ↦ inr (by_and kind d) ],
     λ h. (last e).1 (elim h [

@@ -14,7 +14,7 @@ use Rattle.hq_model.proofs.Schedule.{schedules_settle}
 use Rattle.hq_model.proofs.Orders.{none_where_stuck}
 use Rattle.hq_bits.specs.Bits.{has}
 use Rattle.hq_schedule.specs.Placing.{HasCome, MayFollow, AreStuck}
-use Rattle.hq_schedule.specs.Placing.Needs.{by_queue, by_slot, by_and}
+use Rattle.hq_schedule.specs.Placing.StaysBehind.{by_queue, by_slot, by_and}
 use Rattle.hq_schedule.specs.Least.{LeastFirst}
 use Rattle.hq_schedule.specs.Least.LeastFirst.{begins, goes_on}
 use Rattle.hq_rows.proofs.Filling.{has_nothing, or_either, or_left, or_right}

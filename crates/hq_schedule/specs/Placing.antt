@@ -19,14 +19,14 @@ pub record CanFree (job : Job) (words : ℕ) (sets : List (Vec ℕ)) : Type 0 wh
   pub count : IsTrue job.rings → length sets ≡ length job.submissions
 
 -- p stays behind e, whatever else comes ahead of it
-pub data Needs (job : Job) (p e : ℕ) : Type 0 where
-  by_queue : Earlier job e p → Needs job p e
-  by_slot : FreesFor job e p → Needs job p e
-  by_and : (packet job p).kind ≡ BarrierAnd → OfDependencies job p e → Needs job p e
+pub data StaysBehind (job : Job) (p e : ℕ) : Type 0 where
+  by_queue : Earlier job e p → StaysBehind job p e
+  by_slot : FreesFor job e p → StaysBehind job p e
+  by_and : (packet job p).kind ≡ BarrierAnd → OfDependencies job p e → StaysBehind job p e
 
 -- the row is the set of the packets that p stays behind
 pub record Needed (job : Job) (p : ℕ) (row : List ℕ) : Type 0 where
-  pub are : (e : ℕ) → IsTrue (has row e) ↔ Needs job p e
+  pub are : (e : ℕ) → IsTrue (has row e) ↔ StaysBehind job p e
 
 -- all that complete on the signal have come
 abbrev pub IsOver : Job → List ℕ → ℕ → Type 0
@@ -40,7 +40,7 @@ OneIsOver job come p = (slot : ℕ) × (s : ℕ) × Dependency job p slot s × I
 pub record MayFollow (job : Job) (come : List ℕ) (p : ℕ) : Type 0 where
   pub is_packet : IsPacket job p
   pub new : IsTrue (has come p) → ⊥
-  pub needs : (e : ℕ) → Needs job p e → IsTrue (has come e)
+  pub needs : (e : ℕ) → StaysBehind job p e → IsTrue (has come e)
   pub ors : (packet job p).kind ≡ BarrierOr → OneIsOver job come p
 
 -- the set of what has come is that of the list

@@ -6,7 +6,7 @@ ghost use Rattle.hq_model.specs.Job.{packet, Earlier};
 ghost use Rattle.hq_model.specs.Order.{FreesFor, place};
 ghost use Rattle.hq_bits.specs.Bits.{has};
 ghost use Rattle.hq_rows.specs.Lists.{AllAre};
-ghost use Rattle.hq_schedule.specs.Placing.{CanFree, Needs, Needed};
+ghost use Rattle.hq_schedule.specs.Placing.{CanFree, StaysBehind, Needed};
 ghost use Rattle.hq_waits.specs.Waits.{Completing};
 
 use hq_bits::{insert_all, unite};
@@ -69,7 +69,7 @@ fn insert_needs(
         (λ s set. Completing (plan job.now) s set.items × (length set.items ≡ length row.old)) completing.now }
     requires signals { length completing.now ≡ length job.now.signals }
     requires freeing { CanFree (plan job.now) (length row.old) freeing.now }
-    ensures taken { (e : ℕ) → IsTrue (has row.new e) ↔ (IsTrue (has row.old e) ⊎ Needs (plan job.now) number e) }
+    ensures taken { (e : ℕ) → IsTrue (has row.new e) ↔ (IsTrue (has row.old e) ⊎ StaysBehind (plan job.now) number e) }
     ensures len { length row.new ≡ length row.old }
 {
     insert_earlier(job, number, row);

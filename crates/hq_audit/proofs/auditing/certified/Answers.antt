@@ -1,6 +1,6 @@
 use Rattle.std.proofs.Common.{sym, ◌∙◌, ap, subst, map}
 use Rattle.hq_cert.specs.View.{line_of, pair_of}
-use Rattle.hq_derive.specs.Kept.{lines_of}
+use Rattle.hq_derive.specs.Gathered.{lines_of}
 use Rattle.hq_audit.specs.Paired.{SameHeads}
 use Rattle.hq_audit.proofs.Certifying.{cert_holds, cert_same}
 use Rattle.hq_audit.proofs.Numbering.{given_back, paired_cited}

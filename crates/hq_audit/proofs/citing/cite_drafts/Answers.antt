@@ -2,7 +2,7 @@ use Rattle.std.proofs.Common.{◌≡◌, List, sym, subst, map}
 use Rattle.std.specs.Vec.{with_items}
 use Rattle.hq_cert.specs.declared.certificate.Pair.{Pair}
 use Rattle.hq_cert.specs.View.{pair_of}
-use Rattle.hq_derive.specs.Kept.{lines_of}
+use Rattle.hq_derive.specs.Gathered.{lines_of}
 use Rattle.hq_audit.specs.Paired.{AllHold, SameHeads}
 use Rattle.hq_audit.proofs.Numbering.{given_back}
 use Rattle.hq_audit.proofs.Rowing.{cited_rows}

@@ -1,4 +1,4 @@
-use Rattle.hq_derive.specs.Kept.{Goes}
+use Rattle.hq_derive.specs.Gathered.{Goes}
 use Rattle.hq_audit.proofs.pairs.add_between.Given as goal
 
 abbrev pub invariant-loop-p : goal.invariant-loop-p

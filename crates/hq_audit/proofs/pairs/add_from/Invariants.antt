@@ -1,4 +1,4 @@
-use Rattle.hq_derive.specs.Kept.{Goes}
+use Rattle.hq_derive.specs.Gathered.{Goes}
 use Rattle.hq_audit.proofs.pairs.add_from.Given as goal
 
 abbrev pub invariant-loop-r : goal.invariant-loop-r

@@ -1,6 +1,6 @@
 use Rattle.std.proofs.Common.{◌*◌, ◌∙◌, ap, subst, map, length}
 use Rattle.hq_cert.specs.View.{line_of}
-use Rattle.hq_derive.specs.Kept.{lines_of}
+use Rattle.hq_derive.specs.Gathered.{lines_of}
 use Rattle.hq_audit.specs.Paired.{pairs_of, RowsPaired}
 use Rattle.hq_audit.proofs.Certifying.{cert_holds, cert_same}
 use Rattle.hq_audit.proofs.Rowing.{all_paired}

@@ -1,6 +1,6 @@
 use Rattle.std.proofs.Common.{◌≡◌, ◌<◌, ◌∙◌, length, arith, rules, slice_index_or, Some}
 use Rattle.std.proofs.lemmas.List.{length-set, get_or-set_other}
-use Rattle.hq_derive.specs.Kept.{lines_of}
+use Rattle.hq_derive.specs.Gathered.{lines_of}
 use Rattle.hq_audit.proofs.Rowing.{part_cited, hold_joined, paired_joined}
 use Rattle.hq_audit.proofs.wide.join.Goals as goal
 

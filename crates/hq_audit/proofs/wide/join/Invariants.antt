@@ -1,7 +1,7 @@
 use Rattle.std.proofs.Common.{◌≡◌, ◌*◌, ◌≤◌, ℕ, Option, length, slice_index_or}
 use Rattle.std.specs.Global.{Vec}
 use Rattle.hq_cert.specs.declared.certificate.Pair.{Pair}
-use Rattle.hq_derive.specs.Kept.{lines_of}
+use Rattle.hq_derive.specs.Gathered.{lines_of}
 use Rattle.hq_audit.specs.Paired.{pairs_of, AllHold, RowsPaired}
 use Rattle.hq_audit.proofs.wide.join.Given as goal
 

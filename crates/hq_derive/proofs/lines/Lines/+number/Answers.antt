@@ -6,7 +6,7 @@ use Rattle.hq_model.specs.Certificate.{Follows, signals}
 use Rattle.hq_model.specs.Certificate.Rule.{Or as OrRule}
 use Rattle.hq_model.specs.Job.{Job, packet}
 use Rattle.hq_derive.specs.Rests.{Below, ByBranch}
-use Rattle.hq_derive.specs.Kept.{lines_of, AllBranched}
+use Rattle.hq_derive.specs.Gathered.{lines_of, AllBranched}
 use Rattle.hq_derive.proofs.Founded.{within_first, within_second, below_before}
 use Rattle.hq_derive.proofs.Branching.{branch_before, branched_push, signals_some, signals_none, either_follows, through_follows, add_answers}
 use Rattle.hq_derive.proofs.Adding.{goes_same, goes_more}

@@ -1,6 +1,6 @@
 use Rattle.std.proofs.Common.{◌+◌, ◌*◌, take}
 use Rattle.hq_model.specs.Certificate.{signals}
-use Rattle.hq_derive.specs.Kept.{AllBranched}
+use Rattle.hq_derive.specs.Gathered.{AllBranched}
 use Rattle.hq_derive.proofs.lines.Lines.+number.Given as goal
 
 abbrev pub decreases-numbered : goal.decreases-numbered

@@ -1,5 +1,5 @@
 use Rattle.std.proofs.Common.{length}
-use Rattle.hq_derive.specs.Kept.{lines_of}
+use Rattle.hq_derive.specs.Gathered.{lines_of}
 use Rattle.hq_derive.proofs.Adding.{kept_added}
 use Rattle.hq_derive.proofs.lines.Lines.add_alone.Goals as goal
 

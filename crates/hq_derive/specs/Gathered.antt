@@ -35,7 +35,7 @@ AllEntered l = All (EntrySays (lines_of l)) l.entries.items
 
 -- Each line follows from lines of lower number, the numbers at slots are right, and there are as few packets as a job
 -- may have.
-pub record Kept (job : Job) (l : Lines) : Type 0 where
+pub record AreSound (job : Job) (l : Lines) : Type 0 where
   pub few : length job.packets ≤ PACKETS
   pub follow : AllFollow job (lines_of l)
   pub entered : AllEntered l
@@ -47,7 +47,7 @@ pub record Grown (old new : List model.Line) : Type 0 where
 
 -- what one more step of the gathering keeps
 pub record Goes (job : Job) (old new : Lines) : Type 0 where
-  pub kept : Kept job new
+  pub kept : AreSound job new
   pub grown : Grown (lines_of old) (lines_of new)
 
 -- the line of this number concludes that p is before r
