@@ -10,7 +10,8 @@ ghost use Rattle.hq_model.specs.Certificate.{Says, signals};
 ghost use Rattle.hq_model.specs.Order as order;
 ghost use Rattle.hq_order.specs.Rounds.{IsFirstWithin, Reaches, ByOr};
 ghost use Rattle.hq_derive.specs.Rests.{Below, ByMiddle, FollowsAlone};
-ghost use Rattle.hq_derive.specs.Gathered.{items_of, lines_of, AllEntered, AreSound, Numbered, Ruled, Branched, AllBranched};
+ghost use Rattle.hq_derive.specs.Gathered.{items_of, lines_of, AllEntered, AreSound, Numbered, Ruled};
+ghost use Rattle.hq_derive.specs.Gathered.{Branched, AllBranched};
 
 use crate::grounds::{Ground, branch_of, ground_of};
 use crate::needs::Needs;
