@@ -5,9 +5,10 @@ use Rattle.std.proofs.lemmas.List.{length-map, length-replicate, get_or-replicat
 use Rattle.hq_model.specs.Job.{Job, packet, IsPacket, IsBarrier, Earlier, Dependency, Kind}
 use Rattle.hq_model.specs.Job as model
 use Rattle.hq_model.specs.Job.Kind.{Work, BarrierAnd, BarrierOr}
-use Rattle.hq_job.specs.Plan.{kind_of, plan, planned}
+use Rattle.hq_job.specs.Plan.{plan, planned}
+use Rattle.hq_tables.specs.Kinds.{kind_of}
 use Rattle.hq_job.specs.Value.{JobValue}
-use Rattle.hq_job.specs.declared.rows.Placed.{Placed}
+use Rattle.hq_tables.specs.declared.rows.Placed.{Placed}
 use Rattle.std.proofs.lemmas.Option.{slice_get-get_or, get_or_from_slice_get}
 use Rattle.hq_model.specs.Machine as machine
 use Rattle.hq_model.specs.Machine.{MayLaunch, is_launched, is_complete}

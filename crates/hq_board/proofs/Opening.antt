@@ -5,7 +5,7 @@ use Rattle.std.proofs.lemmas.Option.{get_or_from_slice_get, slice_get_within}
 use Rattle.hq_job.specs.Plan.{plan, planned}
 use Rattle.hq_job.specs.Value.{JobValue}
 use Rattle.hq_job.specs.View.{PacketIsRead, WithinLimits}
-use Rattle.hq_job.specs.declared.rows.Placed.{Placed}
+use Rattle.hq_tables.specs.declared.rows.Placed.{Placed}
 use Rattle.hq_model.specs.Job as model
 use Rattle.hq_model.specs.Job.{Dependency, Decrements, IsPacket, no_packet, packet}
 use Rattle.hq_model.specs.Theorems.{Valid}

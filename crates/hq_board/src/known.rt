@@ -2,7 +2,8 @@
 
 ghost use Rattle.std.specs.Prelude.{◌≡◌, ◌≤◌, ◌+◌, ℕ, ◌<◌, length, true, MatchOption, MatchBool, IfOk, replicate};
 ghost use Rattle.std.specs.Prelude.{IsTrue, false, ◌↔◌, slice_index_or};
-ghost use Rattle.hq_job.specs.Plan.{plan, kind_of};
+ghost use Rattle.hq_job.specs.Plan.{plan};
+ghost use Rattle.hq_tables.specs.Kinds.{kind_of};
 ghost use Rattle.hq_model.specs.Job.{packet as packet_of, Dependency};
 ghost use Rattle.hq_model.specs.Machine.{MayLaunch};
 ghost use Rattle.hq_board.specs.History.{after, May, MayLook};
@@ -17,8 +18,9 @@ use crate::words::Token;
 use hq_events::Phase;
 use hq_events::packets::dependency;
 use hq_events::starts::nothing_observed;
-use hq_job::{Job, Placed};
+use hq_job::Job;
 use hq_packet::Packet;
+use hq_tables::Placed;
 use std::alloc::{AllocError, Global};
 
 /// What is known of the packets of one queue, which are those from the number `first` on.

@@ -8,7 +8,7 @@ use Rattle.std.proofs.lemmas.List.Concat.{length-flat_map}
 use Rattle.hq_footprint.specs.declared.footprint.Range.{Range}
 use Rattle.hq_footprint.specs.Bytes.{bytes_of, read_entries, written_bytes}
 use Rattle.hq_footprint.proofs.RangeBytes.{bytes_placed, bytes_counted}
-use Rattle.hq_job.specs.declared.rows.Placed.{Placed}
+use Rattle.hq_tables.specs.declared.rows.Placed.{Placed}
 use Rattle.hq_job.specs.Value.{JobValue}
 use Rattle.hq_job.specs.View.{WithinLimits, PacketIsRead}
 use Rattle.hq_job.specs.Plan.{plan}
@@ -16,7 +16,7 @@ use Rattle.hq_model.specs.declared.limits.TheConstants.{BYTES}
 use Rattle.hq_model.specs.Machine.{IsByte}
 use Rattle.hq_model.specs.Theorems.{Valid}
 use Rattle.hq_certcheck.specs.Brief.{IsShort}
-use Rattle.hq_certcheck.proofs.Tables.{packet_at}
+use Rattle.hq_job.proofs.Shares.{packet_at}
 
 -- a range whose bytes are all below n has no more than n
 pub short_range : (r : Range) (n : ℕ) → All (λ b. b < n) (bytes_of r) → r.len ≤ n

@@ -4,7 +4,7 @@ use Rattle.std.proofs.lemmas.Option.{slice_get-get_or}
 use Rattle.hq_model.specs.Job.{Job}
 use Rattle.hq_model.specs.Certificate.{Line, Pair}
 use Rattle.hq_certcheck.specs.Listed.{PairFollows, PairFollowsAt, FirstBadPlace, FirstBadPair}
-use Rattle.hq_certcheck.proofs.Saying.{some_same}
+use Rattle.hq_ordercheck.proofs.Options.{some_same}
 
 pub all_follow : (job : Job) (lines : List Line) (pairs : List Pair) → ((k : ℕ) → PairFollowsAt job lines pairs k) → All (PairFollows job lines) pairs
 all_follow job lines pairs h = λ k d l. h k _ (slice_get-get_or pairs k d l)

@@ -2,7 +2,7 @@
 use Rattle.std.proofs.Common.{◌≡◌, ℕ, ◌+◌, ◌<◌, ◌≤◌, inl, inr, List, length, sym, ◌∙◌, ap, subst, arith, Some, slice_get, All}
 use Rattle.std.proofs.lemmas.Bool.{cases_eq}
 use Rattle.std.proofs.lemmas.Option.{slice_get-get_or}
-use Rattle.hq_certcheck.proofs.Saying.{some_same}
+use Rattle.hq_ordercheck.proofs.Options.{some_same}
 
 -- the statement holds of each item that stands below a place
 pub record AllBelow {X : Type 0} (P : X → Type 0) (xs : List X) (i : ℕ) : Type 0 where

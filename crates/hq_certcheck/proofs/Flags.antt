@@ -15,7 +15,7 @@ use Rattle.hq_model.specs.Certificate.{Certificate, Pair, kind_of, HasPair, HasP
 use Rattle.hq_certcheck.specs.Covering.{Covered, NoneMissing, FirstMissing, has_kind, flag_of, kinds_in, cell, IsFor, AreListed, IsMarked, AreFlagged, IsFlagged, AllFlagged, FirstUnflagged}
 use Rattle.std.proofs.lemmas.Option.{slice_get_within}
 use Rattle.hq_parts.specs.Parts.{NeverConflict}
-use Rattle.hq_certcheck.proofs.Saying.{some_same}
+use Rattle.hq_ordercheck.proofs.Options.{some_same}
 
 pub by_kinds : (P : Conflict → Type 0) → P WriteRead → P WriteWrite → P ReadWrite → (kind : Conflict) → P kind
 by_kinds P wr ww rw WriteRead = wr

@@ -2,14 +2,8 @@ pub mod Saying
 pub mod Zipped
 pub mod Firsts
 pub mod FirstPlaces
-pub mod Tables
-pub mod Orders
 pub mod Flags
 pub mod Refusing
 pub mod Counting
 pub mod Leasts
-pub mod Places
-pub mod Lasts
 pub mod Possible
-pub mod Counts
-pub mod Slots

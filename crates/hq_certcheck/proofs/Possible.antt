@@ -1,18 +1,17 @@
 -- Which kinds of conflict two packets can have, by whether they read and write at all.
 use Rattle.std.proofs.Common.{◌≡◌, ℕ, suc, Bool, true, false, IsTrue, List, [], ◌∷◌, ◌++◌, refl, sym, ◌∙◌, ap, subst, arith}
-use Rattle.std.specs.Prelude.{All}
+use Rattle.std.specs.Prelude.{All, Contains}
 use Rattle.std.specs.List.{flat_map, range_with_len}
 use Rattle.hq_footprint.specs.declared.footprint.Range.{Range}
-use Rattle.hq_footprint.specs.Bytes.{bytes_of, read_entries, written_bytes}
-use Rattle.hq_job.specs.declared.rows.Placed.{Placed}
+use Rattle.hq_footprint.specs.Bytes.{bytes_of, read_entries, written_bytes, Share}
+use Rattle.hq_tables.specs.declared.rows.Placed.{Placed}
 use Rattle.hq_job.specs.Plan.{planned}
 use Rattle.hq_model.specs.Job.{Job, packet}
-use Rattle.hq_model.specs.Order.{In}
-use Rattle.hq_model.specs.Fence.{Conflicts, Share}
+use Rattle.hq_model.specs.Fence.{Conflicts}
 use Rattle.hq_model.specs.Fence.Conflict.{WriteRead, WriteWrite, ReadWrite}
 
-in_none : (xs : List ℕ) (b : ℕ) → xs ≡ [] → In xs b → ⊥
-in_none xs b e i = let none : In [] b = subst (λ ys. In ys b) e i in omega (arith, none)
+in_none : (xs : List ℕ) (b : ℕ) → xs ≡ [] → Contains xs b → ⊥
+in_none xs b e i = let none : Contains [] b = subst (λ ys. Contains ys b) e i in omega (arith, none.1)
 
 no_bytes : (r : Range) → r.len ≡ 0 → bytes_of r ≡ []
 no_bytes r e = ap (range_with_len r.at) e
@@ -26,10 +25,10 @@ refuted true P f n = absurd (n (f refl))
 refuted false P f n = refl
 
 -- the lists of bytes in which a byte is shared aren't empty
-some_write : (r : Range) (b : ℕ) (none : Bool) → (IsTrue none → r.len ≡ 0) → In (bytes_of r) b → none ≡ false
+some_write : (r : Range) (b : ℕ) (none : Bool) → (IsTrue none → r.len ≡ 0) → Contains (bytes_of r) b → none ≡ false
 some_write r b none f i = refuted none (r.len ≡ 0) f (λ e. in_none (bytes_of r) b (no_bytes r e) i)
 
-some_read : (rs : List Range) (b : ℕ) (none : Bool) → (IsTrue none → All (λ r. r.len ≡ 0) rs) → In (flat_map bytes_of rs) b → none ≡ false
+some_read : (rs : List Range) (b : ℕ) (none : Bool) → (IsTrue none → All (λ r. r.len ≡ 0) rs) → Contains (flat_map bytes_of rs) b → none ≡ false
 some_read rs b none f i = refuted none (All (λ r. r.len ≡ 0) rs) f (λ h. in_none (flat_map bytes_of rs) b (no_entries rs h) i)
 
 module _ (job : Job) (p r : ℕ) (x y : Placed) (first : planned x ≡ packet job p) (second : planned y ≡ packet job r) where

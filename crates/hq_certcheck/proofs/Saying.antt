@@ -1,17 +1,12 @@
 -- What a line says.
-use Rattle.std.proofs.Common.{◌≡◌, ℕ, ◌<◌, ◌↔◌, List, length, map, sym, ◌∙◌, ap, arith, Some, None, slice_get, slice_index_or}
+use Rattle.std.proofs.Common.{◌≡◌, ℕ, ◌<◌, ◌↔◌, List, length, map, sym, ◌∙◌, ap, arith, Some, slice_get, slice_index_or}
 use Rattle.std.proofs.lemmas.List.{length-map}
 use Rattle.std.proofs.lemmas.Option.{slice_get-get_or, slice_get_within}
 use Rattle.std.proofs.lemmas.List.{get_or-map}
 use Rattle.hq_cert.specs.declared.certificate.Line.{Line}
 use Rattle.hq_cert.specs.View.{line_of}
 use Rattle.hq_model.specs.Certificate as model
-
-pub none_some : {X : Type 0} (x : X) → None ≡ Some x → ⊥
-none_some x e = cc
-
-pub some_same : {X : Type 0} (x y : X) → Some x ≡ Some y → x ≡ y
-some_same x y e = cc
+use Rattle.hq_ordercheck.proofs.Options.{some_same}
 
 -- what a list of meanings has where the code's list has an item
 pub meant_at : {X Y : Type 0} (f : X → Y) (xs : List X) (k : ℕ) (x : X) → k < length xs → x ≡ slice_index_or xs k x → slice_get (map f xs) k ≡ Some (f x)

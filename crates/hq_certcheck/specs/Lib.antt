@@ -1,6 +1,5 @@
 pub mod Brief
 pub mod Covering
 pub mod Listed
-pub mod Placed
 pub mod Refusals
 pub mod View

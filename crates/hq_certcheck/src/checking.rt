@@ -12,14 +12,13 @@ use crate::accepted::Accepted;
 use crate::fault::CheckNo;
 use crate::lines::first_bad_line;
 use crate::missing::first_missing;
-use crate::order::is_order_list;
 use crate::pairs::first_bad_pair;
-use crate::placing::numbers;
 use hq_cert::Certificate;
 use hq_job::Job;
 use hq_model::certificate::certificates_order;
 use hq_model::order::order_lists_extend;
 use hq_model::runs::headline_law;
+use hq_ordercheck::{is_order_list, numbers};
 use std::alloc::Global;
 
 /// The certificate's order, if it is an order list of the job.

@@ -11,7 +11,6 @@ ghost use Rattle.hq_model.specs.Order.{ByAnd, ByBit, ByQueue};
 ghost use Rattle.hq_certcheck.specs.Listed.{HoldsFor, LineFollows, FirstBadLine};
 
 use crate::citing::{follower, says};
-use crate::packets::{is_and, is_or};
 use hq_cert::{Citation, Line, Rule};
 use hq_job::Job;
 
@@ -34,7 +33,7 @@ fn by_and(job: &Job, p: usize, slot: usize, r: usize) -> bool
     ensures { IsTrue result ↔ ((s : ℕ) × ByAnd (plan job.now) p r slot s) }
 {
     match job.dependency(r, slot) {
-        Some(signal) => is_and(job, r) && job.completes_on(p, signal),
+        Some(signal) => job.is_and(r) && job.completes_on(p, signal),
         None => false,
     }
 }
@@ -92,7 +91,7 @@ fn by_or(job: &Job, lines: &[Line], limit: usize, p: usize, r: usize, branches: 
     ensures { IsTrue result
         ↔ Follows (plan job.now) (map line_of lines.now) limit p r (OrRule (map cited branches.now)) }
 {
-    job.is_packet(r) && is_or(job, r) && hold_for_each(job, lines, limit, p, job.slots(r), branches)
+    job.is_packet(r) && job.is_or(r) && hold_for_each(job, lines, limit, p, job.slots(r), branches)
 }
 
 /// Whether the first line says that p comes before a packet, and the second that this comes before r.

@@ -7,8 +7,9 @@ ghost use Rattle.hq_model.specs.Machine.{own_steps, bound};
 ghost use Rattle.hq_certcheck.specs.Brief.{IsShort};
 
 use hq_footprint::Range;
-use hq_job::{Job, Placed};
+use hq_job::Job;
 use hq_model::BYTES;
+use hq_tables::Placed;
 
 /// How many bytes two ranges have, one after the other.
 fn total(ranges: [Range; 2]) -> u64

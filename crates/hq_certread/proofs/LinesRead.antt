@@ -9,8 +9,9 @@ use Rattle.hq_model.specs.Certificate as model
 use Rattle.hq_model.specs.Certificate.Rule.{Bit, Queue, And, Or, Through}
 use Rattle.hq_certread.specs.declared.forms.RuleKind.{RuleKind}
 use Rattle.hq_certread.specs.declared.forms.RuleKind.TheVariants as kinds
-use Rattle.hq_certtext.specs.Grammar.{IsSmall, citation_word, rule_words, line_words, RuleFits, LineFits}
+use Rattle.hq_certtext.specs.Grammar.{citation_word, rule_words, line_words, RuleFits, LineFits}
 use Rattle.hq_certread.specs.LineTests.{number_said, next_said, citation_said, below, cited_below, each, rule_kind, bit_said, and_said, or_said, through_of, through_said, rule_said, line_of, line_if, line_said}
+use Rattle.hq_text.specs.Ahead.{IsSmall}
 use Rattle.hq_text.proofs.InTurn.{steps, ok_is, both, word_is}
 use Rattle.hq_certread.proofs.Parts.{number_ok, number_is, next_ok, next_is, below_ok, below_is, citations_ok, citations_are, all_ok, all_are}
 

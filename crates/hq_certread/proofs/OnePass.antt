@@ -1,57 +1,22 @@
 -- What one pass over a text finds, and that it is taken in.
-use Rattle.std.proofs.Common.{◌≡◌, ℕ, ◌+◌, ◌*◌, ◌/◌, ◌%◌, ◌^◌, ◌<◌, ◌≤◌, List, [], ◌∷◌, ◌++◌, length, get_or, take, drop, Option, Some, None, refl, sym, ap, subst, ◌∙◌, arith, append_assoc, take_all, take-add, add-one}
-use Rattle.std.proofs.Math.Nat.{pow-suc, pow-le-pow_right}
+use Rattle.std.proofs.Common.{◌≡◌, ℕ, ◌+◌, ◌*◌, ◌/◌, ◌%◌, ◌<◌, ◌≤◌, List, [], ◌∷◌, ◌++◌, length, get_or, take, drop, Option, Some, None, refl, sym, ap, subst, ◌∙◌, arith, append_assoc, take_all, take-add}
 use Rattle.std.specs.Prelude.{MatchOption, IfSome, codes, map}
 use Rattle.std.specs.Fmt.{decimal}
 use Rattle.std.specs.Bool.{Decides}
 use Rattle.std.proofs.lemmas.Bool.{eqb-true, eq-eqb}
-use Rattle.std.proofs.lemmas.Fmt.{decimal_digit, decimal_step}
-use Rattle.std.proofs.lemmas.List.{take_more, take-append-drop, drop_more, get_or-drop}
+use Rattle.std.proofs.lemmas.List.{take-append-drop, drop_more, get_or-drop}
 use Rattle.std.proofs.Common.{eqb}
 use Rattle.hq_model.specs.Certificate as model
 use Rattle.hq_model.specs.Certificate.Rule.{Bit, Queue, And, Or, Through}
 use Rattle.hq_model.specs.Certificate.Fences.{ForReadWrite, ForWriteWrite, ForWriteRead, ForWriteWriteChained, ForWriteReadChained}
-use Rattle.hq_certtext.specs.Grammar.{IsSmall, citation_word, rule_words, fences_words}
+use Rattle.hq_certtext.specs.Grammar.{citation_word, rule_words, fences_words}
+use Rattle.hq_text.specs.Ahead.{IsSmall, DigitsSoFar, NumberAhead}
 use Rattle.hq_text.specs.Printed.{spaced, line_text}
-use Rattle.hq_certread.specs.OnePass.{DigitsAhead, DigitsSoFar, ThreeAhead, NumberAhead, BelowAhead, CitationAhead, RuleAhead, LineAhead, PacketsAhead, FencesAhead, PairAhead}
+use Rattle.hq_text.proofs.DigitsRead.{eight}
+use Rattle.hq_certread.specs.OnePass.{ThreeAhead, BelowAhead, CitationAhead, RuleAhead, LineAhead, PacketsAhead, FencesAhead, PairAhead}
 use Rattle.hq_certtext.proofs.Placed.{three_are, thousands}
 
 -- ---- digits
-
--- eight digits have 32 bits
-eight : (i number : ℕ) → i ≤ 8 → number < 10 ^ i → number < 100000000
-eight i number le l = let p : 10 ^ i ≤ 100000000 = pow-le-pow_right {n = 10} (omega arith) le in omega arith
-
-pub room_for_digit : (text : List ℕ) (n count digit : ℕ) → DigitsSoFar text n count → count ≤ 8 → digit ≤ 9 → n * 10 + digit < 4294967296
-room_for_digit text n count digit so le low = let top = eight count n le so.few in omega arith
-
--- one digit more
-pub one_more_digit : (text : List ℕ) (n count digit b : ℕ) → DigitsSoFar text n count → count < length text → count ≤ 8 → b ≡ get_or text count 0 → 48 + digit ≡ b → digit ≤ 9 → DigitsSoFar text (n * 10 + digit) (count + 1)
-one_more_digit text n count digit b so lt le is at low =
-    let bound = so.few in
-    let some = so.some in
-    let top = eight count n le bound in
-    let front : (n * 10 + digit) / 10 ≡ n = omega arith in
-    let last : 48 + (n * 10 + digit) % 10 ≡ b = omega arith in
-    record {
-      are = take_more text count 0 lt ∙ ap (λ c. take count text ++ c ∷ []) (sym is) ∙ ap (λ t. t ++ b ∷ []) so.are ∙ sym (rw (decimal_step (n * 10 + digit) (omega arith) (omega arith), front, last) refl);
-      some = omega arith;
-      few = let p : 10 ^ (count + 1) ≡ 10 ^ count * 10 = rw add-one (pow-suc 10 count) in omega arith;
-    }
-
-pub so_far_ahead : (text : List ℕ) (n count : ℕ) → DigitsSoFar text n count → count < length text → count ≤ 8 → DigitsAhead text n count
-so_far_ahead text n count so lt le = let low = eight count n le so.few in record { goes_on = lt; are = so.are; small = omega arith }
-
-pub zero_digit : (text : List ℕ) → 10 ≤ length text → get_or text 0 0 ≡ 48 → DigitsAhead text 0 1
-zero_digit [] long e = absurd (omega arith)
-zero_digit (d ∷ more) long e = record { goes_on = omega arith; are = ap (λ c. c ∷ []) e ∙ sym (decimal_digit 0 (omega arith)); small = omega arith }
-
--- the first digit, where it isn't `0`
-pub first_digit : (text : List ℕ) (digit b : ℕ) → 10 ≤ length text → b ≡ get_or text 0 0 → 48 + digit ≡ b → 0 < digit → digit ≤ 9 → DigitsSoFar text digit 1
-first_digit [] digit b long is at some low = absurd (omega arith)
-first_digit (d ∷ more) digit b long is at some low =
-    let e : d ≡ 48 + digit = omega arith in
-    record { are = ap (λ c. c ∷ []) e ∙ sym (decimal_digit digit (omega arith)); some = some; few = omega arith }
 
 -- three digits, of which the first isn't `0`
 pub three_digits_so_far : (text : List ℕ) (n : ℕ) → ThreeAhead text n → 100 ≤ n → DigitsSoFar text n 3

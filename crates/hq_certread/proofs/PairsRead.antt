@@ -9,8 +9,9 @@ use Rattle.hq_certread.specs.declared.forms.FencesKind.{FencesKind}
 use Rattle.hq_certread.specs.declared.forms.FencesKind.TheVariants as kinds
 use Rattle.hq_certread.specs.declared.pairs.Packets.{Packets}
 use Rattle.hq_certread.specs.declared.pairs.Numbers.{Numbers}
-use Rattle.hq_certtext.specs.Grammar.{IsSmall, IsBelow, IsCited, citation_word, fences_words, pair_words, FencesFit, PairFits}
+use Rattle.hq_certtext.specs.Grammar.{IsBelow, IsCited, citation_word, fences_words, pair_words, FencesFit, PairFits}
 use Rattle.hq_certread.specs.LineTests.{number_said, citation_said, below, cited_below, fences_kind, read_write_said, write_write_of, write_write_said, write_read_of, write_read_said, write_chain_of, write_chain_said, packets_said, links_said, links_below, chain_of, read_chain_of, read_chain_said, fences_said, pair_of, pair_if, pair_said}
+use Rattle.hq_text.specs.Ahead.{IsSmall}
 use Rattle.hq_text.proofs.InTurn.{steps, ok_is, both, word_is}
 use Rattle.hq_certtext.proofs.Split.{SmallCited, small_of}
 use Rattle.hq_certread.proofs.Parts.{Number, number_ok, number_is, citation_ok, citation_is, below_ok, below_is, cited_ok, cited_is}

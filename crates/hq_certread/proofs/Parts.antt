@@ -5,11 +5,12 @@ use Rattle.std.specs.List.{AllByRecursion}
 use Rattle.std.specs.Fmt.{decimal}
 use Rattle.std.specs.Str.{bytes_eq}
 use Rattle.std.proofs.lemmas.Bool.{ltb-true, lt-ltb, eqb-true, eq-eqb}
+use Rattle.hq_text.specs.Ahead.{IsSmall}
 use Rattle.hq_text.specs.Numbers.{IsNumber, number_of}
 use Rattle.hq_text.proofs.InTurn.{steps, ok_is, word_is, guarded}
 use Rattle.hq_text.proofs.NumberLaws.{number_only, number_tells}
 use Rattle.hq_certread.specs.declared.fault.CertReason.TheVariants as reason
-use Rattle.hq_certtext.specs.Grammar.{IsSmall, IsBelow, IsCited, citation_word}
+use Rattle.hq_certtext.specs.Grammar.{IsBelow, IsCited, citation_word}
 use Rattle.hq_certtext.proofs.Split.{SmallCited, small_of}
 use Rattle.hq_text.specs.InTurn.{◌>>=◌}
 use Rattle.hq_certread.specs.LineTests.{small, number_said, next_said, citation_said, below, cited_below, each}

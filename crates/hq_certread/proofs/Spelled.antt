@@ -7,6 +7,7 @@ use Rattle.std.specs.Str.{bytes_eq}
 use Rattle.std.proofs.lemmas.Bool.{ltb-true, le-leb}
 use Rattle.std.proofs.lemmas.List.{length-map}
 use Rattle.hq_text.specs.Lines.{words_of}
+use Rattle.hq_text.specs.Ahead.{IsSmall}
 use Rattle.hq_text.specs.Numbers.{number_of}
 use Rattle.hq_model.specs.Certificate as model
 use Rattle.hq_model.specs.Certificate.Rule.{Bit, Queue, And, Or, Through}
@@ -20,7 +21,7 @@ use Rattle.hq_certread.specs.declared.forms.FencesKind.TheVariants as kinds
 use Rattle.hq_certread.specs.declared.pairs.Numbers.{Numbers}
 use Rattle.hq_certread.specs.declared.draft.Stage.{Stage}
 use Rattle.hq_certread.specs.declared.draft.Stage.TheVariants as stage
-use Rattle.hq_certtext.specs.Grammar.{IsSmall, IsBelow, IsCited, citation_word, rule_words, fences_words, head_words, order_words, RuleFits, FencesFit, OrderFits}
+use Rattle.hq_certtext.specs.Grammar.{IsBelow, IsCited, citation_word, rule_words, fences_words, head_words, order_words, RuleFits, FencesFit, OrderFits}
 use Rattle.hq_text.specs.InTurn.{◌>>=◌}
 use Rattle.hq_certread.specs.LineTests.{small, number_said, next_said, citation_said, below, cited_below, each, rule_kind, bit_said, and_said, or_said, through_of, through_said, rule_said, line_of, line_if, line_said, fences_kind, read_write_said, write_write_of, write_write_said, write_read_of, write_read_said, write_chain_of, write_chain_said, packets_said, links_said, links_below, read_chain_of, read_chain_said, fences_said, pair_of, pair_said, head_said, order_said}
 use Rattle.hq_certread.specs.TextFaults.{State, add_head, add_order, add_line, add_pair, add_end, add_behind, add_content, add_at, added, with_head, with_order, with_line, with_pair, with_end}

@@ -1,5 +1,6 @@
 -- What each reason of a fault means, by the forms that lines may have.
 use Rattle.std.specs.Prelude.{◌≡◌, ℕ, ◌≤◌, ◌^◌, ◌↔◌, Bool, true, List, [], ◌∷◌, length, codes}
+use Rattle.hq_text.specs.Ahead.{IsSmall}
 use Rattle.hq_text.specs.LineByLine.{Refuses}
 use Rattle.hq_text.specs.Lines.{words_of}
 use Rattle.hq_model.specs.declared.limits.TheConstants.{PACKETS}
@@ -7,8 +8,7 @@ use Rattle.hq_model.specs.Certificate as model
 use Rattle.hq_certread.specs.declared.draft.Stage.{Stage}
 use Rattle.hq_certread.specs.declared.draft.Stage.TheVariants as stage
 use Rattle.hq_certread.specs.declared.fault.CertReason.TheVariants as reason
-use Rattle.hq_certtext.specs.Grammar.{IsSmall, head_words, order_words, line_words, pair_words, RuleFits, PairFits}
-use Rattle.hq_certtext.specs.Grammar.{OrderFits}
+use Rattle.hq_certtext.specs.Grammar.{head_words, order_words, line_words, pair_words, RuleFits, PairFits, OrderFits}
 use Rattle.hq_certread.specs.TextFaults.{State, added}
 
 -- a rule of this name has so many words behind its name

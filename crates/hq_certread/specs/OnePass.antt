@@ -1,38 +1,21 @@
 -- What a text is found to begin with, in one pass over its bytes.
-use Rattle.std.specs.Prelude.{◌≡◌, ℕ, ◌+◌, ◌^◌, ◌<◌, ◌≤◌, List, ◌∷◌, ◌++◌, length, take, Bool, Option}
+use Rattle.std.specs.Prelude.{◌≡◌, ℕ, ◌+◌, ◌<◌, ◌≤◌, List, ◌∷◌, ◌++◌, length, take, Bool, Option}
 use Rattle.std.specs.Fmt.{decimal}
 use Rattle.hq_text.specs.LineByLine.{AdmitsAll}
 use Rattle.hq_text.specs.Lines.{lines_of}
 use Rattle.hq_text.specs.Printed.{line_text}
 use Rattle.hq_model.specs.Certificate as model
-use Rattle.hq_certtext.specs.Grammar.{IsSmall, IsBelow, IsCited, citation_word, rule_words, line_words, fences_words}
+use Rattle.hq_certtext.specs.Grammar.{IsBelow, IsCited, citation_word, rule_words, line_words, fences_words}
 use Rattle.hq_certtext.specs.Grammar.{pair_words, RuleFits, LineFits, FencesFit, PairFits}
 use Rattle.hq_certtext.specs.Rows.{three_digits}
 use Rattle.hq_certread.specs.TextFaults.{State, added}
-
--- the text begins with so many digits, which are the number n, and goes on
-pub record DigitsAhead (text : List ℕ) (n count : ℕ) : Type 0 where
-  pub goes_on : count < length text
-  pub are : take count text ≡ decimal n
-  pub small : IsSmall n
-
--- the text begins with so many digits, of which the first isn't 0, and which are the number n
-pub record DigitsSoFar (text : List ℕ) (n count : ℕ) : Type 0 where
-  pub are : take count text ≡ decimal n
-  pub some : 0 < n
-  pub few : n < 10 ^ count
 
 -- the text begins with the three digits of n
 pub record ThreeAhead (text : List ℕ) (n : ℕ) : Type 0 where
   pub are : take 3 text ≡ three_digits n
   pub small : n < 1000
 
--- the text is the number n, a byte that ends it, and the rest
-pub record NumberAhead (text : List ℕ) (n stop : ℕ) (rest : List ℕ) : Type 0 where
-  pub is : text ≡ decimal n ++ stop ∷ rest
-  pub small : IsSmall n
-
--- the same with a number below the limit
+-- the text is the number n, which is below the limit, a byte that ends it, and the rest
 pub record BelowAhead (limit : ℕ) (text : List ℕ) (n stop : ℕ) (rest : List ℕ) : Type 0 where
   pub is : text ≡ decimal n ++ stop ∷ rest
   pub fits : IsBelow limit n

@@ -3,109 +3,31 @@
 
 ghost use Rattle.std.specs.Prelude.{◌≡◌, ◌+◌, ◌++◌, ◌<◌, ◌≤◌, [], ◌∷◌, length, IfSome};
 ghost use Rattle.hq_cert.specs.View.{cited, rule_of, fences_of, pair_of};
-ghost use Rattle.hq_certread.specs.OnePass.{DigitsAhead, DigitsSoFar, NumberAhead, BelowAhead, CitationAhead};
-ghost use Rattle.hq_certread.specs.OnePass.{RuleAhead, PacketsAhead, FencesAhead, PairAhead};
+ghost use Rattle.hq_text.specs.Ahead.{DigitsAhead, DigitsSoFar, NumberAhead};
+ghost use Rattle.hq_certread.specs.OnePass.{BelowAhead, CitationAhead, RuleAhead, PacketsAhead, FencesAhead, PairAhead};
 ghost use Rattle.hq_certread.specs.Bytes.{four_bytes};
 
 use crate::threes::Threes;
 use hq_cert::{Citation, Fences, Pair, Rule};
+use hq_text::{digits_ahead, ended_number, more_digits_ahead, with_digit};
 
 /// How many bytes a text has at least where a line of it is read here: more than any line in a common form, so that no
 /// word of it needs a question of its own.
 const LONG: usize = 80;
 
-/// The number with one digit more.
-#[inline(always)]
-fn with_digit(text: &[u8], number: u32, count: usize) -> Option<u32>
-    requires within { count < length text.now }
-    requires few { count ≤ 8 }
-    requires so_far { DigitsSoFar text.now number count }
-    ensures { IfSome result (λ n. DigitsSoFar text.now n (count + 1)) }
-{
-    let digit = text[count].wrapping_sub(b'0');
-    if digit > 9 {
-        return None;
-    }
-    Some(number * 10 + digit as u32)
-}
-
-/// The number of the digits that a text begins with, of which so many are read, and how many they are: at most
-/// eight, or 0 where there are more.
-#[inline(always)]
-#[tactic(auto, using(crate::proofs::OnePass::so_far_ahead))]
-fn digits_on(text: &[u8], before: u32, read: usize) -> (u32, usize)
-    requires long { 10 ≤ length text.now }
-    requires so_far { DigitsSoFar text.now before read }
-    ensures ahead { 0 < result.1 → DigitsAhead text.now result.0 result.1 }
-    ensures few { result.1 ≤ 8 }
-{
-    let mut number = before;
-    for count in read..9 {
-        match with_digit(text, number, count) {
-            Some(more) => number = more,
-            None => return (number, count),
-        }
-    }
-    (0, 0)
-}
-
-/// The number of the digits that a text begins with, and how many they are: at most eight, or 0 where there are
-/// more, or none.
+/// The number of the digits that a text begins with, and how many they are, as `digits_ahead` tells it, which is one
+/// function here for all that ask it.
 #[inline(never)]
-#[tactic(auto, using(crate::proofs::OnePass::zero_digit))]
 fn digits(text: &[u8]) -> (u32, usize)
     requires { 10 ≤ length text.now }
     ensures ahead { 0 < result.1 → DigitsAhead text.now result.0 result.1 }
     ensures few { result.1 ≤ 8 }
 {
-    let digit = text[0].wrapping_sub(b'0');
-    if digit == 0 {
-        return (0, 1);
-    }
-    if digit > 9 {
-        return (0, 0);
-    }
-    digits_on(text, digit as u32, 1)
+    digits_ahead(text)
 }
 
-/// The same, where the first three digits are read.
-#[inline(never)]
-fn more_digits(text: &[u8], first: u32) -> (u32, usize)
-    requires long { 10 ≤ length text.now }
-    requires first { DigitsSoFar text.now first 3 }
-    ensures ahead { 0 < result.1 → DigitsAhead text.now result.0 result.1 }
-    ensures few { result.1 ≤ 8 }
-{
-    digits_on(text, first, 3)
-}
-
-/// The number of so many digits that a text begins with, and what stands behind it and the byte that ends it.
-#[inline(always)]
-fn ended(text: &[u8], number: u32, count: usize, stop: u8) -> Option<(u32, &[u8])>
-    requires ahead { 0 < count → DigitsAhead text.now number count }
-    requires few { count ≤ 8 }
-    ensures ahead { IfSome result (λ t. NumberAhead text.now t.0 stop t.1.now) }
-    ensures near { IfSome result (λ t. length text.now ≤ length t.1.now + 9) }
-{
-    if count > 0 && text[count] == stop {
-        Some((number, text.split_at(count + 1).1))
-    } else {
-        None
-    }
-}
-
-/// The number that a text begins with, and what stands behind it and the byte that ends it: of at most eight digits.
-#[inline(always)]
-fn short_number(text: &[u8], stop: u8) -> Option<(u32, &[u8])>
-    requires { 10 ≤ length text.now }
-    ensures ahead { IfSome result (λ t. NumberAhead text.now t.0 stop t.1.now) }
-    ensures near { IfSome result (λ t. length text.now ≤ length t.1.now + 9) }
-{
-    let (number, count) = digits(text);
-    ended(text, number, count, stop)
-}
-
-/// The same, where numbers of three digits are the quickest.
+/// The number that a text begins with, and what stands behind it and the byte that ends it, where numbers of three
+/// digits are the quickest.
 #[inline(always)]
 #[tactic(auto, using(crate::proofs::OnePass::three_ended))]
 fn number<'a>(threes: &Threes, text: &'a [u8], stop: u8) -> Option<(u32, &'a [u8])>
@@ -119,7 +41,7 @@ fn number<'a>(threes: &Threes, text: &'a [u8], stop: u8) -> Option<(u32, &'a [u8
         }
     }
     let (number, count) = digits(text);
-    ended(text, number, count, stop)
+    ended_number(text, number, count, stop)
 }
 
 /// The number of six digits that a text begins with, the first three of which are read, where this byte ends it.
@@ -169,7 +91,7 @@ fn long_number<'a>(threes: &Threes, text: &'a [u8], stop: u8) -> Option<(u32, &'
 {
     let Some(first) = threes.leading(text) else {
         let (number, count) = digits(text);
-        return ended(text, number, count, stop);
+        return ended_number(text, number, count, stop);
     };
     if let Some(found) = six_digits(threes, text, first, stop) {
         return Some(found);
@@ -177,8 +99,8 @@ fn long_number<'a>(threes: &Threes, text: &'a [u8], stop: u8) -> Option<(u32, &'
     if let Some(found) = four_or_five_digits(text, first, stop) {
         return Some(found);
     }
-    let (number, count) = more_digits(text, first);
-    ended(text, number, count, stop)
+    let (number, count) = more_digits_ahead(text, first);
+    ended_number(text, number, count, stop)
 }
 
 /// The same of a number below the limit.
@@ -277,7 +199,8 @@ fn bit_or_and<'a>(threes: &Threes, k: u32, text: &'a [u8]) -> Option<(Rule, &'a 
         return Some((Rule::Bit(packet), rest));
     }
     let rest = behind_name(text, *b"and ", b"")?;
-    let (slot, rest) = short_number(rest, b'\n')?;
+    let (slot, count) = digits(rest);
+    let (slot, rest) = ended_number(rest, slot, count, b'\n')?;
     Some((Rule::And(slot), rest))
 }
 

@@ -1,7 +1,8 @@
 //! The texts of three digits, made once for each certificate that is read, so that three digits are read at once.
 
 ghost use Rattle.std.specs.Prelude.{◌≡◌, ◌<◌, ◌≤◌, [], ◌∷◌, length, get_or, IfSome, IsSome};
-ghost use Rattle.hq_certread.specs.OnePass.{DigitsSoFar, ThreeAhead};
+ghost use Rattle.hq_text.specs.Ahead.{DigitsSoFar};
+ghost use Rattle.hq_certread.specs.OnePass.{ThreeAhead};
 ghost use Rattle.hq_certread.specs.Bytes.{three_bytes};
 ghost use Rattle.hq_certtext.specs.Rows.{three_digits};
 

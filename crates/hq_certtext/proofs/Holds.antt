@@ -11,7 +11,8 @@ use Rattle.hq_model.specs.Certificate.{Certificate, Line, Pair, Rule, Fences, Sa
 use Rattle.hq_model.specs.Certificate.Rule.{Bit, Queue, And, Or, Through}
 use Rattle.hq_model.specs.Certificate.Fences.{ForReadWrite, ForWriteWrite, ForWriteRead, ForWriteWriteChained, ForWriteReadChained}
 use Rattle.hq_model.proofs.Orders.{bit_packet, earlier_packet}
-use Rattle.hq_certtext.specs.Grammar.{IsSmall, IsBelow, IsCited, RuleFits, LineFits, LinesFit, FencesFit, PairFits, OrderFits, CertificateFits}
+use Rattle.hq_text.specs.Ahead.{IsSmall}
+use Rattle.hq_certtext.specs.Grammar.{IsBelow, IsCited, RuleFits, LineFits, LinesFit, FencesFit, PairFits, OrderFits, CertificateFits}
 use Rattle.hq_certtext.specs.Printed.{is_chain, has_chain, Limited, PrintedIsRead}
 use Rattle.hq_certtext.proofs.Split.{printed_is_text}
 

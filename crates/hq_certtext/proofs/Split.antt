@@ -3,12 +3,13 @@ use Rattle.std.proofs.Common.{ℕ, ◌+◌, Bool, true, false, cond, List, [], �
 use Rattle.std.specs.Prelude.{codes, map}
 use Rattle.std.specs.List.{AllByRecursion}
 use Rattle.std.specs.Fmt.{decimal}
+use Rattle.hq_text.specs.Ahead.{IsSmall}
 use Rattle.hq_text.specs.Lines.{lines_of}
 use Rattle.hq_text.proofs.Printed.{Plain, PlainLine, plain_line, plain_number, lines_again}
 use Rattle.hq_model.specs.Certificate as model
 use Rattle.hq_model.specs.Certificate.Rule.{Bit, Queue, And, Or, Through}
 use Rattle.hq_model.specs.Certificate.Fences.{ForReadWrite, ForWriteWrite, ForWriteRead, ForWriteWriteChained, ForWriteReadChained}
-use Rattle.hq_certtext.specs.Grammar.{IsSmall, IsCited, citation_word, rule_words, line_words, lines_words, fences_words, pair_words, certificate_words, RuleFits, LineFits, LinesFit, FencesFit, PairFits, CertificateFits, CertText}
+use Rattle.hq_certtext.specs.Grammar.{IsCited, citation_word, rule_words, line_words, lines_words, fences_words, pair_words, certificate_words, RuleFits, LineFits, LinesFit, FencesFit, PairFits, CertificateFits, CertText}
 use Rattle.hq_certtext.specs.Printed.{has_chain, text_of}
 
 -- a number that is cited is small

@@ -1,8 +1,9 @@
 -- The text of a certificate: what its lines spell.
-use Rattle.std.specs.Prelude.{◌≡◌, ℕ, ◌+◌, ◌^◌, ◌<◌, ◌≤◌, Bool, IsTrue, List, [], ◌∷◌, ◌++◌, length, map, codes}
+use Rattle.std.specs.Prelude.{◌≡◌, ℕ, ◌+◌, ◌<◌, ◌≤◌, Bool, IsTrue, List, [], ◌∷◌, ◌++◌, length, map, codes}
 use Rattle.std.specs.Prelude.{Option, Some, None, if◌then◌else◌}
 use Rattle.std.specs.List.{AllByRecursion}
 use Rattle.std.specs.Fmt.{decimal}
+use Rattle.hq_text.specs.Ahead.{IsSmall}
 use Rattle.hq_text.specs.Lines.{words_of}
 use Rattle.hq_model.specs.declared.limits.TheConstants.{PACKETS}
 use Rattle.hq_model.specs.Certificate as model
@@ -65,10 +66,6 @@ certificate_words chained c =
     (lines_words 0 c.lines ++ (map pair_words c.pairs ++ (codes "end" ∷ []) ∷ []))
 
 -- ---- which values have a text
-
--- a number of the text: at most 4294967295
-abbrev pub IsSmall : ℕ → Type 0
-IsSmall n = n < 2 ^ 32
 
 -- a line's number that is cited: below the limit
 pub record IsBelow (limit n : ℕ) : Type 0 where

@@ -4,11 +4,11 @@ use Rattle.hq_packet.specs.declared.packet.Head.{Head}
 use Rattle.hq_packet.specs.declared.packet.Packet.{Packet}
 use Rattle.hq_packet.specs.declared.packet.Packet.TheVariants as packet
 use Rattle.hq_packet.specs.Parts.{head_of, with_head}
-use Rattle.hq_job.specs.declared.rows.Placed.{Placed}
+use Rattle.hq_tables.specs.declared.rows.Placed.{Placed}
 use Rattle.hq_job.specs.Heads.{SameButHeads, placed_with_head}
 use Rattle.hq_job.specs.Heads.{with_heads, heads_of, job_with_heads}
 use Rattle.hq_job.specs.Value.{JobValue}
-use Rattle.hq_job.proofs.Heads.{bare, each_with, SamePackets}
+use Rattle.hq_job.proofs.GivenHeads.{bare, each_with, SamePackets}
 use Rattle.hq_model.specs.Settings.{no_head}
 
 second_is_left : (e : Packet) (first second : Head) → with_head (with_head e first) second ≡ with_head e second

@@ -3,8 +3,8 @@ use Rattle.std.specs.Prelude.{ℕ, zero, suc, ◌+◌, ◌*◌, Bool, if◌then�
 use Rattle.std.specs.Prelude.{length, codes, slice_get}
 use Rattle.std.specs.Fmt.{decimal}
 use Rattle.hq_job.specs.Value.{JobValue}
-use Rattle.hq_job.specs.declared.rows.Placed.{Placed}
-use Rattle.hq_job.specs.declared.rows.Queue.{Queue}
+use Rattle.hq_tables.specs.declared.rows.Placed.{Placed}
+use Rattle.hq_tables.specs.declared.rows.Queue.{Queue}
 use Rattle.hq_events.specs.declared.event.Event.{Event}
 use Rattle.hq_report.specs.Shown.{packet_text}
 use Rattle.hq_chart.specs.declared.rows.Row.{Row}

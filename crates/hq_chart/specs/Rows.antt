@@ -2,7 +2,7 @@
 use Rattle.std.specs.Prelude.{ℕ, ◌+◌, Bool, true, false, ◌&&◌, ◌==◌, if◌then◌else◌, List, [], ◌∷◌, Option, Some}
 use Rattle.std.specs.Prelude.{None, map, slice_get, slice_set}
 use Rattle.std.specs.List.{position}
-use Rattle.hq_job.specs.declared.rows.Placed.{Placed}
+use Rattle.hq_tables.specs.declared.rows.Placed.{Placed}
 use Rattle.hq_events.specs.declared.event.Event.{Event}
 use Rattle.hq_events.specs.declared.event.Event.TheVariants as event
 use Rattle.hq_chart.specs.declared.rows.Row.{Row}

@@ -6,7 +6,7 @@ ghost use Rattle.hq_chart.specs.Rows.{is_ahead, moved, rows_of, shape_of, with_s
 
 use crate::shape::{Mark, Phase, Shape};
 use hq_events::Event;
-use hq_job::Placed;
+use hq_tables::Placed;
 use std::alloc::{AllocError, Global};
 
 /// What a packet does, and since which event.

@@ -5,7 +5,7 @@ use Rattle.std.proofs.lemmas.List.{length-map}
 use Rattle.hq_packet.specs.Parts.{head_of}
 use Rattle.hq_change.proofs.Whole.{as_many_values}
 use Rattle.hq_job.specs.Heads.{heads_of}
-use Rattle.hq_job.specs.declared.rows.Placed.{Placed}
+use Rattle.hq_tables.specs.declared.rows.Placed.{Placed}
 use Rattle.hq_model.specs.Job.{Job}
 use Rattle.hq_model.specs.Settings.{SameButHeads, highest}
 use Rattle.hq_model.specs.Theorems.{Valid}

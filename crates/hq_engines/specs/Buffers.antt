@@ -1,7 +1,7 @@
 -- The buffers' lines.
 use Rattle.std.specs.Prelude.{ℕ, List, [], ◌∷◌, ◌++◌, take, drop, length, codes}
 use Rattle.hex.specs.Hex.{encode_lower}
-use Rattle.hq_job.specs.Value.{Bytes}
+use Rattle.hq_tables.specs.Blocks.{Bytes}
 use Rattle.hq_status.specs.Reports.{with_feed}
 
 -- a buffer's name and its bytes as hexadecimal digits

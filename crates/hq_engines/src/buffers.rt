@@ -2,13 +2,14 @@
 
 ghost use Rattle.std.specs.Prelude.{◌≡◌, ◌≤◌, ◌++◌, ◌⊎◌, IfOk, length, map, codes};
 ghost use Rattle.std.specs.List.{flat_map};
-ghost use Rattle.hq_job.specs.Blocks.{bytes_of};
+ghost use Rattle.hq_tables.specs.Blocks.{bytes_of};
 ghost use Rattle.hq_job.specs.Plan.{plan};
 ghost use Rattle.hq_status.specs.Reports.{Said, with_feed};
 ghost use Rattle.hq_engines.specs.Buffers.{buffer_line, buffers_text};
 
-use hq_job::{Block, Job};
+use hq_job::Job;
 use hq_status::{Status, say_memory, say_text};
+use hq_tables::Block;
 use std::alloc::{AllocError, Global};
 use std::io::Write;
 

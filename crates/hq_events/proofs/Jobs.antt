@@ -14,8 +14,8 @@ use Rattle.hq_footprint.proofs.RangeBytes.{bytes_counted, bytes_placed}
 use Rattle.hq_job.specs.Value.{JobValue}
 use Rattle.hq_job.specs.View.{PacketIsRead}
 use Rattle.hq_job.specs.Plan.{plan, planned}
-use Rattle.hq_job.specs.Tables.{total_of}
-use Rattle.hq_job.specs.declared.rows.Placed.{Placed}
+use Rattle.hq_tables.specs.Tables.{total_of}
+use Rattle.hq_tables.specs.declared.rows.Placed.{Placed}
 use Rattle.std.proofs.lemmas.List.Sums.{count_by_more_no, count_by_more_yes}
 use Rattle.hq_job.specs.Access.{AreOfQueue}
 use Rattle.hq_model.specs.Job.{Job, Packet, packet, IsPacket, agent_of, no_packet, place_in_queue, size_of, Frees}

@@ -6,7 +6,7 @@ use Rattle.hq_footprint.specs.Table.{range}
 use Rattle.hq_job.specs.Value.{JobValue}
 use Rattle.hq_finding.specs.declared.kind.Kind.{Kind}
 use Rattle.hq_finding.specs.declared.kind.Kind.TheVariants as kind
-use Rattle.hq_job.specs.declared.rows.Placed.{Placed}
+use Rattle.hq_tables.specs.declared.rows.Placed.{Placed}
 use Rattle.hq_explain.specs.declared.sharing.Run.{Run}
 use Rattle.hq_report.specs.Spots.{spot_of}
 

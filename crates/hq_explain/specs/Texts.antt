@@ -5,8 +5,8 @@ use Rattle.std.specs.Fmt.{decimal}
 use Rattle.hq_packet.specs.declared.packet.Scope.{Scope}
 use Rattle.hq_job.specs.Value.{JobValue}
 use Rattle.hq_job.specs.Plan.{plan}
-use Rattle.hq_job.specs.declared.rows.Placed.{Placed}
-use Rattle.hq_job.specs.declared.rows.Queue.{Queue}
+use Rattle.hq_tables.specs.declared.rows.Placed.{Placed}
+use Rattle.hq_tables.specs.declared.rows.Queue.{Queue}
 use Rattle.hq_model.specs.Job.{place_in_queue}
 use Rattle.hq_fence.specs.declared.shown.Acquire.{Acquire}
 use Rattle.hq_fence.specs.declared.shown.Acquire.TheVariants as acquire

@@ -6,9 +6,10 @@ ghost use Rattle.hq_explain.specs.Texts.{head_text, ordered_text, packet_line, p
 ghost use Rattle.hq_explain.specs.Texts.{standing_of, standing_text, title};
 
 use hq_graph::{Work, place_of, work_of};
-use hq_job::{Job, Queue};
+use hq_job::Job;
 use hq_packet::Packet;
 use hq_report::KindWord;
+use hq_tables::Queue;
 use std::io::Write;
 use std::{fmt, io};
 

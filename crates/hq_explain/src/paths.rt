@@ -10,22 +10,12 @@ ghost use Rattle.hq_graph.specs.Order.{HasRule, IsRule};
 ghost use Rattle.hq_explain.specs.Explain.{PathText, StepsText};
 ghost use Rattle.hq_explain.specs.Texts.{path_title, rule_text, step_line, step_text};
 
-use hq_graph::{NameWord, Rule, rule_in, signal_name};
+use hq_graph::{NameWord, Rule, named_by, rule_in};
 use hq_job::Job;
 use hq_order::Before;
 use hq_text::Name;
 use std::io::Write;
 use std::{fmt, io};
-
-/// The name of the signal that a rule names.
-fn named_by(job: &Job, rule: Rule) -> Option<Name>
-    ensures { result ≡ named_by job.now rule }
-{
-    match rule {
-        Rule::And(signal) => signal_name(job, signal),
-        Rule::Bit(_) | Rule::Queue | Rule::Or => None,
-    }
-}
 
 /// A rule, with the name of the signal that it names.
 #[derive(Clone, Copy)]

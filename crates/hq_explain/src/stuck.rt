@@ -15,7 +15,7 @@ ghost use Rattle.hq_explain.specs.declared.fault.ExplainFault.TheVariants.{Memor
 
 use crate::fault::ExplainFault;
 use hq_bits::has;
-use hq_graph::{GraphFault, NameWord, Stuck, Wait, signal_name, stuck_of, way_of};
+use hq_graph::{GraphFault, NameWord, Stuck, Wait, awaited_by, stuck_of, way_of};
 use hq_job::Job;
 use hq_text::Name;
 use std::alloc::Global;
@@ -72,16 +72,6 @@ fn wait_of(job: &Job, stuck: &Stuck, r: usize) -> Option<(usize, Wait)>
         }
     }
     None
-}
-
-/// The name of the signal that is waited for.
-fn awaited_by(job: &Job, wait: Wait) -> Option<Name>
-    ensures { result ≡ awaited_by job.now wait }
-{
-    match wait {
-        Wait::Signal(signal) => signal_name(job, signal),
-        Wait::Ahead | Wait::Slot | Wait::Turn => None,
-    }
 }
 
 /// How a packet is waited for, with the name of the signal.

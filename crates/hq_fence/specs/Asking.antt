@@ -6,7 +6,7 @@ use Rattle.hq_model.specs.Fence.{need, Acquires}
 use Rattle.hq_model.specs.declared.limits.TheConstants.{PACKETS}
 use Rattle.hq_packet.specs.declared.packet.Scope.{Scope}
 use Rattle.hq_fence.specs.Judgement.{end_of, first_of, IsRelease, IsAcquire}
-use Rattle.hq_fence.specs.Spans.{IsQueueOf}
+use Rattle.hq_fence.specs.Circuits.{IsQueueOf}
 use Rattle.hq_fence.specs.declared.search.Ending.{Ending}
 use Rattle.hq_fence.specs.declared.search.Ending.TheVariants as ending
 use Rattle.hq_fence.specs.declared.search.Form.{Form}

@@ -1,3 +1,3 @@
-pub mod Spans
+pub mod Circuits
 pub mod Judgement
 pub mod Asking

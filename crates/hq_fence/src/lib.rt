@@ -7,11 +7,11 @@
 //! two packets conflict at all. `judge_at_once` answers the same as `judge` or nothing, and costs less.
 #![tactic(auto)]
 
+mod circuit;
 mod fences;
 mod judging;
 mod search;
 mod shown;
-mod span;
 
 pub use judging::{have_conflict, judge, judge_at_once, judge_kinds};
 pub use shown::{Acquire, NotShown, Release, Shown};

@@ -7,7 +7,7 @@ ghost use Rattle.hq_model.specs.Fence.{Releases};
 ghost use Rattle.hq_packet.specs.declared.packet.Scope.TheVariants as scope;
 ghost use Rattle.hq_fence.specs.Asking.{IsAsked, FenceAfter, Follows, Ends, Finds};
 ghost use Rattle.hq_fence.specs.Judgement.{begin_of, end_of, first_of};
-ghost use Rattle.hq_fence.specs.Spans.{IsQueueOf};
+ghost use Rattle.hq_fence.specs.Circuits.{IsQueueOf};
 ghost use Rattle.hq_fence.specs.declared.search.Form.TheVariants as form;
 ghost use Rattle.hq_fence.specs.declared.search.Ending as search;
 ghost use Rattle.hq_fence.specs.declared.shown.Acquire as shown;
@@ -15,9 +15,9 @@ ghost use Rattle.hq_fence.specs.declared.shown.Acquire.TheVariants as acquire;
 ghost use Rattle.hq_fence.specs.declared.shown.Release as released;
 ghost use Rattle.hq_fence.specs.declared.shown.Release.TheVariants as release;
 
+use crate::circuit::Circuit;
 use crate::fences::{acquires, forwards_acquire, forwards_release, need, releases};
 use crate::shown::{Acquire, Release};
-use crate::span::Span;
 use hq_model::PACKETS;
 use hq_order::Before;
 use hq_packet::Scope;
@@ -50,22 +50,22 @@ pub struct Search<'b, 'a> {
     pub p: usize,
     pub r: usize,
     pub needed: Scope,
-    pub queue_of_p: Span,
-    pub queue_of_r: Span,
+    pub queue_of_p: Circuit,
+    pub queue_of_r: Circuit,
     pub form: Form,
     pub goal: Goal,
 }
 
 /// The packets of p's queue, of which p comes first.
 #[inline(always)]
-fn queue_of(before: &Before, p: usize) -> Span
+fn queue_of(before: &Before, p: usize) -> Circuit
     requires { IsPacket before.now p }
     ensures { IsQueueOf before.now p result }
 {
     let job = before.job();
     job.valid();
     let numbers = job.of_queue(job.packet(p).queue as usize);
-    Span {
+    Circuit {
         start: numbers.start,
         first: p,
         end: numbers.end,
@@ -116,9 +116,9 @@ impl<'b, 'a> Search<'b, 'a> {
             (FenceAfter self.now needed other) }
         ensures small { IfSome result (λ y. y < PACKETS) }
     {
-        let span = self.queue_of_r.behind(other);
-        for turn in 0..span.len() {
-            let y = span.at(turn);
+        let circuit = self.queue_of_r.behind(other);
+        for turn in 0..circuit.len() {
+            let y = circuit.at(turn);
             if self.acquires_after(needed, other, y) {
                 return Some(y);
             }
@@ -306,9 +306,9 @@ impl<'b, 'a> Search<'b, 'a> {
         let Some(_) = self.ending(self.p) else {
             return None;
         };
-        let span = self.queue_of_p;
-        for turn in 0..span.len() {
-            if let Some(found) = self.release_from(span.at(turn)) {
+        let circuit = self.queue_of_p;
+        for turn in 0..circuit.len() {
+            if let Some(found) = self.release_from(circuit.at(turn)) {
                 return Some(found);
             }
         }

@@ -1,6 +1,7 @@
 -- The table of kernels and services: what each reads, writes and does.
-use Rattle.std.specs.Prelude.{ℕ, zero, suc, ◌+◌, ◌*◌, ◌%◌, List, [], ◌∷◌, slice_index, Option, Some, None, Bool}
+use Rattle.std.specs.Prelude.{ℕ, ◌%◌, List, [], ◌∷◌, drop, slice_index, Option, Some, None, Bool}
 use Rattle.std.specs.Prelude.{◌||◌, ◌==◌, if◌then◌else◌}
+use Rattle.std.specs.Int.{w64, from_le_bytes}
 use Rattle.hq_footprint.specs.declared.footprint.Range.{Range}
 use Rattle.hq_footprint.specs.declared.footprint.Work.{Work}
 use Rattle.hq_footprint.specs.declared.task.Task.{Task}
@@ -40,14 +41,13 @@ kernel_work code.Xor n a b dst = work (range a n) (range b n) (range dst n) task
 kernel_work code.Add n a b dst = work (range a n) (range b n) (range dst n) task.Add
 kernel_work code.Sum n src dst other = work (range src n) nowhere (range dst 8) task.Sum
 
--- the number of so many bytes at an offset, the least first
-unfoldable pub number_at : ℕ → List ℕ → ℕ → ℕ
-number_at zero bytes offset = 0
-number_at (suc n) bytes offset = slice_index bytes offset + 256 * number_at n bytes (offset + 1)
+-- the argument at an offset of a kernarg block: the number of 8 bytes, the least first
+unfoldable pub argument_at : List ℕ → ℕ → ℕ
+argument_at block offset = from_le_bytes w64 (drop offset block)
 
 -- the kernel with the arguments that stand in a kernarg block: 8 bytes each, one behind another
 abbrev pub kernel_call : Code → ℕ → List ℕ → Work
-kernel_call code n block = kernel_work code n (number_at 8 block 0) (number_at 8 block 8) (number_at 8 block 16)
+kernel_call code n block = kernel_work code n (argument_at block 0) (argument_at block 8) (argument_at block 16)
 
 -- ---- services
 

@@ -7,6 +7,7 @@ mod evaluating;
 mod fault;
 mod footprint;
 pub mod laws;
+mod same;
 mod task;
 mod work;
 

@@ -3,7 +3,7 @@
 ghost use Rattle.std.specs.Prelude.{◌≡◌, ◌+◌, ◌*◌, ◌<◌, ◌≤◌, ◌↔◌, length, All, Any, IsOk, IfOk, Ok, Err, Some};
 ghost use Rattle.std.specs.Prelude.{None, IsSomeAnd};
 ghost use Rattle.hq_footprint.specs.Bytes.{ranges_of, Fits, Passes};
-ghost use Rattle.hq_footprint.specs.Table.{argument_count, kernel_call, number_at, service_call, count_work};
+ghost use Rattle.hq_footprint.specs.Table.{argument_count, kernel_call, argument_at, service_call, count_work};
 ghost use Rattle.hq_footprint.specs.Table.{store_work, no_work};
 
 use crate::buffers::check_fits;
@@ -34,10 +34,10 @@ fn argument_number(code: Code) -> usize
 }
 
 /// The number in 8 bytes, the least first.
-#[tactic(auto, unfolding(crate::specs::Table::number_at))]
+#[tactic(auto, unfolding(crate::specs::Table::argument_at))]
 fn word_at(bytes: &[u8], offset: usize) -> u64
     requires { offset + 8 ≤ length bytes.now }
-    ensures { result ≡ number_at 8 bytes.now offset }
+    ensures { result ≡ argument_at bytes.now offset }
 {
     u64::from_le_bytes([
         bytes[offset],

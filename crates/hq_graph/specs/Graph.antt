@@ -11,9 +11,9 @@ use Rattle.hq_packet.specs.declared.packet.Head.{Head}
 use Rattle.hq_packet.specs.Parts.{head_of}
 use Rattle.hq_job.specs.Value.{JobValue}
 use Rattle.hq_job.specs.Plan.{plan}
-use Rattle.hq_job.specs.declared.rows.Kernel.{Kernel}
-use Rattle.hq_job.specs.declared.rows.Placed.{Placed}
-use Rattle.hq_job.specs.declared.rows.Queue.{Queue}
+use Rattle.hq_tables.specs.declared.rows.Kernel.{Kernel}
+use Rattle.hq_tables.specs.declared.rows.Placed.{Placed}
+use Rattle.hq_tables.specs.declared.rows.Queue.{Queue}
 use Rattle.hq_model.specs.Job.{Job}
 use Rattle.hq_model.specs.Order.{Stuck}
 use Rattle.hq_finding.specs.Names.{kind_name, why_name}

@@ -28,7 +28,7 @@ use std::io::Write;
 use std::{fmt, io};
 
 /// The name of a signal.
-pub fn signal_name(job: &Job, signal: u16) -> Option<Name>
+fn signal_name(job: &Job, signal: u16) -> Option<Name>
     ensures { result ≡ slice_get job.now.signal_names signal }
 {
     let name = job.signal_names().get(signal as usize)?;
@@ -36,7 +36,7 @@ pub fn signal_name(job: &Job, signal: u16) -> Option<Name>
 }
 
 /// The name of the signal that a rule names.
-fn named_by(job: &Job, rule: Rule) -> Option<Name>
+pub fn named_by(job: &Job, rule: Rule) -> Option<Name>
     ensures { result ≡ named_by job.now rule }
 {
     match rule {
@@ -303,7 +303,7 @@ pub fn write_conflict<W: Write>(
 }
 
 /// The name of the signal that is waited for.
-fn awaited_by(job: &Job, wait: Wait) -> Option<Name>
+pub fn awaited_by(job: &Job, wait: Wait) -> Option<Name>
     ensures { result ≡ awaited_by job.now wait }
 {
     match wait {

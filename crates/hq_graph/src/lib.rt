@@ -23,7 +23,7 @@ mod waiting;
 mod words;
 
 pub use drawing::graph;
-pub use edges::signal_name;
+pub use edges::{awaited_by, named_by};
 pub use fault::GraphFault;
 pub use nodes::{Work, work_of};
 pub use rule::Rule;

@@ -11,8 +11,8 @@ use Rattle.hq_footprint.specs.declared.task.Task.TheVariants as task
 use Rattle.hq_footprint.specs.Bytes.{bytes_of, read_entries}
 use Rattle.hq_footprint.specs.Counts.{reads_of}
 use Rattle.hq_footprint.specs.Table.{nowhere}
-use Rattle.hq_job.specs.declared.rows.Placed.{Placed}
-use Rattle.hq_job.specs.Ranges.{RangesSuit}
+use Rattle.hq_tables.specs.declared.rows.Placed.{Placed}
+use Rattle.hq_tables.specs.Ranges.{RangesSuit}
 use Rattle.hq_ledger.specs.Pieces.{Part}
 use Rattle.hq_machine.proofs.Seen.{range_below}
 use Rattle.hq_hall.specs.Handing.{piece, first_read, second_read, read_pieces}

@@ -10,17 +10,18 @@ use Rattle.std.proofs.lemmas.Option.{slice_get_within, get_or_from_slice_get}
 use Rattle.hq_footprint.specs.declared.footprint.Range.{Range}
 use Rattle.hq_footprint.specs.declared.footprint.Footprint.{Footprint}
 use Rattle.hq_footprint.specs.declared.footprint.Work.{Work}
-use Rattle.hq_footprint.specs.Bytes.{bytes_of, read_entries, written_bytes}
+use Rattle.hq_footprint.specs.Bytes.{bytes_of, read_entries, written_bytes, Share}
 use Rattle.hq_footprint.specs.Conflicts.{Conflict}
 use Rattle.hq_footprint.specs.Tasks.{SuitsTwo, result_of}
 use Rattle.hq_footprint.specs.Table.{nowhere, no_work}
-use Rattle.hq_job.specs.declared.rows.Placed.{Placed}
+use Rattle.hq_tables.specs.declared.rows.Placed.{Placed}
 use Rattle.hq_job.specs.Plan.{plan, planned}
-use Rattle.hq_job.specs.Tables.{total_of}
-use Rattle.hq_job.specs.Value.{JobValue, Bytes}
+use Rattle.hq_tables.specs.Tables.{total_of}
+use Rattle.hq_job.specs.Value.{JobValue}
+use Rattle.hq_tables.specs.Blocks.{Bytes}
 use Rattle.hq_job.specs.View.{PacketIsRead, WithinLimits}
-use Rattle.hq_job.proofs.Shares.{packet_at, shares}
-use Rattle.hq_job.proofs.Submitted.{all_at, at}
+use Rattle.hq_job.proofs.Shares.{packet_at}
+use Rattle.hq_tables.proofs.Lists.{all_at, at}
 use Rattle.hq_certcheck.specs.View.{AcceptedJob}
 use Rattle.hq_ledger.specs.declared.grants.Grant.{Grant}
 use Rattle.hq_ledger.specs.Grants.{IsClear}
@@ -33,7 +34,7 @@ use Rattle.hq_machine.specs.Enabled.{Possible}
 use Rattle.hq_machine.specs.State.{StateValue}
 use Rattle.hq_machine.specs.View.{IsStateOf, state_of}
 use Rattle.hq_model.specs.Job.{Packet, packet}
-use Rattle.hq_model.specs.Fence.{Conflict as Kinds, Conflicts, Ordered, Share}
+use Rattle.hq_model.specs.Fence.{Conflict as Kinds, Conflicts, Ordered}
 use Rattle.hq_model.specs.Fence.Conflict.{WriteRead, WriteWrite, ReadWrite}
 use Rattle.hq_model.specs.Journal.{JournalRun}
 use Rattle.hq_model.specs.Journal.Coarse.{Deliver}
@@ -114,14 +115,11 @@ plan_at v p low =
 
 apart_shares : (v : JobValue) (q p : ℕ) → q < length v.packets → p < length v.packets → ((kind : Kinds) → Conflicts (plan v) kind q p → ⊥) → Conflict (foot_of v.packets q) (foot_of v.packets p) → ⊥
 apart_shares v q p lq lp none (inl wr) =
-    none WriteRead (subst (λ xs. Share xs (packet (plan v) p).reads) (sym (plan_at v q lq).writes) (subst (Share (written_bytes (foot_of v.packets q))) (sym (plan_at v p lp).reads)
-    ((shares (written_bytes (foot_of v.packets q)) (read_entries (foot_of v.packets p))).0 wr)))
+    none WriteRead (subst (λ xs. Share xs (packet (plan v) p).reads) (sym (plan_at v q lq).writes) (subst (Share (written_bytes (foot_of v.packets q))) (sym (plan_at v p lp).reads) wr))
 apart_shares v q p lq lp none (inr (inl ww)) =
-    none WriteWrite (subst (λ xs. Share xs (packet (plan v) p).writes) (sym (plan_at v q lq).writes) (subst (Share (written_bytes (foot_of v.packets q))) (sym (plan_at v p lp).writes)
-    ((shares (written_bytes (foot_of v.packets q)) (written_bytes (foot_of v.packets p))).0 ww)))
+    none WriteWrite (subst (λ xs. Share xs (packet (plan v) p).writes) (sym (plan_at v q lq).writes) (subst (Share (written_bytes (foot_of v.packets q))) (sym (plan_at v p lp).writes) ww))
 apart_shares v q p lq lp none (inr (inr rw)) =
-    none ReadWrite (subst (λ xs. Share xs (packet (plan v) p).writes) (sym (plan_at v q lq).reads) (subst (Share (read_entries (foot_of v.packets q))) (sym (plan_at v p lp).writes)
-    ((shares (read_entries (foot_of v.packets q)) (written_bytes (foot_of v.packets p))).0 rw)))
+    none ReadWrite (subst (λ xs. Share xs (packet (plan v) p).writes) (sym (plan_at v q lq).reads) (subst (Share (read_entries (foot_of v.packets q))) (sym (plan_at v p lp).writes) rw))
 
 -- a packet that is active and wasn't fetched is in no way of those that are out
 pub clear_out : (v : JobValue) (events : List Event) (st : StateValue) (out : List Grant) (stages : List Stage) (p : ℕ) (foot : Footprint) → Valid (plan v) → Ordered (plan v) → RunSoFar (plan v) events st

@@ -6,7 +6,7 @@ use Rattle.hq_footprint.specs.declared.footprint.Footprint.{Footprint}
 use Rattle.hq_footprint.specs.declared.footprint.Work.{Work}
 use Rattle.hq_footprint.specs.Counts.{reads_of, writes_of}
 use Rattle.hq_footprint.specs.Table.{nowhere, no_work}
-use Rattle.hq_job.specs.declared.rows.Placed.{Placed}
+use Rattle.hq_tables.specs.declared.rows.Placed.{Placed}
 use Rattle.hq_ledger.specs.Pieces.{Part}
 
 -- what packet p of these does, in addresses, and its footprint in byte numbers

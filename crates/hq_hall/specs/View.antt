@@ -9,7 +9,7 @@ use Rattle.hq_footprint.specs.declared.footprint.Work.{Work as WorkValue}
 use Rattle.hq_footprint.specs.declared.task.Task.{Task}
 use Rattle.hq_footprint.specs.Counts.{reads_of, writes_of}
 use Rattle.hq_job.specs.Plan.{plan}
-use Rattle.hq_job.specs.declared.rows.Placed.{Placed}
+use Rattle.hq_tables.specs.declared.rows.Placed.{Placed}
 use Rattle.hq_ledger.specs.Grants.{IsOut}
 use Rattle.hq_ledger.specs.Pieces.{Part}
 use Rattle.hq_ledger.specs.Trays.{TrayValue}

@@ -33,10 +33,11 @@ use crate::history::History;
 use crate::stage::Stage;
 use hq_certcheck::Accepted;
 use hq_footprint::{Footprint, Range, Work};
-use hq_job::{Job, Placed};
+use hq_job::Job;
 use hq_ledger::{GrantFault, Grants, Home, Piece, Tray};
 use hq_machine::{Event, Journal, Phase};
 use hq_packet::Packet;
+use hq_tables::Placed;
 use std::alloc::{AllocError, Global};
 use std::marker::Model;
 

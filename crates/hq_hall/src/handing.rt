@@ -4,15 +4,15 @@ ghost use Rattle.std.specs.Prelude.{◌≡◌, ◌<◌, ◌≤◌, ◌+◌, ◌^
 ghost use Rattle.std.specs.Prelude.{length, map, replicate};
 ghost use Rattle.hq_footprint.specs.Bytes.{bytes_of, read_entries};
 ghost use Rattle.hq_hall.specs.Handing.{piece, pieces_of, read_pieces, write_pieces};
-ghost use Rattle.hq_job.specs.Ranges.{RangesSuit};
+ghost use Rattle.hq_tables.specs.Ranges.{RangesSuit};
 ghost use Rattle.hq_machine.specs.View.{IsStateOf, state_of};
 ghost use Rattle.hq_model.specs.Job.{Job as JobOfNumbers};
 ghost use Rattle.hq_model.specs.Machine.{lane_sees};
 
 use hq_footprint::Range;
-use hq_job::Placed;
 use hq_ledger::{Piece, Tray};
 use hq_machine::State;
+use hq_tables::Placed;
 use std::alloc::{AllocError, AllocFailed, Global};
 
 /// Takes a piece in at the end. Where there is no memory it is opened, so that it doesn't come home as one that was

@@ -5,7 +5,7 @@ use Rattle.hq_packet.specs.declared.packet.Packet as packet
 use Rattle.hq_packet.specs.declared.packet.Packet.TheVariants as format
 use Rattle.hq_packet.specs.Parts.{head_of, with_head}
 use Rattle.hq_lines.proofs.PacketLines.{own_head}
-use Rattle.hq_job.specs.declared.rows.Placed.{Placed}
+use Rattle.hq_tables.specs.declared.rows.Placed.{Placed}
 use Rattle.hq_job.specs.Heads.{placed_with_head, with_heads, OwnHeads, OtherHeads, LastHeads}
 
 own_placed : (p : Placed) → placed_with_head p (head_of p.packet) ≡ p

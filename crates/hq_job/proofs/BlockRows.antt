@@ -5,8 +5,8 @@ use Rattle.std.specs.Option.{option_map}
 use Rattle.std.proofs.lemmas.List.{length-map}
 use Rattle.std.proofs.lemmas.Option.{slice_get-map, slice_get_read}
 use Rattle.hq_signals.proofs.Places.{AgreeBelow, same_to_the_end}
-use Rattle.hq_job.specs.Blocks.{bytes_of, blocks_of}
-use Rattle.hq_job.specs.declared.rows.Block.{Block}
+use Rattle.hq_tables.specs.Blocks.{bytes_of, blocks_of}
+use Rattle.hq_tables.specs.declared.rows.Block.{Block}
 
 block_at : (xs : List Block) (i : ℕ) (x : Block) → i < length xs → x ≡ slice_index_or xs i x → slice_get (blocks_of xs) i ≡ Some (bytes_of x)
 block_at xs i x lt is = slice_get-map bytes_of xs i ∙ ap (option_map bytes_of) (slice_get_read xs (length xs) i x refl lt is)

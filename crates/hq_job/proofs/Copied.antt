@@ -2,11 +2,11 @@
 use Rattle.std.proofs.Common.{◌≡◌, ℕ, List, length, map, sym, ◌∙◌, ap, subst}
 use Rattle.hq_model.specs.Journal.{numbers}
 use Rattle.hq_job.specs.declared.job.Job.TheInside.{Inside}
-use Rattle.hq_job.specs.declared.rows.Placed.{Placed}
+use Rattle.hq_tables.specs.declared.rows.Placed.{Placed}
 use Rattle.hq_job.specs.JobFields.{FieldsFit}
 use Rattle.hq_job.specs.Numbering.{by_number}
-use Rattle.hq_job.specs.Tables.{Tables}
-use Rattle.hq_job.specs.TablesView.{tables_of}
+use Rattle.hq_tables.specs.Tables.{Tables}
+use Rattle.hq_tables.specs.TablesView.{tables_of}
 use Rattle.hq_job.specs.Value.{JobValue}
 use Rattle.hq_job.specs.View.{value_of, IsRead}
 

@@ -5,9 +5,7 @@ use Rattle.std.proofs.lemmas.Grind.{flat_map-append}
 use Rattle.std.proofs.lemmas.List.{map-append}
 use Rattle.hq_model.specs.Journal.{numbers}
 use Rattle.hq_job.specs.Numbering.{with_key, grouped, number_of}
-
-pub some_is : {X : Type 0} (x y : X) → Some x ≡ Some y → x ≡ y
-some_is x y e = cc
+use Rattle.hq_tables.proofs.Lists.{some_is, within}
 
 pub get_after : {X : Type 0} (xs ys : List X) (i : ℕ) → slice_get (xs ++ ys) (length xs + i) ≡ slice_get ys i
 get_after [] ys i = ap (slice_get ys) (omega arith)
@@ -17,11 +15,6 @@ pub get_before : {X : Type 0} (xs ys : List X) (i : ℕ) → i < length xs → s
 get_before [] ys i l = absurd (omega arith)
 get_before (x ∷ xs) ys zero l = refl
 get_before (x ∷ xs) ys (suc i) l = get_before xs ys i (omega arith)
-
-pub get_within : {X : Type 0} (xs : List X) (i : ℕ) (x : X) → slice_get xs i ≡ Some x → i < length xs
-get_within [] i x e = absurd (cc)
-get_within (y ∷ ys) zero x e = omega arith
-get_within (y ∷ ys) (suc i) x e = omega (arith, get_within ys i x e)
 
 -- ---- filters
 
@@ -77,7 +70,7 @@ get_grouped key (suc n) q xs i x l e = elim (cases_eq q n) [
   | inl same ↦ rw (grouped_more key n xs) (rw same (get_after (grouped key n xs) (with_key key xs n) i ∙ subst (λ m. slice_get (with_key key xs m) i ≡ Some x) same e))
   | inr apart ↦
       let h : slice_get (grouped key n xs) (length (grouped key q xs) + i) ≡ Some x = get_grouped key n q xs i x (omega arith) e in
-      rw (grouped_more key n xs) (get_before (grouped key n xs) (with_key key xs n) (length (grouped key q xs) + i) (get_within (grouped key n xs) (length (grouped key q xs) + i) x h) ∙ h)
+      rw (grouped_more key n xs) (get_before (grouped key n xs) (with_key key xs n) (length (grouped key q xs) + i) (within (grouped key n xs) (length (grouped key q xs) + i) x h) ∙ h)
 ]
 
 -- the key of the k-th
@@ -120,7 +113,7 @@ numbered {X} key (suc n) xs p l = elim (cases_lt p (length (grouped key n xs))) 
 -- ---- numbers are below their count, and differ
 
 pub number_below : {X : Type 0} (key : X → ℕ) (n : ℕ) (xs : List X) (k : ℕ) (x : X) → slice_get xs k ≡ Some x → key x < n → number_of key xs k < length (grouped key n xs)
-number_below key n xs k x e l = get_within (grouped key n xs) (number_of key xs k) x (get_number key n xs k x e l)
+number_below key n xs k x e l = within (grouped key n xs) (number_of key xs k) x (get_number key n xs k x e l)
 
 grouped_grows : {X : Type 0} (key : X → ℕ) (a b : ℕ) (xs : List X) → a ≤ b → length (grouped key a xs) ≤ length (grouped key b xs)
 grouped_grows key a zero xs l = let e : a ≡ 0 = omega arith in subst (λ m. length (grouped key m xs) ≤ 0) (sym e) (omega arith)

@@ -1,5 +1,5 @@
 -- What holds of all holds of the grouped, and sums over the grouped are those over the list.
-use Rattle.std.proofs.Common.{◌≡◌, ℕ, zero, suc, ◌+◌, ◌<◌, ◌≤◌, ◌≢◌, inl, inr, Bool, false, map, cond, ◌==◌, List, [], ◌∷◌, ◌++◌, sym, ap, ◌∙◌, subst, arith, All, sum_by, count_by, refl}
+use Rattle.std.proofs.Common.{◌≡◌, ℕ, zero, suc, ◌+◌, ◌<◌, ◌≤◌, ◌≢◌, inl, inr, Bool, map, cond, ◌==◌, List, [], ◌∷◌, sym, ap, ◌∙◌, subst, arith, All, sum_by, count_by, refl}
 use Rattle.std.proofs.lemmas.Bool.{cases_eq, cond-true, cond-false, eq-eqb, ne_eqb}
 use Rattle.std.proofs.lemmas.List.Elements.{All-nil, All-append, All-filter}
 use Rattle.std.proofs.lemmas.List.Sums.{sum_by-cons, sum_by-append}
@@ -48,13 +48,3 @@ pub count_map : {X Y : Type 0} (test : Y → Bool) (f : X → Y) (xs : List X) �
 count_map test f [] = refl
 count_map test f (x ∷ xs) =
     omega (arith, sum_by-cons (λ y. cond {A = ℕ} (test y) 1 0) (f x) (map f xs), sum_by-cons (λ y. cond {A = ℕ} (test (f y)) 1 0) x xs, count_map test f xs)
-
--- none passes
-pub count_none : {X : Type 0} (test : X → Bool) (xs : List X) → All (λ x. test x ≡ false) xs → count_by test xs ≡ 0
-count_none test [] all = refl
-count_none test (x ∷ xs) all =
-    omega (arith, sum_by-cons (λ y. cond {A = ℕ} (test y) 1 0) x xs, cond-false {A = ℕ} (test x) 1 0 (all 0 x (omega arith)), count_none test xs (λ k d l. all (suc k) d (omega arith)))
-
--- one more
-pub count_push : {X : Type 0} (test : X → Bool) (xs : List X) (x : X) → count_by test (xs ++ x ∷ []) ≡ count_by test xs + cond (test x) 1 0
-count_push test xs x = sum_by-append (λ y. cond {A = ℕ} (test y) 1 0) xs (x ∷ []) ∙ omega (arith, sum_by-cons (λ y. cond {A = ℕ} (test y) 1 0) x [])

@@ -1,21 +1,10 @@
 pub mod Grouped
-pub mod Heads
+pub mod GivenHeads
 pub mod Copied
 pub mod Submitted
 pub mod Counted
-pub mod Found
-pub mod Tail
-pub mod Kept
-pub mod BytePlaces
-pub mod ByteNumbers
-pub mod SignalNumbers
 pub mod GroupedSums
 pub mod ReadPlan
-pub mod PacketKept
-pub mod Notes
-pub mod Numbers
-pub mod Calls
-pub mod RowLaws
 pub mod QueuePlaces
 pub mod MemoryBytes
 pub mod Shares
@@ -23,4 +12,3 @@ pub mod Spans
 pub mod Options
 pub mod BlockRows
 pub mod AllHeads
-pub mod Verdicts

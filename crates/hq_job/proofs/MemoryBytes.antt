@@ -3,9 +3,9 @@ use Rattle.std.proofs.Common.{◌≡◌, ℕ, ◌+◌, ◌<◌, List, [], ◌∷
 use Rattle.std.specs.List.{flat_map}
 use Rattle.std.proofs.lemmas.List.{take_more, map-append}
 use Rattle.std.proofs.lemmas.Grind.{flat_map-append}
-use Rattle.hq_job.specs.declared.rows.Block.{Block}
-use Rattle.hq_job.specs.Blocks.{bytes_of, blocks_of}
-use Rattle.hq_job.specs.Value.{Bytes}
+use Rattle.hq_tables.specs.declared.rows.Block.{Block}
+use Rattle.hq_tables.specs.Blocks.{bytes_of, blocks_of}
+use Rattle.hq_tables.specs.Blocks.{Bytes}
 
 abbrev laid : List Bytes → List ℕ
 laid blocks = flat_map (λ b. b.bytes) blocks

@@ -7,7 +7,7 @@ use Rattle.std.proofs.lemmas.List.Elements.{All-nil, All-cons, All-append, All-w
 use Rattle.std.proofs.lemmas.List.Sums.{sum_by-cons, sum_by-append}
 use Rattle.hq_model.specs.Job as model
 use Rattle.hq_model.specs.Job.{Job, packet, place_in_queue}
-use Rattle.hq_job.specs.declared.rows.Placed.{Placed}
+use Rattle.hq_tables.specs.declared.rows.Placed.{Placed}
 use Rattle.hq_job.specs.declared.job.Job.TheInside.{Inside}
 use Rattle.hq_job.specs.JobFields.{FieldsFit}
 use Rattle.hq_job.specs.View.{value_of}
@@ -15,9 +15,11 @@ use Rattle.hq_job.specs.Value.{JobValue}
 use Rattle.hq_job.specs.Plan.{plan, planned}
 use Rattle.hq_job.specs.Numbering.{with_key, grouped, by_number}
 use Rattle.hq_job.specs.Access.{StandsAt, LiesAt}
-use Rattle.hq_job.proofs.Grouped.{grouped_more, some_is}
-use Rattle.hq_job.proofs.GroupedSums.{count_map, count_none}
-use Rattle.hq_job.proofs.Submitted.{at, within, all_at}
+use Rattle.hq_job.proofs.Grouped.{grouped_more}
+use Rattle.hq_tables.proofs.Lists.{some_is, at, within, all_at, count_none}
+use Rattle.hq_job.proofs.GroupedSums.{count_map}
+use Rattle.hq_tables.proofs.Lists.{count_none}
+use Rattle.hq_tables.proofs.Lists.{at, within, all_at}
 use Rattle.hq_job.proofs.Counted.{counted_none}
 
 -- ---- lists end to end

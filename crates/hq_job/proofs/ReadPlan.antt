@@ -1,6 +1,6 @@
 -- The job of tables that fit, with no signal against it, is one that was read: its plan is valid, and it is within the limits.
-use Rattle.std.proofs.Common.{◌≡◌, ℕ, ◌<◌, ◌≤◌, ◌≢◌, inl, inr, Bool, false, List, length, Option, Some, None, refl, sym, ap, ◌∙◌, subst, arith, slice_get, slice_index, All, AllPairs, IfSome, IsTrue, count_by}
-use Rattle.std.proofs.lemmas.Bool.{cases_lt, ne_eqb}
+use Rattle.std.proofs.Common.{◌≡◌, ℕ, ◌<◌, ◌≤◌, ◌≢◌, inl, inr, List, length, Some, refl, sym, ap, ◌∙◌, subst, arith, slice_get, slice_index, All, AllPairs, IfSome, IsTrue, count_by}
+use Rattle.std.proofs.lemmas.Bool.{cases_lt}
 use Rattle.std.proofs.lemmas.List.{length-map, get_or-map, get_or_past}
 use Rattle.std.proofs.lemmas.List.Concat.{length-flat_map}
 use Rattle.std.proofs.lemmas.List.Elements.{All-map, All-weaker}
@@ -11,17 +11,19 @@ use Rattle.hq_model.specs.Job as model
 use Rattle.hq_model.specs.Job.{Job, packet, no_packet, IsPacket, Dependency, decrementers, is_signal}
 use Rattle.hq_model.specs.Machine.{IsByte}
 use Rattle.hq_model.specs.Theorems.{Valid}
-use Rattle.hq_job.specs.declared.rows.Placed.{Placed}
+use Rattle.hq_tables.specs.declared.rows.Placed.{Placed}
 use Rattle.hq_job.specs.Numbering.{by_number}
 use Rattle.hq_job.specs.Plan.{plan, planned}
-use Rattle.hq_job.specs.Value.{Bytes}
+use Rattle.hq_tables.specs.Blocks.{Bytes}
 use Rattle.hq_job.specs.View.{IsRead, WithinLimits, PacketIsRead}
-use Rattle.hq_job.specs.Tables.{Tables, total_of}
+use Rattle.hq_tables.specs.Tables.{Tables, total_of}
 use Rattle.hq_job.specs.Ended.{value_of}
-use Rattle.hq_job.specs.Fits.{TablesFit, PacketFits}
+use Rattle.hq_tables.specs.Fits.{TablesFit, PacketFits}
 use Rattle.hq_job.proofs.Grouped.{grouped_most}
-use Rattle.hq_job.proofs.Submitted.{queue_of, at, all_at, within, each_once, in_order}
-use Rattle.hq_job.proofs.GroupedSums.{all_grouped, count_grouped, count_map, count_none}
+use Rattle.hq_job.proofs.Submitted.{queue_of, each_once, in_order}
+use Rattle.hq_tables.proofs.Lists.{at, within, all_at}
+use Rattle.hq_job.proofs.GroupedSums.{all_grouped, count_grouped, count_map}
+use Rattle.hq_tables.proofs.Counts.{on, none_past}
 
 abbrev job_of : Tables → Job
 job_of ts = plan (value_of ts)
@@ -64,21 +66,11 @@ memory_is ts = length-flat_map (λ (b : Bytes). b.bytes) ts.buffers
 
 -- ---- signals
 
-abbrev pub on : ℕ → Placed → Bool
-on s p = is_signal s p.done
-
 decrementers_are : (ts : Tables) → TablesFit ts → (s : ℕ) → decrementers (job_of ts) s ≡ count_by (on s) ts.placed
 decrementers_are ts fits s = count_map (model.completes_on s) planned (rows ts) ∙ count_grouped (on s) queue_of (length ts.queues) ts.placed (below ts fits)
 
 start_is : (ts : Tables) (k : ℕ) (s : OpenSignal) → slice_get ts.signals k ≡ Some s → slice_index (job_of ts).starts k ≡ s.start
 start_is ts k s e = get_or-map (λ (t : OpenSignal). t.start) ts.signals k s 0 (within ts.signals k s e) ∙ ap (λ (t : OpenSignal). t.start) (get_or_from_slice_get ts.signals k s s e)
-
-not_on : (k n : ℕ) (o : Option ℕ) → n ≤ k → IfSome o (λ j. j < n) → is_signal k o ≡ false
-not_on k n None l h = refl
-not_on k n (Some j) l h = ne_eqb j k (λ e. omega arith)
-
-pub none_past : (ts : Tables) → TablesFit ts → (s : ℕ) → length ts.signals ≤ s → count_by (on s) ts.placed ≡ 0
-none_past ts fits s high = count_none (on s) ts.placed (All-weaker (PacketFits ts) (λ p. on s p ≡ false) (λ p h. not_on s (length ts.signals) p.done high h.done) ts.placed fits.packets)
 
 enough : (ts : Tables) → TablesFit ts → All (λ s. ¬ IsUndershot s) ts.signals → (s : ℕ) → decrementers (job_of ts) s ≤ slice_index (job_of ts).starts s
 enough ts fits sound s = elim (cases_lt s (length ts.signals)) [

@@ -1,32 +1,33 @@
 -- The packets of a queue stand one behind another.
-use Rattle.std.proofs.Common.{◌≡◌, ℕ, suc, ◌+◌, ◌-◌, ◌<◌, ◌≤◌, inl, inr, true, cond, ◌==◌, nat_lt, List, length, map, take, Some, refl, sym, ◌∙◌, ap, subst, arith, slice_get, slice_index, length-append, add-one}
+use Rattle.std.proofs.Common.{◌≡◌, ℕ, suc, ◌+◌, ◌-◌, ◌<◌, ◌≤◌, inl, inr, true, cond, ◌==◌, nat_lt, List, length, take, Some, refl, sym, ◌∙◌, ap, subst, arith, slice_get, slice_index, length-append, add-one}
 use Rattle.std.proofs.lemmas.Bool.{cases_lt, cond-true, cond-false, eq-eqb, lt-ltb, le-ltb}
 use Rattle.std.proofs.lemmas.List.{length-map}
 use Rattle.hq_model.specs.Job as model
 use Rattle.hq_model.specs.Job.{Job}
 use Rattle.hq_job.specs.declared.job.Job.TheInside.{Inside}
-use Rattle.hq_job.specs.declared.rows.Placed.{Placed}
+use Rattle.hq_tables.specs.declared.rows.Placed.{Placed}
 use Rattle.hq_job.specs.JobFields.{FieldsFit}
 use Rattle.hq_job.specs.View.{value_of}
 use Rattle.hq_job.specs.Value.{JobValue}
 use Rattle.hq_job.specs.Plan.{plan, planned}
 use Rattle.hq_job.specs.Numbering.{with_key, grouped, by_number}
 use Rattle.hq_job.specs.Access.{AreOfQueue}
-use Rattle.hq_job.proofs.Grouped.{grouped_more, some_is, get_within, get_filtered, get_grouped, get_number, numbered, key_at}
+use Rattle.hq_job.proofs.Grouped.{grouped_more, get_filtered, get_grouped, get_number, numbered, key_at}
+use Rattle.hq_tables.proofs.Lists.{some_is, at, within, all_at}
 use Rattle.hq_job.proofs.QueuePlaces.{keys_are, stands, packet_at, first_is, queue_of, with_rows, queue_kept, as_many_rows}
-use Rattle.hq_job.proofs.Submitted.{at, within, all_at}
+use Rattle.hq_tables.proofs.Lists.{at, within, all_at}
 use Rattle.hq_job.proofs.Counted.{counted_none}
 
 -- what has the key stands behind the groups of lesser keys, and ahead of those of greater ones
 pub has_span : {X : Type 0} (key : X → ℕ) (n : ℕ) (xs : List X) (p q : ℕ) (x : X) → slice_get (grouped key n xs) p ≡ Some x → key x ≡ q → (length (grouped key q xs) ≤ p) × (p < length (grouped key (suc q) xs))
 has_span key n xs p q x there same =
     let h = stands key n xs p x there in
-    let f = numbered key n xs p (get_within (grouped key n xs) p x there) in
+    let f = numbered key n xs p (within (grouped key n xs) p x there) in
     let found : slice_get (grouped key n xs) p ≡ Some f.x = subst (λ m. slice_get (grouped key n xs) m ≡ Some f.x) f.number_is (get_number key n xs f.k f.x f.there f.key_below) in
     let is : f.x ≡ x = some_is f.x x (sym found ∙ there) in
     let key_is : key f.x ≡ q = ap key is ∙ same in
     let passes : (key f.x == q) ≡ true = eq-eqb (key f.x) q key_is in
-    let inside : length (with_key key (take f.k xs) q) < length (with_key key xs q) = get_within (with_key key xs q) (length (with_key key (take f.k xs) q)) f.x (get_filtered (λ y. key y == q) xs f.k f.x f.there passes) in
+    let inside : length (with_key key (take f.k xs) q) < length (with_key key xs q) = within (with_key key xs q) (length (with_key key (take f.k xs) q)) f.x (get_filtered (λ y. key y == q) xs f.k f.x f.there passes) in
     let number : length (grouped key q xs) + length (with_key key (take f.k xs) q) ≡ p = sym (ap (λ m. length (grouped key m xs) + length (with_key key (take f.k xs) m)) (key_at key xs f.k f.x f.there ∙ key_is)) ∙ f.number_is in
     (omega (arith, number), omega (arith, number, inside, ap length (grouped_more key q xs), length-append (grouped key q xs) (with_key key xs q)))
 

@@ -1,9 +1,9 @@
 -- Packets by number and their submissions make a job whose packets are each submitted once, and a queue's in its order.
-use Rattle.std.proofs.Common.{◌≡◌, ℕ, zero, suc, ◌<◌, ◌≢◌, inl, inr, List, [], ◌∷◌, length, refl, sym, ◌∙◌, ap, subst, arith, Some, slice_get, slice_index_or, All, AllPairs, map}
+use Rattle.std.proofs.Common.{◌≡◌, ℕ, ◌<◌, ◌≢◌, inl, inr, List, length, sym, ◌∙◌, ap, subst, arith, Some, slice_get, slice_index_or, All, AllPairs, map}
 use Rattle.std.proofs.lemmas.Bool.{cases_eq, cases_lt}
 use Rattle.std.proofs.lemmas.List.{get_or-map, length-map}
 use Rattle.std.proofs.lemmas.Option.{get_or_from_slice_get}
-use Rattle.hq_job.specs.declared.rows.Placed.{Placed}
+use Rattle.hq_tables.specs.declared.rows.Placed.{Placed}
 use Rattle.hq_job.specs.Numbering.{number_of, by_number, submissions_of}
 use Rattle.hq_job.specs.Plan.{planned}
 use Rattle.hq_job.proofs.Grouped.{Numbered, numbered, number_below, number_once, number_rises, get_number}
@@ -11,27 +11,10 @@ use Rattle.hq_model.specs.Job.{Job, packet, no_packet, Earlier}
 use Rattle.hq_model.specs.Journal.{numbers}
 use Rattle.hq_model.specs.Order.{EachOnce, Ahead, place}
 use Rattle.hq_model.proofs.Places.{place_once, in_of, length_numbers, number_at}
+use Rattle.hq_tables.proofs.Lists.{at, within, all_at}
 
 abbrev pub queue_of : Placed → ℕ
 queue_of p = p.queue
-
--- what stands at a place that is there
-pub record At {X : Type 0} (xs : List X) (k : ℕ) : Type 0 where
-  pub x : X
-  pub there : slice_get xs k ≡ Some x
-
-pub at : {X : Type 0} (xs : List X) (k : ℕ) → k < length xs → At xs k
-at [] k l = absurd (omega arith)
-at (x ∷ xs) zero l = record { x = x; there = refl }
-at (x ∷ xs) (suc k) l = let rest = at xs k (omega arith) in record { x = rest.x; there = rest.there }
-
-pub within : {X : Type 0} (xs : List X) (k : ℕ) (x : X) → slice_get xs k ≡ Some x → k < length xs
-within [] k x e = absurd (cc)
-within (y ∷ ys) zero x e = omega arith
-within (y ∷ ys) (suc k) x e = omega (arith, within ys k x e)
-
-pub all_at : {X : Type 0} (P : X → Type 0) (xs : List X) (k : ℕ) (x : X) → All P xs → slice_get xs k ≡ Some x → P x
-all_at P xs k x h e = subst P (get_or_from_slice_get xs k x x e) (h k x (within xs k x e))
 
 pub length_submissions : (placed : List Placed) → length (submissions_of placed) ≡ length placed
 length_submissions placed = length-map (numbers (length placed)) (number_of queue_of placed) ∙ length_numbers (length placed)

@@ -1,7 +1,7 @@
 -- What a job's calls answer beside its tables.
 use Rattle.std.specs.Prelude.{◌≡◌, ℕ, ◌+◌, ◌<◌, ◌≤◌, List, length, Some, slice_get, slice_index}
 use Rattle.hq_model.specs.Job.{Job, packet, IsPacket, place_in_queue}
-use Rattle.hq_job.specs.declared.rows.Placed.{Placed}
+use Rattle.hq_tables.specs.declared.rows.Placed.{Placed}
 
 -- packet p stands in this queue, at this place of it
 pub record StandsAt (job : Job) (queue place p : ℕ) : Type 0 where

@@ -3,7 +3,7 @@ use Rattle.std.specs.Prelude.{◌≡◌, ℕ, zero, suc, List, [], ◌∷◌, ma
 use Rattle.hq_packet.specs.declared.packet.Head.{Head}
 use Rattle.hq_packet.specs.Parts.{head_of, with_head}
 use Rattle.hq_model.specs.Settings.{no_head}
-use Rattle.hq_job.specs.declared.rows.Placed.{Placed}
+use Rattle.hq_tables.specs.declared.rows.Placed.{Placed}
 use Rattle.hq_job.specs.Value.{JobValue}
 
 -- the packet with this head, and all else as it was

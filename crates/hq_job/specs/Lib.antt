@@ -1,15 +1,7 @@
 pub mod Value
 pub mod Plan
-pub mod Ranges
 pub mod View
 pub mod Numbering
-pub mod LineFaults
-pub mod Tables
-pub mod PacketTests
-pub mod Blocks
-pub mod Adds
-pub mod TablesView
-pub mod Fits
 pub mod Access
 pub mod Heads
 pub mod JobFields

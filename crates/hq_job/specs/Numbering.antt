@@ -1,7 +1,7 @@
 -- The numbers of packets.
 use Rattle.std.specs.Prelude.{ℕ, ◌+◌, List, map, filter, take, length, slice_index, ◌==◌}
 use Rattle.std.specs.List.{flat_map}
-use Rattle.hq_job.specs.declared.rows.Placed.{Placed}
+use Rattle.hq_tables.specs.declared.rows.Placed.{Placed}
 use Rattle.hq_model.specs.Journal.{numbers}
 
 -- those of a list that have this key, in its order

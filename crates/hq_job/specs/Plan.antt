@@ -1,21 +1,13 @@
 -- The job as numbers: what a job means to everything above the texts.
 use Rattle.std.specs.Prelude.{map, length}
 use Rattle.std.specs.List.{flat_map}
-use Rattle.hq_packet.specs.declared.packet.Packet.{Packet}
-use Rattle.hq_packet.specs.declared.packet.Packet.TheVariants as packet
 use Rattle.hq_packet.specs.Parts.{head_of}
 use Rattle.hq_footprint.specs.Bytes.{read_entries, written_bytes}
-use Rattle.hq_job.specs.declared.rows.Placed.{Placed}
+use Rattle.hq_tables.specs.declared.rows.Placed.{Placed}
 use Rattle.hq_job.specs.Value.{JobValue}
+use Rattle.hq_tables.specs.Kinds.{kind_of}
 use Rattle.hq_signals.specs.Table.{starts}
 use Rattle.hq_model.specs.Job as model
-
--- a kernel or agent dispatch is work
-abbrev pub kind_of : Packet → model.Kind
-kind_of (packet.Kernel k) = model.Kind.Work
-kind_of (packet.Agent a) = model.Kind.Work
-kind_of (packet.And b) = model.Kind.BarrierAnd
-kind_of (packet.Or b) = model.Kind.BarrierOr
 
 -- what the model sees of a packet: no handles and addresses, but its signals and its bytes by number
 abbrev pub planned : Placed → model.Packet

@@ -1,19 +1,10 @@
 -- A job as a value: what its lines declare, each table in file order.
 use Rattle.std.specs.Prelude.{ℕ, Bool, List}
 use Rattle.hq_signals.specs.Table.{OpenSignal}
-use Rattle.hq_job.specs.declared.rows.Kernel.{Kernel}
-use Rattle.hq_job.specs.declared.rows.Queue.{Queue}
-use Rattle.hq_job.specs.declared.rows.Placed.{Placed}
-
--- a name is the list of its characters
-abbrev pub Name : Type 0
-Name = List ℕ
-
--- a named run of bytes from an address on: a buffer, or a kernarg block
-pub record Bytes : Type 0 where
-  pub name : Name
-  pub at : ℕ
-  pub bytes : List ℕ
+use Rattle.hq_tables.specs.Blocks.{Name, Bytes}
+use Rattle.hq_tables.specs.declared.rows.Kernel.{Kernel}
+use Rattle.hq_tables.specs.declared.rows.Queue.{Queue}
+use Rattle.hq_tables.specs.declared.rows.Placed.{Placed}
 
 -- all that a job's lines declare, with its packets by number
 pub record JobValue : Type 0 where

@@ -1,16 +1,16 @@
 -- What a `Job`'s fields mean, and what is known of every job that was read.
 use Rattle.std.specs.Prelude.{◌<◌, ◌≤◌, length, sum_by, All, IfSome}
 use Rattle.hq_job.specs.declared.job.Job.TheInside.{Inside}
-use Rattle.hq_job.specs.TablesView.{tables_of}
+use Rattle.hq_tables.specs.TablesView.{tables_of}
 use Rattle.hq_job.specs.Value.{JobValue}
 use Rattle.hq_footprint.specs.Bytes.{read_entries, written_bytes}
 use Rattle.hq_footprint.specs.Tasks.{Suits}
 use Rattle.hq_model.specs.declared.limits.TheConstants.{BYTES, PACKETS}
-use Rattle.hq_job.specs.declared.limits.TheConstants.{AGENTS, BLOCKS, BUFFERS, KERNELS, QUEUES, SIGNALS}
-use Rattle.hq_job.specs.declared.rows.Placed.{Placed}
-use Rattle.hq_job.specs.Tables.{total_of}
+use Rattle.hq_tables.specs.declared.limits.TheConstants.{AGENTS, BLOCKS, BUFFERS, KERNELS, QUEUES, SIGNALS}
+use Rattle.hq_tables.specs.declared.rows.Placed.{Placed}
+use Rattle.hq_tables.specs.Tables.{total_of}
 use Rattle.hq_job.specs.Plan.{plan}
-use Rattle.hq_job.specs.Ranges.{RangesSuit}
+use Rattle.hq_tables.specs.Ranges.{RangesSuit}
 use Rattle.hq_model.specs.Theorems.{Valid}
 
 -- the job as a value: what its tables have, with its packets by number and the order of their submission

@@ -3,6 +3,7 @@
 ghost use Rattle.std.specs.Prelude.{◌≡◌, ℕ, ◌↔◌, IsTrue, Some};
 ghost use Rattle.hq_job.specs.Plan.{plan};
 ghost use Rattle.hq_model.specs.Job.{packet, IsPacket, Earlier, IsBarrier, Decrements, Dependency, agent_of};
+ghost use Rattle.hq_model.specs.Job.Kind.{BarrierAnd, BarrierOr};
 ghost use Rattle.hq_model.specs.Fence.{need};
 
 use crate::job::Job;
@@ -69,6 +70,24 @@ impl Job {
         ensures { IsTrue result ↔ IsBarrier (plan self.now) number }
     {
         matches!(&self.packet(number).packet, Packet::And(_) | Packet::Or(_))
+    }
+
+    /// Whether a packet is a barrier-AND.
+    #[inline(always)]
+    pub fn is_and(&self, number: usize) -> bool
+        requires { IsPacket (plan self.now) number }
+        ensures { IsTrue result ↔ ((packet (plan self.now) number).kind ≡ BarrierAnd) }
+    {
+        matches!(&self.packet(number).packet, Packet::And(_))
+    }
+
+    /// Whether a packet is a barrier-OR.
+    #[inline(always)]
+    pub fn is_or(&self, number: usize) -> bool
+        requires { IsPacket (plan self.now) number }
+        ensures { IsTrue result ↔ ((packet (plan self.now) number).kind ≡ BarrierOr) }
+    {
+        matches!(&self.packet(number).packet, Packet::Or(_))
     }
 
     /// The signals of a packet's dependency slots, slot by slot.

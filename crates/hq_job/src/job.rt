@@ -2,22 +2,21 @@
 
 ghost use Rattle.std.specs.Prelude.{◌≡◌, ◌<◌, ◌↔◌, ℕ, Some, IsNone, All, IfOk, length};
 ghost use Rattle.hq_job.specs.Access.{StandsAt, AreOfQueue};
-ghost use Rattle.hq_job.specs.Blocks.{blocks_of};
+ghost use Rattle.hq_tables.specs.Blocks.{blocks_of};
 ghost use Rattle.hq_job.specs.Heads.{heads_of, job_with_each, job_with_head, SameButHeads};
 ghost use Rattle.hq_job.specs.Plan.{plan, planned};
-ghost use Rattle.hq_job.specs.Tables.{byte_number};
+ghost use Rattle.hq_tables.specs.Tables.{byte_number};
 ghost use Rattle.hq_model.specs.Job.{packet};
 ghost use Rattle.hq_model.specs.Settings.{head_at, with_each, with_head};
 ghost use Rattle.hq_model.specs.Theorems.{Valid};
 
-use crate::addresses::byte_number;
+use crate::heads;
 use crate::memory::memory_of;
 use crate::numbering::{by_number, submissions};
 use crate::places::{number_at, span_of};
-use crate::rows::{self, Block, Kernel, Placed, Queue};
-use crate::tables::Tables;
 use hq_packet::Head;
 use hq_signals::SignalTable;
+use hq_tables::{Block, Kernel, Placed, Queue, Tables, byte_number};
 use hq_text::Name;
 use std::alloc::{AllocError, Global};
 use std::marker::Model;
@@ -47,8 +46,8 @@ impl Model for Job {
 
 impl Job {
     ghost use Rattle.hq_job.specs.View.{WithinLimits, PacketIsRead};
-    ghost use Rattle.hq_job.specs.Fits.{TablesFit};
-    ghost use Rattle.hq_job.specs.TablesView.{tables_of};
+    ghost use Rattle.hq_tables.specs.Fits.{TablesFit};
+    ghost use Rattle.hq_tables.specs.TablesView.{tables_of};
     ghost use Rattle.hq_job.specs.Ended.{value_of as job_of};
     ghost use Rattle.hq_signals.specs.Table.{IsUndershot, NeverReachesZero};
 
@@ -190,7 +189,7 @@ impl Job {
     pub fn heads(&self, alloc: Global) -> Result<Vec<Head>, AllocError>
         ensures { IfOk result (λ heads. heads.items ≡ heads_of self.now) }
     {
-        rows::heads_in(alloc, self.packets())
+        heads::heads_in(alloc, self.packets())
     }
 
     /// Gives a packet this head. All else is as it was, and no memory is taken.
@@ -200,7 +199,7 @@ impl Job {
         ensures plan { plan self.new ≡ with_head (plan self.old) packet head }
         ensures same { SameButHeads self.old self.new }
     {
-        rows::set_head(&mut self.packets, packet, head);
+        heads::set_head(&mut self.packets, packet, head);
     }
 
     /// Gives each packet this head. All else is as it was, and no memory is taken.
@@ -209,7 +208,7 @@ impl Job {
         ensures plan { plan self.new ≡ with_each (plan self.old) head }
         ensures same { SameButHeads self.old self.new }
     {
-        rows::set_each_head(&mut self.packets, head);
+        heads::set_each_head(&mut self.packets, head);
     }
 
     /// The numbers of the packets in the order of their submission, which is the order of their lines.

@@ -2,9 +2,9 @@
 
 ghost use Rattle.std.specs.Prelude.{◌≡◌, IfOk};
 ghost use Rattle.std.specs.List.{flat_map};
-ghost use Rattle.hq_job.specs.Blocks.{blocks_of};
+ghost use Rattle.hq_tables.specs.Blocks.{blocks_of};
 
-use crate::rows::Block;
+use hq_tables::Block;
 use std::alloc::{AllocError, Global};
 
 /// The bytes of the buffers, laid end to end.

@@ -4,8 +4,8 @@ ghost use Rattle.std.specs.Prelude.{◌≡◌, ◌+◌, ◌<◌, ◌≤◌, ◌+
 ghost use Rattle.hq_job.specs.Numbering.{with_key, by_number, submissions_of};
 ghost use Rattle.hq_model.specs.Journal.{numbers};
 
-use crate::rows::Placed;
 use hq_model::PACKETS;
+use hq_tables::Placed;
 use std::alloc::{AllocError, Global};
 
 /// Appends the packets of one queue.

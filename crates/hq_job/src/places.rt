@@ -3,7 +3,7 @@
 ghost use Rattle.std.specs.Prelude.{◌≡◌, ◌+◌, ◌<◌, ◌↔◌, Some, IfSome, length, slice_index, nat_lt, if◌then◌else◌, ℕ};
 ghost use Rattle.hq_job.specs.Access.{LiesAt};
 
-use crate::rows::Placed;
+use hq_tables::Placed;
 use std::ops::Range;
 
 /// The number of the packet at a place of a queue, where each queue's first packet has this number.

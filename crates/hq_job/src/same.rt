@@ -1,13 +1,13 @@
 //! Whether two jobs are one value: row by row, and each row part by part.
 
 ghost use Rattle.std.specs.Prelude.{◌≡◌, ◌↔◌, IsTrue};
-ghost use Rattle.hq_job.specs.Blocks.{bytes_of, blocks_of};
+ghost use Rattle.hq_tables.specs.Blocks.{bytes_of, blocks_of};
 ghost use Rattle.hq_job.specs.Equal.{SameTables};
 
 use crate::job::Job;
-use crate::rows::{Block, Kernel, Placed, Queue};
-use hq_footprint::{Code, Footprint, Range, Task, Work};
+use hq_footprint::Code;
 use hq_packet::{Packet, encode, laws};
+use hq_tables::{Block, Kernel, Placed, Queue};
 use hq_text::Name;
 
 fn same_name(first: Name, second: Name) -> bool
@@ -71,36 +71,6 @@ fn same_packet(first: &Packet, second: &Packet) -> bool
     encode(first) == encode(second)
 }
 
-fn same_range(first: Range, second: Range) -> bool
-    ensures { IsTrue result ↔ (first ≡ second) }
-{
-    first.at == second.at && first.len == second.len
-}
-
-fn same_ranges(first: &[Range], second: &[Range]) -> bool
-    ensures { IsTrue result ↔ (first.now ≡ second.now) }
-{
-    first == second
-}
-
-fn same_footprint(first: Footprint, second: Footprint) -> bool
-    ensures { IsTrue result ↔ (first ≡ second) }
-{
-    same_ranges(&first.reads, &second.reads) && same_range(first.write, second.write)
-}
-
-fn same_task(first: Task, second: Task) -> bool
-    ensures { IsTrue result ↔ (first ≡ second) }
-{
-    first == second
-}
-
-fn same_work(first: Work, second: Work) -> bool
-    ensures { IsTrue result ↔ (first ≡ second) }
-{
-    same_footprint(first.foot, second.foot) && same_task(first.task, second.task)
-}
-
 fn same_signal(first: Option<u16>, second: Option<u16>) -> bool
     ensures { IsTrue result ↔ (first ≡ second) }
 {
@@ -118,8 +88,8 @@ fn same_placed(first: &Placed, second: &Placed) -> bool
 {
     first.queue == second.queue
         && same_packet(&first.packet, &second.packet)
-        && same_work(first.work, second.work)
-        && same_footprint(first.bytes, second.bytes)
+        && first.work.same(second.work)
+        && first.bytes.same(second.bytes)
         && same_slots(&first.slots, &second.slots)
         && same_signal(first.done, second.done)
 }

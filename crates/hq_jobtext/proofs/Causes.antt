@@ -13,13 +13,13 @@ use Rattle.hq_lines.specs.Order.{line_fault}
 use Rattle.hq_lines.specs.Says.{SaysLine}
 use Rattle.hq_lines.proofs.Means as means
 use Rattle.hq_lines.proofs.Means.{has_outside, outside_has}
-use Rattle.hq_job.specs.declared.fault.JobFault.{JobFault}
-use Rattle.hq_job.specs.declared.fault.Reason.{Reason}
-use Rattle.hq_job.specs.declared.fault.Reason.TheVariants as reason
-use Rattle.hq_job.specs.LineFaults.{reason_of}
-use Rattle.hq_job.specs.Tables.{Tables, Test, tests, IsFirst}
+use Rattle.hq_jobtext.specs.declared.fault.JobFault.{JobFault}
+use Rattle.hq_tables.specs.declared.fault.Reason.{Reason}
+use Rattle.hq_tables.specs.declared.fault.Reason.TheVariants as reason
+use Rattle.hq_tables.specs.LineFaults.{reason_of}
+use Rattle.hq_tables.specs.Tables.{Tables, Test, tests, IsFirst}
 use Rattle.hq_jobtext.specs.JobText.{misplaced, Refused, by_itself, by_tables, FirstFault, nothing, headless, faulty, behind, endless, at_end, at_line}
-use Rattle.hq_job.specs.Ended.{RefusedAtEnd, undershoot, never_zero}
+use Rattle.hq_tables.specs.AtEnd.{RefusedAtEnd, undershoot, never_zero}
 use Rattle.hq_jobtext.specs.LineMeans.{Behind, AtHead, BehindEnd, HasNoPlace, TurnsWithoutRings, ByteMeans, WordMeans, NumberMeans, PacketMeans, HexMeans, QueueSizeMeans}
 
 -- ---- reasons of a line's own

@@ -4,11 +4,11 @@ use Rattle.std.proofs.lemmas.Bool.{eqb-true}
 use Rattle.hq_text.specs.Lines.{lines_of}
 use Rattle.hq_jobtext.specs.declared.draft.Place.{Place}
 use Rattle.hq_jobtext.specs.declared.draft.Place.TheVariants as place
-use Rattle.hq_job.specs.declared.fault.Reason.{Reason}
-use Rattle.hq_job.specs.declared.fault.Reason.TheVariants as reason
-use Rattle.hq_job.specs.declared.fault.JobFault.{JobFault}
+use Rattle.hq_tables.specs.declared.fault.Reason.{Reason}
+use Rattle.hq_tables.specs.declared.fault.Reason.TheVariants as reason
+use Rattle.hq_jobtext.specs.declared.fault.JobFault.{JobFault}
 use Rattle.hq_job.specs.Value.{JobValue}
-use Rattle.hq_job.specs.Tables.{Tables, empty}
+use Rattle.hq_tables.specs.Tables.{Tables, empty}
 use Rattle.hq_jobtext.specs.JobText.{SaysVersion, misplaced, Admits, Refused, IsEnd, FirstFault, headless, faulty, behind, endless, at_end, nothing, at_line}
 use Rattle.hq_jobtext.specs.Answered.{Finishes, no_memory}
 use Rattle.hq_jobtext.specs.SoFar.{SoFar, Begun, Closed, HasTaken, HasFault, Steps, TakesAll, ReadOf}

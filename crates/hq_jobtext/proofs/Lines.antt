@@ -7,13 +7,13 @@ use Rattle.hq_lines.specs.declared.fault.LineFault.TheVariants as fault
 use Rattle.hq_lines.specs.Meaning.{Meaning}
 use Rattle.hq_lines.specs.Says.{SaysLine}
 use Rattle.hq_lines.specs.Order.{line_fault}
-use Rattle.hq_job.specs.declared.fault.Reason.{Reason}
-use Rattle.hq_job.specs.declared.fault.Reason.TheVariants as reason
-use Rattle.hq_job.specs.LineFaults.{reason_of}
-use Rattle.hq_job.specs.Tables.{Tables, tests, IsFirst}
+use Rattle.hq_tables.specs.declared.fault.Reason.{Reason}
+use Rattle.hq_tables.specs.declared.fault.Reason.TheVariants as reason
+use Rattle.hq_tables.specs.LineFaults.{reason_of}
+use Rattle.hq_tables.specs.Tables.{Tables, tests, IsFirst}
 use Rattle.hq_jobtext.specs.JobText.{misplaced, Admits, AdmitsAll, Refused, by_itself, by_tables}
-use Rattle.hq_job.specs.Fits.{TablesFit}
-use Rattle.hq_job.proofs.Kept.{fits_added}
+use Rattle.hq_tables.specs.Fits.{TablesFit}
+use Rattle.hq_tables.proofs.Kept.{fits_added}
 
 -- ---- one line
 

@@ -8,13 +8,13 @@ use Rattle.hq_lines.specs.declared.fault.LineFault.TheVariants as line
 use Rattle.hq_lines.specs.Meaning as says
 use Rattle.hq_lines.specs.Meaning.{Meaning}
 use Rattle.hq_signals.specs.Table.{OpenSignal}
-use Rattle.hq_job.specs.declared.fault.JobFault.{JobFault}
-use Rattle.hq_job.specs.declared.fault.Reason.{Reason}
-use Rattle.hq_job.specs.declared.fault.Reason.TheVariants as reason
-use Rattle.hq_job.specs.LineFaults.{reason_of}
-use Rattle.hq_job.specs.Tables.{Tables, Test, tests, IsFirst}
+use Rattle.hq_jobtext.specs.declared.fault.JobFault.{JobFault}
+use Rattle.hq_tables.specs.declared.fault.Reason.{Reason}
+use Rattle.hq_tables.specs.declared.fault.Reason.TheVariants as reason
+use Rattle.hq_tables.specs.LineFaults.{reason_of}
+use Rattle.hq_tables.specs.Tables.{Tables, Test, tests, IsFirst}
 use Rattle.hq_jobtext.specs.JobText.{Refused, by_itself, by_tables, FirstFault, nothing, headless, faulty, behind, endless, at_end}
-use Rattle.hq_job.specs.Ended.{RefusedAtEnd, undershoot, never_zero}
+use Rattle.hq_tables.specs.AtEnd.{RefusedAtEnd, undershoot, never_zero}
 
 abbrev is_read : Reason → Bool
 is_read reason.Read = true

@@ -17,19 +17,21 @@ use Rattle.hq_lines.specs.Says.{SaysLine}
 use Rattle.hq_lines.proofs.PacketLines.{says_packet, says_with_head}
 use Rattle.hq_lines.proofs.Whole.{one_meaning}
 use Rattle.hq_model.specs.Journal.{numbers}
-use Rattle.hq_job.specs.declared.rows.Placed.{Placed}
+use Rattle.hq_tables.specs.declared.rows.Placed.{Placed}
 use Rattle.hq_job.specs.Value.{JobValue}
 use Rattle.hq_job.specs.Numbering.{with_key, grouped, number_of, by_number, submissions_of}
-use Rattle.hq_job.specs.Tables.{Tables, empty, tests, added, NoneApplies, IsFull, packet_tests, placed_of, with_packet}
+use Rattle.hq_tables.specs.Tables.{Tables, empty, tests, added, NoneApplies, IsFull, packet_tests, placed_of, with_packet}
 use Rattle.hq_jobtext.specs.JobText.{JobText, SaysVersion, one, two, Admits, AdmitsAll, IsEnd}
 use Rattle.hq_job.specs.Ended.{value_of}
 use Rattle.hq_job.specs.Heads.{placed_with_head}
 use Rattle.hq_job.specs.Heads.{with_heads, job_with_heads}
 use Rattle.hq_jobtext.specs.Rewritten.{LineRewritten, stays, packet as rewritten, Rewritten, TextRewritten, RewrittenIsJob}
 use Rattle.hq_jobtext.specs.RewriteSteps.{LineNumbered, no_packet, a_packet, Numbered}
-use Rattle.hq_job.proofs.Grouped.{numbered, get_number, get_within, grouped_more, some_is}
+use Rattle.hq_job.proofs.Grouped.{numbered, get_number, grouped_more}
+use Rattle.hq_tables.proofs.Lists.{within, some_is}
 use Rattle.hq_jobtext.proofs.RewrittenLines.{begins}
-use Rattle.hq_job.proofs.Submitted.{queue_of, submission_at, length_submissions, within}
+use Rattle.hq_job.proofs.Submitted.{queue_of, submission_at, length_submissions}
+use Rattle.hq_tables.proofs.Lists.{within}
 
 -- ---- what the lines of a job's text say
 
@@ -308,7 +310,7 @@ by_number_heads n placed heads hs are = ext_get (with_heads (by_number n placed)
 
   each : (p : ℕ) (y : Placed) → slice_get (with_heads (by_number n placed) heads) p ≡ Some y → slice_get (by_number n (with_heads placed hs)) p ≡ Some y
   each p y e =
-      let low : p < length (by_number n placed) = omega (arith, length_with_heads (by_number n placed) heads, get_within (with_heads (by_number n placed) heads) p y e) in
+      let low : p < length (by_number n placed) = omega (arith, length_with_heads (by_number n placed) heads, within (with_heads (by_number n placed) heads) p y e) in
       let f = numbered queue_of n placed p low in
       let inside : f.k < length placed = within placed f.k f.x f.there in
       let h = head_of_number heads (submissions_of placed) hs f.k are (omega (arith, inside, length_submissions placed)) in

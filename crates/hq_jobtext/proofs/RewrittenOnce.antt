@@ -12,7 +12,7 @@ use Rattle.hq_lines.proofs.PacketLines.{head_cases}
 use Rattle.hq_lines.proofs.Whole.{one_meaning}
 use Rattle.hq_job.specs.Value.{JobValue}
 use Rattle.hq_jobtext.specs.Rewritten.{LineRewritten, stays, packet as rewritten, Rewritten, OneRewritten}
-use Rattle.hq_job.proofs.Grouped.{some_is}
+use Rattle.hq_tables.proofs.Lists.{some_is}
 
 -- ---- one text
 

@@ -9,13 +9,14 @@ use Rattle.hq_lines.specs.Order.{line_fault}
 use Rattle.hq_lines.specs.Says.{SaysLine}
 use Rattle.hq_lines.proofs.Whole.{one_meaning, no_line_fault}
 use Rattle.hq_text.specs.Lines.{words_of}
-use Rattle.hq_job.specs.declared.fault.JobFault.{JobFault}
-use Rattle.hq_job.specs.declared.fault.Reason.{Reason}
-use Rattle.hq_job.specs.declared.fault.Reason.TheVariants as reason
+use Rattle.hq_jobtext.specs.declared.fault.JobFault.{JobFault}
+use Rattle.hq_tables.specs.declared.fault.Reason.{Reason}
+use Rattle.hq_tables.specs.declared.fault.Reason.TheVariants as reason
 use Rattle.hq_job.specs.Value.{JobValue}
-use Rattle.hq_job.specs.Tables.{Tables, Test, empty, tests, added, NoneApplies, IsFirst}
+use Rattle.hq_tables.specs.Tables.{Tables, Test, empty, tests, added, NoneApplies, IsFirst}
 use Rattle.hq_jobtext.specs.JobText.{SaysVersion, one, two, misplaced, Admits, AdmitsAll, IsEnd, Refused, by_itself, by_tables, JobText, at_line, FirstFault, nothing, headless, faulty, behind, endless, at_end, OneJob, FaultlessWhereJob, OneFirstFault}
-use Rattle.hq_job.specs.Ended.{RefusedAtEnd, undershoot, never_zero, value_of}
+use Rattle.hq_job.specs.Ended.{value_of}
+use Rattle.hq_tables.specs.AtEnd.{RefusedAtEnd, undershoot, never_zero}
 
 -- ---- one line
 

@@ -2,12 +2,12 @@
 use Rattle.std.proofs.Common.{◌≡◌, ℕ, inl, inr, true, false, List, Option, Some, None, Result, Ok, Err, refl, sym, ap, subst, ◌∙◌}
 use Rattle.std.specs.Prelude.{codes, IfOk, IfErr, IfSome}
 use Rattle.hq_text.specs.Lines.{lines_of}
-use Rattle.hq_job.specs.declared.fault.JobFault.{JobFault}
+use Rattle.hq_jobtext.specs.declared.fault.JobFault.{JobFault}
 use Rattle.hq_job.specs.Value.{JobValue}
 use Rattle.hq_jobtext.specs.JobText.{SaysVersion, one, two, JobText, FirstFault}
 use Rattle.hq_jobtext.specs.Answered.{FaultOf, GivesJob, GivesUnlessRead}
 use Rattle.hq_jobtext.specs.SoFar.{HasFault, ReadOf}
-use Rattle.hq_job.specs.declared.fault.Reason.TheVariants as reason
+use Rattle.hq_tables.specs.declared.fault.Reason.TheVariants as reason
 use Rattle.hq_jobtext.proofs.NotRead.{not_read}
 use Rattle.hq_jobtext.proofs.Texts.{one_job, faultless_where_job}
 use Rattle.hq_text.specs.Intake.{OfText}

@@ -3,12 +3,13 @@ use Rattle.std.specs.Prelude.{◌≡◌, ℕ, ◌^◌, ◌<◌, ◌⊎◌, Bool,
 use Rattle.hq_signals.specs.Table.{IsUndershot, NeverReachesZero}
 use Rattle.hq_lines.specs.Meaning as says
 use Rattle.hq_lines.specs.Meaning.{Meaning}
-use Rattle.hq_job.specs.declared.fault.JobFault.{JobFault}
-use Rattle.hq_job.specs.declared.fault.Reason.{Reason}
-use Rattle.hq_job.specs.declared.fault.Reason.TheVariants as reason
+use Rattle.hq_jobtext.specs.declared.fault.JobFault.{JobFault}
+use Rattle.hq_tables.specs.declared.fault.Reason.{Reason}
+use Rattle.hq_tables.specs.declared.fault.Reason.TheVariants as reason
 use Rattle.hq_job.specs.Value.{JobValue}
-use Rattle.hq_job.specs.Tables.{Tables}
-use Rattle.hq_job.specs.Ended.{RefusedAtEnd, value_of}
+use Rattle.hq_tables.specs.Tables.{Tables}
+use Rattle.hq_job.specs.Ended.{value_of}
+use Rattle.hq_tables.specs.AtEnd.{RefusedAtEnd}
 use Rattle.hq_jobtext.specs.JobText.{Admits, Refused, IsEnd, at_line}
 
 -- a signal's start is below 2^63

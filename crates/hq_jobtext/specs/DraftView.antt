@@ -1,7 +1,7 @@
 -- What a draft's fields mean.
 use Rattle.hq_jobtext.specs.declared.draft.Draft.{Draft}
 use Rattle.hq_jobtext.specs.SoFar.{SoFar}
-use Rattle.hq_job.specs.TablesView.{tables_of}
+use Rattle.hq_tables.specs.TablesView.{tables_of}
 
 -- what the lines so far leave, by the draft's fields
 abbrev pub so_far : Draft → SoFar

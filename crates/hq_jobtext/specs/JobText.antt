@@ -9,13 +9,14 @@ use Rattle.hq_lines.specs.Meaning as says
 use Rattle.hq_lines.specs.Meaning.{Meaning}
 use Rattle.hq_lines.specs.Says.{SaysLine}
 use Rattle.hq_lines.specs.Order.{line_fault}
-use Rattle.hq_job.specs.declared.fault.Reason.{Reason}
-use Rattle.hq_job.specs.declared.fault.Reason.TheVariants as reason
-use Rattle.hq_job.specs.declared.fault.JobFault.{JobFault}
-use Rattle.hq_job.specs.LineFaults.{reason_of}
+use Rattle.hq_tables.specs.declared.fault.Reason.{Reason}
+use Rattle.hq_tables.specs.declared.fault.Reason.TheVariants as reason
+use Rattle.hq_jobtext.specs.declared.fault.JobFault.{JobFault}
+use Rattle.hq_tables.specs.LineFaults.{reason_of}
 use Rattle.hq_job.specs.Value.{JobValue}
-use Rattle.hq_job.specs.Ended.{RefusedAtEnd, value_of}
-use Rattle.hq_job.specs.Tables.{Tables, empty, tests, added, NoneApplies, IsFirst}
+use Rattle.hq_job.specs.Ended.{value_of}
+use Rattle.hq_tables.specs.AtEnd.{RefusedAtEnd}
+use Rattle.hq_tables.specs.Tables.{Tables, empty, tests, added, NoneApplies, IsFirst}
 
 -- ---- the first line
 

@@ -6,8 +6,8 @@ use Rattle.hq_lines.specs.LineForms.{HasOutside, HasNoForm, HasWrongNumber, HasW
 use Rattle.hq_lines.specs.LineForms.{HasWrongSize}
 use Rattle.hq_lines.specs.Meaning as says
 use Rattle.hq_lines.specs.Says.{SaysLine}
-use Rattle.hq_job.specs.declared.fault.Reason.TheVariants as reason
-use Rattle.hq_job.specs.Tables.{Tables, empty}
+use Rattle.hq_tables.specs.declared.fault.Reason.TheVariants as reason
+use Rattle.hq_tables.specs.Tables.{Tables, empty}
 use Rattle.hq_jobtext.specs.JobText.{SaysVersion, AdmitsAll, IsEnd, FirstFault, at_line}
 
 -- ---- lines and what comes before them

@@ -2,11 +2,11 @@
 use Rattle.std.specs.Prelude.{◌≡◌, ℕ, ◌+◌, ◌⊎◌, Bool, List, [], ◌∷◌, ◌++◌, length, Result, Ok, Err}
 use Rattle.hq_jobtext.specs.declared.draft.Place.{Place}
 use Rattle.hq_jobtext.specs.declared.draft.Place.TheVariants as place
-use Rattle.hq_job.specs.declared.fault.JobFault.{JobFault}
-use Rattle.hq_job.specs.declared.fault.Reason.{Reason}
-use Rattle.hq_job.specs.declared.fault.Reason.TheVariants as reason
+use Rattle.hq_jobtext.specs.declared.fault.JobFault.{JobFault}
+use Rattle.hq_tables.specs.declared.fault.Reason.{Reason}
+use Rattle.hq_tables.specs.declared.fault.Reason.TheVariants as reason
 use Rattle.hq_job.specs.Value.{JobValue}
-use Rattle.hq_job.specs.Tables.{Tables, empty}
+use Rattle.hq_tables.specs.Tables.{Tables, empty}
 use Rattle.hq_jobtext.specs.JobText.{SaysVersion, AdmitsAll, IsEnd, JobText, FirstFault, at_line}
 use Rattle.hq_jobtext.specs.Answered.{no_memory}
 

@@ -3,14 +3,16 @@
 ghost use Rattle.std.specs.Prelude.{◌≡◌, ◌+◌, List, ℕ, [], ◌∷◌, ◌++◌, IfOk, IfErr, OnOk};
 ghost use Rattle.hq_text.specs.Lines.{lines_of};
 ghost use Rattle.hq_jobtext.specs.Answered.{no_memory};
-ghost use Rattle.hq_job.specs.Fits.{TablesFit};
+ghost use Rattle.hq_tables.specs.Fits.{TablesFit};
 ghost use Rattle.hq_jobtext.specs.SoFar.{HasFault, HasTaken, ReadOf, Steps, TakesAll};
 ghost use Rattle.hq_jobtext.specs.DraftView.{so_far};
-ghost use Rattle.hq_job.specs.TablesView.{tables_of};
+ghost use Rattle.hq_tables.specs.TablesView.{tables_of};
 
+use crate::fault::JobFault;
 use crate::reading::{NO_MEMORY, fault_at, finish, take_line, version_of};
-use hq_job::{Job, JobFault, Reason, Tables};
+use hq_job::Job;
 use hq_lines::line_behind_end;
+use hq_tables::{Reason, Tables};
 use hq_text::first_line;
 use std::alloc::Global;
 

@@ -10,12 +10,14 @@
 #![tactic(auto)]
 
 mod draft;
+mod fault;
 pub mod laws;
 mod progress;
 mod reader;
 mod reading;
 mod rewriting;
 
+pub use fault::JobFault;
 pub use hq_text::{TextFault, take_text};
 pub use reader::{read, read_text};
 pub use rewriting::rewrite;

@@ -4,8 +4,9 @@ ghost use Rattle.std.specs.Prelude.{List, ℕ, []};
 ghost use Rattle.hq_jobtext.specs.SoFar.{HasFault, HasTaken, ReadOf};
 
 use crate::draft::Draft;
+use crate::fault::JobFault;
 use crate::reading::NO_MEMORY;
-use hq_job::{Job, JobFault};
+use hq_job::Job;
 use hq_text::TakesLines;
 use std::alloc::Global;
 use std::marker::Model;
@@ -19,8 +20,8 @@ pub struct Progress {
 impl Model for Progress {
     ghost use Rattle.hq_jobtext.specs.SoFar.{SoFar};
     ghost use Rattle.hq_jobtext.specs.DraftView.{so_far};
-    ghost use Rattle.hq_job.specs.Fits.{TablesFit};
-    ghost use Rattle.hq_job.specs.TablesView.{tables_of};
+    ghost use Rattle.hq_tables.specs.Fits.{TablesFit};
+    ghost use Rattle.hq_tables.specs.TablesView.{tables_of};
 
     ghost Value = { SoFar };
 

@@ -9,8 +9,10 @@ ghost use Rattle.hq_jobtext.specs.JobText.{JobText, FirstFault};
 ghost use Rattle.hq_jobtext.specs.SoFar.{ReadOf};
 ghost use Rattle.hq_job.specs.Value.{JobValue};
 
+use crate::fault::JobFault;
 use crate::progress::Progress;
-use hq_job::{Job, JobFault, Reason};
+use hq_job::Job;
+use hq_tables::Reason;
 use hq_text::{ReadFault, Source, TURNS, TakesLines, read_lines};
 use std::alloc::Global;
 use std::io::Read;

@@ -3,16 +3,18 @@
 ghost use Rattle.std.specs.Prelude.{◌≡◌, ◌⊎◌, ◌↔◌, Bool, IfOk, IfErr, OnErr, IsTrue};
 ghost use Rattle.hq_lines.specs.Meaning as says;
 ghost use Rattle.hq_lines.specs.Meaning.{view};
-ghost use Rattle.hq_job.specs.Adds.{Adds};
+ghost use Rattle.hq_tables.specs.Adds.{Adds};
 ghost use Rattle.hq_jobtext.specs.Answered.{Takes, StartFits, Finishes, no_memory};
-ghost use Rattle.hq_job.specs.Ended.{signal_reason};
-ghost use Rattle.hq_job.specs.Fits.{TablesFit};
+ghost use Rattle.hq_tables.specs.AtEnd.{signal_reason};
+ghost use Rattle.hq_tables.specs.Fits.{TablesFit};
 ghost use Rattle.hq_jobtext.specs.JobText.{SaysVersion, misplaced, at_line};
-ghost use Rattle.hq_job.specs.TablesView.{tables_of};
+ghost use Rattle.hq_tables.specs.TablesView.{tables_of};
 
-use hq_job::{Job, JobFault, Reason, Tables};
+use crate::fault::JobFault;
+use hq_job::Job;
 use hq_lines::{Line, Version, first_line, read_line};
 use hq_signals::SignalFault;
+use hq_tables::{Reason, Tables};
 use std::alloc::Global;
 
 /// Out of memory, told of line 0.

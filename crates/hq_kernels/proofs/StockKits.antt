@@ -1,7 +1,7 @@
 -- Kits of stock bodies.
 use Rattle.std.proofs.Common.{◌≡◌, ℕ, ◌≤◌, false, List, [], ◌∷◌, length, take, map, refl, sym, ap, subst, ◌∙◌, take_all}
 use Rattle.std.specs.Prelude.{filter}
-use Rattle.hq_job.specs.declared.rows.Placed.{Placed}
+use Rattle.hq_tables.specs.declared.rows.Placed.{Placed}
 use Rattle.hq_kernels.specs.Kits.{BodySeen, ForEither, AreFor, BodiesFit, is_work}
 
 -- the new stock body of a packet

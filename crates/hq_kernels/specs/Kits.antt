@@ -5,7 +5,7 @@ use Rattle.std.specs.declared.dyn_box.DynBox.{DynBox}
 use Rattle.std.specs.declared.alloc.Global.{Global}
 use Rattle.hq_packet.specs.declared.packet.Packet.{Packet}
 use Rattle.hq_packet.specs.declared.packet.Packet.TheVariants as packet
-use Rattle.hq_job.specs.declared.rows.Placed.{Placed}
+use Rattle.hq_tables.specs.declared.rows.Placed.{Placed}
 use Rattle.hq_job.specs.Access.{AreOfQueue}
 use Rattle.hq_job.specs.Plan.{plan}
 use Rattle.hq_job.specs.Value.{JobValue}

@@ -8,9 +8,9 @@ use crate::body::{KernelBody, ServiceBody};
 use crate::fault::KernelFault;
 use crate::stock::Stock;
 use hq_footprint::Task;
-use hq_job::Placed;
 use hq_ledger::Piece;
 use hq_packet::Packet;
+use hq_tables::Placed;
 
 /// The body of a kernel or agent packet: a stock body, which serves either, or one that is made for kernel
 /// dispatches, or for agent dispatches.

@@ -6,7 +6,8 @@ ghost use Rattle.hq_kernels.specs.Kits.{BodiesFit, KitFits, KitsFit, bodies_of, 
 use crate::kit::{Body, Kit};
 use crate::packets::{is_work, packets_of};
 use crate::stock::Stock;
-use hq_job::{Job, Placed};
+use hq_job::Job;
+use hq_tables::Placed;
 use std::alloc::{AllocError, Global};
 
 /// Whether the bodies are for those of these packets that aren't barriers, one for each, in the same order.

@@ -5,8 +5,9 @@ ghost use Rattle.hq_job.specs.Access.{AreOfQueue};
 ghost use Rattle.hq_job.specs.Plan.{plan};
 ghost use Rattle.hq_kernels.specs.Kits.{is_work};
 
-use hq_job::{Job, Placed};
+use hq_job::Job;
 use hq_packet::Packet;
+use hq_tables::Placed;
 
 /// Whether a packet is a kernel or an agent dispatch.
 pub fn is_work(packet: &Packet) -> bool

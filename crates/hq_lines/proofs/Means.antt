@@ -1,8 +1,7 @@
 -- What each fault of a line means.
 use Rattle.std.proofs.Common.{◌≡◌, ℕ, ◌⊎◌, inl, inr, Bool, true, false, cond, List, [], ◌∷◌, length, refl, sym, ap, subst, ◌∙◌}
-use Rattle.std.specs.Prelude.{Option, Some, None, Result, Ok, Err, Any, codes, ◌||◌, nat_lt}
+use Rattle.std.specs.Prelude.{Option, Some, None, Result, Ok, Err, codes}
 use Rattle.std.specs.List.{list_any}
-use Rattle.std.proofs.lemmas.Bool.{ltb-true, lt-ltb}
 use Rattle.std.proofs.lemmas.List.Folds.{Any-from_list_any, list_any-from_Any}
 use Rattle.hq_packet.specs.Faults.{first_fault}
 use Rattle.hq_packet.specs.declared.fault.PacketFault.{PacketFault}
@@ -13,7 +12,7 @@ use Rattle.hq_lines.specs.declared.fault.LineFault.TheVariants as fault
 use Rattle.hq_lines.specs.Bytes.{is_outside}
 use Rattle.hq_lines.specs.Order.{line_fault, words_fault, packet_digits, plain_said, queue_said, queue_of, size_said, is_power, fault_in}
 use Rattle.hq_lines.specs.Says.{IsWithin, IsPower, Spells}
-use Rattle.hq_lines.specs.LineForms.{Places, whole, HasForm, agent, zeros, buffer, args, signal, kernel, queue, to, packets, ends, NumbersAreRight, DigitsAreRight, IsOutside, HasOutside, HasNoForm, HasWrongNumber, HasWrongDigits, HasRefusedPacket, HasWrongSize, ByteMeans, WordMeans, NumberMeans, HexMeans, PacketMeans, QueueSizeMeans}
+use Rattle.hq_lines.specs.LineForms.{Places, whole, HasForm, agent, zeros, buffer, args, signal, kernel, queue, to, packets, ends, NumbersAreRight, DigitsAreRight, HasOutside, HasNoForm, HasWrongNumber, HasWrongDigits, HasRefusedPacket, HasWrongSize, ByteMeans, WordMeans, NumberMeans, HexMeans, PacketMeans, QueueSizeMeans}
 use Rattle.hq_lines.proofs.Classes.{Class, class, form_of, form_is}
 use Rattle.hq_lines.proofs.Judged.{Judged, bad_number, bad_digits, bad_size, too_long, bad_packet, fine}
 use Rattle.hq_lines.proofs.Pairs.{refused}
@@ -23,27 +22,11 @@ use Rattle.hq_text.specs.InTurn.{◌>>=◌}
 
 -- ---- bytes
 
-outside_of : (b : ℕ) → is_outside b ≡ true → IsOutside b
-outside_of b e = by (nat_lt b 32) refl e where
-  by : (c : Bool) → nat_lt b 32 ≡ c → (c || nat_lt 126 b) ≡ true → IsOutside b
-  by true is e = inl (ltb-true b 32 is)
-  by false is e = inr (ltb-true 126 b e)
-
-is_outside_of : (b : ℕ) → IsOutside b → is_outside b ≡ true
-is_outside_of b (inl low) = rw (lt-ltb b 32 low) refl
-is_outside_of b (inr high) = by (nat_lt b 32) where
-  by : (c : Bool) → (c || nat_lt 126 b) ≡ true
-  by true = refl
-  by false = lt-ltb 126 b high
-
-any_map : {A : Type 0} (P Q : A → Type 0) → ((x : A) → P x → Q x) → (xs : List A) → Any P xs → Any Q xs
-any_map P Q f xs (k, d, lt, x, p) = (k, d, lt, x, f _ p)
-
 pub has_outside : (line : List ℕ) → list_any is_outside line ≡ true → HasOutside line
-has_outside line e = any_map _ IsOutside outside_of line (Any-from_list_any is_outside line e)
+has_outside = Any-from_list_any is_outside
 
 pub outside_has : (line : List ℕ) → HasOutside line → list_any is_outside line ≡ true
-outside_has line h = list_any-from_Any is_outside line (any_map IsOutside _ is_outside_of line h)
+outside_has = list_any-from_Any is_outside
 
 -- the first test is that of the bytes
 abbrev Tested : List ℕ → Option LineFault → Type 0

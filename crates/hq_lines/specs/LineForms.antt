@@ -1,6 +1,6 @@
 -- What each fault of a line means, by the forms that lines may have.
-use Rattle.std.specs.Prelude.{◌≡◌, ℕ, ◌-◌, ◌*◌, ◌^◌, ◌<◌, ◌≤◌, ◌⊎◌, ◌↔◌, Any, List, [], ◌∷◌, length, codes, Option}
-use Rattle.std.specs.Prelude.{Some, None}
+use Rattle.std.specs.Prelude.{◌≡◌, ℕ, ◌-◌, ◌*◌, ◌^◌, ◌≤◌, ◌↔◌, IsTrue, Any, List, [], ◌∷◌, length, codes}
+use Rattle.std.specs.Prelude.{Option, Some, None}
 use Rattle.std.specs.List.{AllByRecursion}
 use Rattle.hq_footprint.specs.declared.task.Code.{Code}
 use Rattle.hq_packet.specs.Faults.{first_fault}
@@ -10,6 +10,7 @@ use Rattle.hq_text.specs.Names.{IsName}
 use Rattle.hq_text.specs.Numbers.{IsNumber}
 use Rattle.hq_lines.specs.declared.fault.LineFault.TheVariants as fault
 use Rattle.hq_lines.specs.declared.limits.TheConstants.{BUFFER, SLOTS}
+use Rattle.hq_lines.specs.Bytes.{is_outside}
 use Rattle.hq_lines.specs.Order.{line_fault}
 use Rattle.hq_lines.specs.Says.{IsWithin, Spells, Codes, IsPower}
 
@@ -94,13 +95,9 @@ DigitsAreRight p = (bytes : List ℕ) × SpellsIn p.digits bytes
 
 -- ---- what is wrong with a line
 
--- other than 32 to 126
-abbrev pub IsOutside : ℕ → Type 0
-IsOutside b = (b < 32) ⊎ (126 < b)
-
 -- a byte is out of range
 abbrev pub HasOutside : List ℕ → Type 0
-HasOutside line = Any IsOutside line
+HasOutside line = Any (λ b. IsTrue (is_outside b)) line
 
 -- no byte is out of range, and the words have no form
 pub record HasNoForm (line : List ℕ) : Type 0 where

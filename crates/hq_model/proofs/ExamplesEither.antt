@@ -1,9 +1,9 @@
 -- A barrier-OR, and certificates with plain fences.
-use Rattle.std.proofs.Common.{◌≡◌, ℕ, zero, suc, ◌<◌, inl, [], ◌∷◌, refl, sym, ◌∙◌, subst, arith, Option, Some, None, slice_get}
+use Rattle.std.proofs.Common.{Contains, ◌≡◌, ℕ, zero, suc, ◌<◌, inl, [], ◌∷◌, refl, sym, ◌∙◌, subst, arith, Option, Some, None, slice_get}
 use Rattle.std.proofs.lemmas.List.Elements.{All-nil, All-cons}
 use Rattle.hq_model.specs.Job.{Job, packet, IsPacket}
 use Rattle.hq_model.specs.Job.Kind.{BarrierOr}
-use Rattle.hq_model.specs.Order.{Before, Branch, In, OrderList}
+use Rattle.hq_model.specs.Order.{Before, Branch, OrderList}
 use Rattle.hq_model.specs.Order.Before.{by_queue, by_and, by_or, through}
 use Rattle.hq_model.specs.Order.Branch.{after}
 use Rattle.hq_model.specs.Fence.{Ordered, Shown, Conflict, Conflicts, Release, Acquire}
@@ -62,14 +62,14 @@ not_past_a_free_branch h =
 -- ---- a packet that touches no byte conflicts with none
 
 idle_first : (job : Job) (p r : ℕ) (kind : Conflict) → (packet job p).reads ≡ [] → (packet job p).writes ≡ [] → Conflicts job kind p r → ⊥
-idle_first job p r WriteRead reads writes (b, i, j) = none_in b (subst (λ list. In list b) writes i)
-idle_first job p r WriteWrite reads writes (b, i, j) = none_in b (subst (λ list. In list b) writes i)
-idle_first job p r ReadWrite reads writes (b, i, j) = none_in b (subst (λ list. In list b) reads i)
+idle_first job p r WriteRead reads writes (b, i, j) = none_in b (subst (λ list. Contains list b) writes i)
+idle_first job p r WriteWrite reads writes (b, i, j) = none_in b (subst (λ list. Contains list b) writes i)
+idle_first job p r ReadWrite reads writes (b, i, j) = none_in b (subst (λ list. Contains list b) reads i)
 
 idle_second : (job : Job) (p r : ℕ) (kind : Conflict) → (packet job r).reads ≡ [] → (packet job r).writes ≡ [] → Conflicts job kind p r → ⊥
-idle_second job p r WriteRead reads writes (b, i, j) = none_in b (subst (λ list. In list b) reads j)
-idle_second job p r WriteWrite reads writes (b, i, j) = none_in b (subst (λ list. In list b) writes j)
-idle_second job p r ReadWrite reads writes (b, i, j) = none_in b (subst (λ list. In list b) writes j)
+idle_second job p r WriteRead reads writes (b, i, j) = none_in b (subst (λ list. Contains list b) reads j)
+idle_second job p r WriteWrite reads writes (b, i, j) = none_in b (subst (λ list. Contains list b) writes j)
+idle_second job p r ReadWrite reads writes (b, i, j) = none_in b (subst (λ list. Contains list b) writes j)
 
 -- the fill and the copy are the only packets that do
 touching : (P : ℕ → ℕ → Type 0) → P 0 4 → (p r : ℕ) (kind : Conflict) → p < r → IsPacket either r → Conflicts either kind p r → P p r

@@ -1,17 +1,17 @@
 -- More small jobs: which are ordered, and why others aren't.
-use Rattle.std.proofs.Common.{◌≡◌, ℕ, zero, suc, ◌<◌, ◌≤◌, ◌≢◌, ◌⊎◌, inl, inr, IsTrue, [], ◌∷◌, refl, sym, ◌∙◌, subst, arith, true, false, Some, None}
+use Rattle.std.proofs.Common.{Contains, ◌≡◌, ℕ, zero, suc, ◌<◌, ◌≤◌, ◌≢◌, ◌⊎◌, inl, inr, IsTrue, [], ◌∷◌, refl, sym, ◌∙◌, subst, arith, true, false, Some, None}
 use Rattle.std.proofs.lemmas.Bool.{true≢false}
 use Rattle.std.proofs.lemmas.List.Elements.{All-nil, All-cons}
 use Rattle.hq_model.specs.Job.{Job, Kind, packet, IsPacket}
 use Rattle.hq_packet.specs.Scopes.{reaches}
 use Rattle.hq_model.specs.Job.Kind.{Work, BarrierAnd, BarrierOr}
-use Rattle.hq_model.specs.Order.{Before, In, Ahead, OrderList}
+use Rattle.hq_model.specs.Order.{Before, Ahead, OrderList}
 use Rattle.hq_model.specs.Order.Before.{by_bit, by_queue, by_and, by_or, through}
 use Rattle.hq_model.specs.Fence.{Ordered, Shown, ShownFor, Release, Acquire, Reason}
 use Rattle.hq_model.specs.Fence.Conflict.{WriteRead, WriteWrite, ReadWrite}
 use Rattle.hq_model.specs.Fence.Why.{Unordered, NotReleased, NotAcquired}
 use Rattle.hq_model.specs.Examples.{without_bits, copy_fill, fence_between, two_agents, two_writers}
-use Rattle.hq_model.proofs.Places.{place_of_packets}
+use Rattle.hq_model.proofs.Places.{place_of_packets, in_contained}
 use Rattle.hq_model.proofs.Orders.{ahead_of}
 use Rattle.hq_model.proofs.Tested.{order_by_test, each_once_by_test}
 use Rattle.hq_model.proofs.ExamplesFirst.{four_below, none_in}
@@ -36,11 +36,11 @@ work≢or : (kind : Kind) → kind ≡ Work → kind ≢ BarrierOr
 work≢or kind e f = grind arith
 
 -- the first four bytes aren't among the next four
-pub apart : (b : ℕ) → In (0 ∷ 1 ∷ 2 ∷ 3 ∷ []) b → In (4 ∷ 5 ∷ 6 ∷ 7 ∷ []) b → ⊥
+pub apart : (b : ℕ) → Contains (0 ∷ 1 ∷ 2 ∷ 3 ∷ []) b → Contains (4 ∷ 5 ∷ 6 ∷ 7 ∷ []) b → ⊥
 apart b i j = omega (
   arith,
-  place_of_packets (λ x. x < 4) (0 ∷ 1 ∷ 2 ∷ 3 ∷ []) b (four_below 4 0 1 2 3 (omega arith) (omega arith) (omega arith) (omega arith)) i,
-  place_of_packets (λ x. 4 ≤ x) (4 ∷ 5 ∷ 6 ∷ 7 ∷ []) b (All-cons (λ x. 4 ≤ x) 4 (5 ∷ 6 ∷ 7 ∷ []) (omega arith) (All-cons (λ x. 4 ≤ x) 5 (6 ∷ 7 ∷ []) (omega arith) (All-cons (λ x. 4 ≤ x) 6 (7 ∷ []) (omega arith) (All-cons (λ x. 4 ≤ x) 7 [] (omega arith) (All-nil (λ x. 4 ≤ x)))))) j,
+  place_of_packets (λ x. x < 4) (0 ∷ 1 ∷ 2 ∷ 3 ∷ []) b (four_below 4 0 1 2 3 (omega arith) (omega arith) (omega arith) (omega arith)) (in_contained (0 ∷ 1 ∷ 2 ∷ 3 ∷ []) b i),
+  place_of_packets (λ x. 4 ≤ x) (4 ∷ 5 ∷ 6 ∷ 7 ∷ []) b (All-cons (λ x. 4 ≤ x) 4 (5 ∷ 6 ∷ 7 ∷ []) (omega arith) (All-cons (λ x. 4 ≤ x) 5 (6 ∷ 7 ∷ []) (omega arith) (All-cons (λ x. 4 ≤ x) 6 (7 ∷ []) (omega arith) (All-cons (λ x. 4 ≤ x) 7 [] (omega arith) (All-nil (λ x. 4 ≤ x)))))) (in_contained (4 ∷ 5 ∷ 6 ∷ 7 ∷ []) b j),
 )
 
 -- ---- without bits, and without barrier packets, nothing comes before

@@ -10,7 +10,8 @@ use Rattle.hq_model.specs.Job.{Job, Packet, packet, IsPacket, no_packet, Earlier
 use Rattle.hq_model.specs.Order.{ByBit, ByQueue, ByAnd, AwaitsAny, OrderList, StuckSet, Blocked, FreesFor, EachOnce, place}
 use Rattle.hq_model.specs.Order.Blocked.{by_earlier, by_slot, by_dependency, by_each}
 use Rattle.hq_model.specs.Machine.{IsByte}
-use Rattle.hq_model.specs.Fence.{Conflict, Conflicts, Share, need}
+use Rattle.hq_footprint.specs.Bytes.{Share}
+use Rattle.hq_model.specs.Fence.{Conflict, Conflicts, need}
 use Rattle.hq_model.specs.Fence.Conflict.{WriteRead, WriteWrite, ReadWrite}
 use Rattle.hq_model.specs.OneByOne.{after, one_by_one, given}
 use Rattle.hq_model.specs.Theorems.{Valid}

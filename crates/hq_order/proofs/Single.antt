@@ -2,9 +2,10 @@
 use Rattle.std.proofs.Common.{◌≡◌, ◌↔◌, ℕ, ◌+◌, ◌-◌, ◌<◌, ◌≤◌, ◌⊎◌, inl, inr, length, sym, ◌∙◌, ap, subst, arith, IsTrue, Some, slice_get}
 use Rattle.std.proofs.lemmas.Bool.{cases_eq}
 use Rattle.std.proofs.lemmas.List.{length-map}
-use Rattle.hq_job.specs.declared.rows.Placed.{Placed}
+use Rattle.hq_tables.specs.declared.rows.Placed.{Placed}
 use Rattle.hq_job.specs.Value.{JobValue}
-use Rattle.hq_job.specs.Plan.{plan, planned, kind_of}
+use Rattle.hq_job.specs.Plan.{plan, planned}
+use Rattle.hq_tables.specs.Kinds.{kind_of}
 use Rattle.hq_model.specs.Job.{Job, packet, IsPacket, Earlier, Dependency, Decrements, IsBarrier}
 use Rattle.hq_model.specs.Job.Kind.{BarrierAnd, BarrierOr}
 use Rattle.hq_job.specs.Access.{AreOfQueue}

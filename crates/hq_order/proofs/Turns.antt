@@ -1,8 +1,8 @@
 -- One round.
 use Rattle.std.proofs.Common.{◌≡◌, ◌↔◌, ℕ, ◌*◌, ◌/◌, ◌<◌, ◌≤◌, ◌⊎◌, inl, inr, List, length, refl, sym, ◌∙◌, subst, arith, IsTrue, Some, slice_get}
 use Rattle.std.specs.Global.{Vec}
-use Rattle.hq_job.specs.declared.rows.Placed.{Placed}
-use Rattle.hq_job.specs.Plan.{kind_of}
+use Rattle.hq_tables.specs.declared.rows.Placed.{Placed}
+use Rattle.hq_tables.specs.Kinds.{kind_of}
 use Rattle.hq_model.specs.Job.{Job, Decrements}
 use Rattle.hq_model.specs.Job.Kind.{BarrierOr}
 use Rattle.hq_model.specs.Theorems.{Valid}

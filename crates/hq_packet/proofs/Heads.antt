@@ -8,6 +8,7 @@ use Rattle.hq_packet.specs.declared.packet.AgentCall.{AgentCall}
 use Rattle.hq_packet.specs.declared.packet.Barrier.{Barrier}
 use Rattle.hq_packet.specs.declared.packet.Packet.{Packet}
 use Rattle.hq_packet.specs.declared.packet.Packet.TheVariants as packet
+use Rattle.std.specs.Int.{w16}
 use Rattle.hq_packet.specs.Fields.{number_at}
 use Rattle.hq_packet.specs.PacketText.{scope_code, header, KernelText, AgentText, BarrierText, FieldsAgree}
 use Rattle.hq_packet.specs.Parts.{head_of, with_head, kernel_with_head}
@@ -45,11 +46,11 @@ two_bytes x y format head lx lf e =
     let h : header format head ≡ format + 256 * head_byte head = header_is format head in
     record { first = omega (arith, e, h); second = omega (arith, e, h) }
 
-first_two : (x y : ℕ) (bytes : List ℕ) → number_at 2 (x ∷ y ∷ bytes) 0 ≡ x + 256 * y
+first_two : (x y : ℕ) (bytes : List ℕ) → number_at w16 (x ∷ y ∷ bytes) 0 ≡ x + 256 * y
 unfolding number_at
 first_two x y bytes = omega arith
 
-bytes_two : (x y format : ℕ) (bytes : List ℕ) (head : Head) → x < 256 → format < 256 → number_at 2 (x ∷ y ∷ bytes) 0 ≡ header format head → TwoBytes x y format head
+bytes_two : (x y format : ℕ) (bytes : List ℕ) (head : Head) → x < 256 → format < 256 → number_at w16 (x ∷ y ∷ bytes) 0 ≡ header format head → TwoBytes x y format head
 bytes_two x y format bytes head lx lf e = two_bytes x y format head lx lf (sym (first_two x y bytes) ∙ e)
 
 second_of : (x y : ℕ) (bytes : List ℕ) (p : Packet) → x < 256 → FieldsAgree (x ∷ y ∷ bytes) p → y ≡ head_byte (head_of p)
@@ -65,7 +66,7 @@ head_stands_second (x ∷ y ∷ bytes) p t = second_of x y bytes p (t.are_bytes 
 
 -- ---- another head
 
-new_header : (x y format : ℕ) (bytes : List ℕ) (old head : Head) → x < 256 → format < 256 → number_at 2 (x ∷ y ∷ bytes) 0 ≡ header format old → number_at 2 (x ∷ head_byte head ∷ bytes) 0 ≡ header format head
+new_header : (x y format : ℕ) (bytes : List ℕ) (old head : Head) → x < 256 → format < 256 → number_at w16 (x ∷ y ∷ bytes) 0 ≡ header format old → number_at w16 (x ∷ head_byte head ∷ bytes) 0 ≡ header format head
 new_header x y format bytes old head lx lf e =
     let two = bytes_two x y format bytes old lx lf e in
     first_two x (head_byte head) bytes ∙ (ap (λ n. n + 256 * head_byte head) two.first ∙ sym (header_is format head))

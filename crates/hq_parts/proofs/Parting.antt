@@ -11,15 +11,13 @@ use Rattle.std.proofs.lemmas.Nat.Bits.{bit_at_or, bit_at-lt, bit_at-zero, bit_at
 use Rattle.std.proofs.lemmas.Option.{slice_get_within, slice_get-get_or}
 use Rattle.std.proofs.lemmas.List.{take_all}
 use Rattle.hq_footprint.specs.declared.footprint.Range.{Range}
-use Rattle.hq_footprint.specs.Bytes as bytes
-use Rattle.hq_footprint.specs.Bytes.{bytes_of, read_entries, written_bytes}
+use Rattle.hq_footprint.specs.Bytes.{bytes_of, read_entries, written_bytes, Share}
 use Rattle.hq_footprint.proofs.Overlaps.{byte_bounds, shares_any, share_sym}
-use Rattle.hq_job.specs.declared.rows.Placed.{Placed}
+use Rattle.hq_tables.specs.declared.rows.Placed.{Placed}
 use Rattle.hq_job.specs.Value.{JobValue}
 use Rattle.hq_job.specs.Plan.{plan, planned}
-use Rattle.hq_job.proofs.Shares.{shares, packet_at}
+use Rattle.hq_job.proofs.Shares.{packet_at}
 use Rattle.hq_model.specs.Job.{Job, packet}
-use Rattle.hq_model.specs.Fence.{Share}
 use Rattle.hq_model.specs.Fence.Conflict.{WriteRead, WriteWrite, ReadWrite}
 use Rattle.hq_parts.specs.declared.parts.Parts.{Parts}
 use Rattle.hq_parts.specs.declared.parts.Touch.{Touch}
@@ -71,13 +69,13 @@ all_parts size r = record { bytes = λ x low high. bit_at_ones 64 (x / size % 64
 
 -- ---- ranges
 
-apart_ranges : (size a b : ℕ) (r s : Range) → HasRange size a r → HasRange size b s → AreDisjoint a b → bytes.Share (bytes_of r) (bytes_of s) → ⊥
+apart_ranges : (size a b : ℕ) (r s : Range) → HasRange size a r → HasRange size b s → AreDisjoint a b → Share (bytes_of r) (bytes_of s) → ⊥
 apart_ranges size a b r s g h none (x, in_r, in_s) =
     let p = byte_bounds r x in_r in
     let q = byte_bounds s x in_s in
     none (x / size % 64) (g.bytes x p.low p.high) (h.bytes x q.low q.high)
 
-apart_reads : (size a b : ℕ) (reads : List Range) (w : Range) → All (HasRange size a) reads → HasRange size b w → AreDisjoint a b → bytes.Share (flat_map bytes_of reads) (bytes_of w) → ⊥
+apart_reads : (size a b : ℕ) (reads : List Range) (w : Range) → All (HasRange size a) reads → HasRange size b w → AreDisjoint a b → Share (flat_map bytes_of reads) (bytes_of w) → ⊥
 apart_reads size a b reads w g h none s =
     let (k, r, low, is, share) = shares_any (bytes_of w) reads s in
     apart_ranges size a b r w (subst (HasRange size a) is (g k r low)) h none share
@@ -88,13 +86,13 @@ turned a b none k x y = none k y x
 conflict_apart : (job : Job) (size : ℕ) (a b : ℕ) (t u : Touch) (x y : Placed) → packet job a ≡ planned x → packet job b ≡ planned y → HasFoot size t x.bytes → HasFoot size u y.bytes → IsApart t u → NeverConflict job a b
 conflict_apart job size a b t u x y i j g h apart WriteRead c =
     let s : Share (written_bytes x.bytes) (read_entries y.bytes) = subst (λ q. Share (written_bytes x.bytes) q.reads) j (subst (λ q. Share q.writes (packet job b).reads) i c) in
-    apart_reads size u.touched t.written y.bytes.reads x.bytes.write h.reads g.written (turned t.written u.touched apart.first) (share_sym (written_bytes x.bytes) (read_entries y.bytes) ((shares (written_bytes x.bytes) (read_entries y.bytes)).1 s))
+    apart_reads size u.touched t.written y.bytes.reads x.bytes.write h.reads g.written (turned t.written u.touched apart.first) (share_sym (written_bytes x.bytes) (read_entries y.bytes) s)
 conflict_apart job size a b t u x y i j g h apart WriteWrite c =
     let s : Share (written_bytes x.bytes) (written_bytes y.bytes) = subst (λ q. Share (written_bytes x.bytes) q.writes) j (subst (λ q. Share q.writes (packet job b).writes) i c) in
-    apart_ranges size t.written u.touched x.bytes.write y.bytes.write g.written h.touched apart.first ((shares (written_bytes x.bytes) (written_bytes y.bytes)).1 s)
+    apart_ranges size t.written u.touched x.bytes.write y.bytes.write g.written h.touched apart.first s
 conflict_apart job size a b t u x y i j g h apart ReadWrite c =
     let s : Share (read_entries x.bytes) (written_bytes y.bytes) = subst (λ q. Share (read_entries x.bytes) q.writes) j (subst (λ q. Share q.reads (packet job b).writes) i c) in
-    apart_reads size t.touched u.written x.bytes.reads y.bytes.write g.reads h.written apart.second ((shares (read_entries x.bytes) (written_bytes y.bytes)).1 s)
+    apart_reads size t.touched u.written x.bytes.reads y.bytes.write g.reads h.written apart.second s
 
 -- ---- all packets
 

@@ -7,7 +7,7 @@ use Rattle.hq_packet.specs.declared.packet.Packet.{Packet}
 use Rattle.hq_packet.specs.declared.packet.Packet.TheVariants as packet
 use Rattle.hq_packet.specs.Parts.{head_of, completion_of}
 use Rattle.hq_footprint.specs.declared.footprint.Range.{Range}
-use Rattle.hq_job.specs.declared.rows.Placed.{Placed}
+use Rattle.hq_tables.specs.declared.rows.Placed.{Placed}
 
 -- the word for a fence's scope
 abbrev pub scope_word : Scope → List ℕ

@@ -2,7 +2,7 @@
 use Rattle.std.specs.Prelude.{ℕ, ◌+◌, ◌-◌, nat_lt, if◌then◌else◌, List, [], ◌∷◌, ◌++◌, length}
 use Rattle.std.specs.Prelude.{Option, Some, None, codes}
 use Rattle.std.specs.Fmt.{decimal}
-use Rattle.hq_job.specs.Value.{Bytes}
+use Rattle.hq_tables.specs.Blocks.{Bytes}
 use Rattle.hq_report.specs.declared.spots.Spot.{Spot}
 
 -- where the byte of a number lies, when the buffers are laid end to end

@@ -5,9 +5,9 @@ use Rattle.hq_packet.specs.declared.fault.PacketFault.{PacketFault}
 use Rattle.hq_packet.specs.declared.fault.PacketFault.TheVariants as packet
 use Rattle.hq_footprint.specs.declared.fault.FootFault.{FootFault}
 use Rattle.hq_footprint.specs.declared.fault.FootFault.TheVariants as foot
-use Rattle.hq_job.specs.declared.fault.Reason.{Reason}
-use Rattle.hq_job.specs.declared.fault.Reason.TheVariants as reason
-use Rattle.hq_job.specs.declared.fault.JobFault.{JobFault}
+use Rattle.hq_tables.specs.declared.fault.Reason.{Reason}
+use Rattle.hq_tables.specs.declared.fault.Reason.TheVariants as reason
+use Rattle.hq_jobtext.specs.declared.fault.JobFault.{JobFault}
 
 -- a packet fault's code, with the offset of the reserved field
 abbrev pub packet_code : PacketFault → List ℕ

@@ -1,8 +1,9 @@
 //! Faults in plain words, for standard error.
 
 use hq_footprint::FootFault;
-use hq_job::{JobFault, Reason};
+use hq_jobtext::JobFault;
 use hq_packet::PacketFault;
+use hq_tables::Reason;
 use std::fmt;
 
 /// What is wrong with a packet, the offset of its reserved field aside.

@@ -3,8 +3,9 @@
 ghost use Rattle.std.specs.Prelude.{Some};
 
 use hq_footprint::FootFault;
-use hq_job::{JobFault, Reason};
+use hq_jobtext::JobFault;
 use hq_packet::PacketFault;
+use hq_tables::Reason;
 use std::fmt;
 
 /// A packet fault by its code: P1 to P9, P6 with the offset of the field.

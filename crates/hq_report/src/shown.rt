@@ -3,8 +3,8 @@
 ghost use Rattle.std.specs.Prelude.{Some, ◌≡◌, [], ◌∷◌, ◌||◌, ◌==◌, not, codes, if◌then◌else◌};
 
 use hq_footprint::Range;
-use hq_job::Placed;
 use hq_packet::{Packet, Scope};
+use hq_tables::Placed;
 use hq_text::Name;
 use std::fmt;
 

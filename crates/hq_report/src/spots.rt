@@ -1,10 +1,10 @@
 //! Where bytes of memory lie, as texts name them.
 
 ghost use Rattle.std.specs.Prelude.{◌≡◌, Some};
-ghost use Rattle.hq_job.specs.Blocks.{blocks_of};
+ghost use Rattle.hq_tables.specs.Blocks.{blocks_of};
 ghost use Rattle.hq_report.specs.Spots.{offset_text, spot_of, spot_text};
 
-use hq_job::Block;
+use hq_tables::Block;
 use hq_text::Name;
 use std::fmt;
 

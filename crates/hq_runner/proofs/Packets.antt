@@ -8,8 +8,9 @@ use Rattle.hq_hall.proofs.Programs.{rising, parts_more, parts_program}
 use Rattle.hq_job.specs.Access.{AreOfQueue}
 use Rattle.hq_events.specs.declared.event.Event.{Event}
 use Rattle.hq_events.specs.Events.{coarse_of}
-use Rattle.hq_job.specs.declared.rows.Placed.{Placed}
-use Rattle.hq_job.specs.Plan.{planned, kind_of}
+use Rattle.hq_tables.specs.declared.rows.Placed.{Placed}
+use Rattle.hq_job.specs.Plan.{planned}
+use Rattle.hq_tables.specs.Kinds.{kind_of}
 use Rattle.std.proofs.lemmas.List.{map-append}
 use Rattle.std.specs.Prelude.{slice_get, Some}
 use Rattle.hq_model.specs.Job.{Job, packet, IsPacket}

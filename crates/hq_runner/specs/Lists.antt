@@ -1,6 +1,6 @@
 -- The lists of the events that were answered to a processor.
 use Rattle.std.specs.Prelude.{◌≡◌, ℕ, List, [], ◌∷◌, ◌++◌, map, slice_get, Some}
-use Rattle.hq_job.specs.declared.rows.Placed.{Placed}
+use Rattle.hq_tables.specs.declared.rows.Placed.{Placed}
 use Rattle.hq_events.specs.declared.event.Event.{Event}
 use Rattle.hq_events.specs.declared.event.Event.TheVariants as event
 use Rattle.hq_events.specs.Events.{coarse_of}

@@ -3,7 +3,7 @@ use Rattle.std.specs.Prelude.{◌≡◌, ℕ, ◌+◌, ◌<◌, ◌==◌, List, 
 use Rattle.std.specs.declared.dyn_box.DynBox.{DynBox}
 use Rattle.std.specs.declared.alloc.Global.{Global}
 use Rattle.hq_hall.specs.Handing.{work_of}
-use Rattle.hq_job.specs.declared.rows.Placed.{Placed}
+use Rattle.hq_tables.specs.declared.rows.Placed.{Placed}
 use Rattle.hq_kernels.specs.Bodies.{BodyValue, pieces_of}
 use Rattle.hq_kernels.specs.declared.kit.Kit.{Kit}
 use Rattle.hq_events.specs.declared.event.Event.{Event}

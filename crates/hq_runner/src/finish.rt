@@ -3,7 +3,7 @@
 ghost use Rattle.std.specs.Prelude.{◌≡◌, ℕ, ◌<◌, ◌^◌, List, None, IfOk, IfErr, IfNone, OnOk, length};
 ghost use Rattle.hq_hall.specs.View.{AddsAlone};
 ghost use Rattle.hq_job.specs.Plan.{plan};
-ghost use Rattle.hq_job.specs.declared.rows.Placed.{Placed};
+ghost use Rattle.hq_tables.specs.declared.rows.Placed.{Placed};
 ghost use Rattle.hq_events.specs.declared.event.Event.TheVariants as event;
 ghost use Rattle.hq_machine.specs.View.{state_of};
 ghost use Rattle.hq_model.specs.Job.{IsPacket};

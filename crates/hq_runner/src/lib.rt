@@ -12,7 +12,6 @@ mod owner;
 mod places;
 mod processor;
 mod queue;
-mod same;
 mod seated;
 mod shared;
 mod spread;

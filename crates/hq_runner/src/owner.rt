@@ -1,11 +1,10 @@
 //! Whose event an event is.
 
-ghost use Rattle.std.specs.Prelude.{◌≡◌, ◌==◌, IsTrue, filter, All};
+ghost use Rattle.std.specs.Prelude.{◌≡◌, ◌==◌, ◌↔◌, IsTrue, filter, All};
 ghost use Rattle.hq_job.specs.Plan.{plan};
 ghost use Rattle.hq_model.specs.Job.{packet as packet_of};
 ghost use Rattle.hq_runner.specs.Journals.{is_asked, owned};
 
-use crate::same::same_event;
 use hq_job::Job;
 use hq_machine::Event;
 
@@ -42,6 +41,13 @@ fn owns(job: &Job, owner: Owner, event: Event) -> bool
         Event::Complete { packet } => is_in(job, packet, queue),
         _ => false,
     }
+}
+
+/// Whether both are the same event.
+fn same_event(first: Event, second: Event) -> bool
+    ensures { IsTrue result ↔ (first ≡ second) }
+{
+    first == second
 }
 
 /// Whether the list has just the events that are the owner's in the journal, in their order.

@@ -15,14 +15,14 @@ ghost use Rattle.hq_runner.specs.Pieces.{AreFor, IsWorked};
 use crate::asking::{Desk, ask, ask_all, ask_deliver, ask_fetch, ask_one};
 use crate::fault::Fault;
 use crate::gate::Gate;
-use crate::same::same_task;
 use crate::shared::Shared;
 use crate::step::Step;
 use hq_footprint::Work;
-use hq_job::{Job, Placed};
+use hq_job::Job;
 use hq_kernels::Body;
 use hq_ledger::Piece;
 use hq_packet::Packet;
+use hq_tables::Placed;
 use std::sync::Wait;
 
 /// Runs the packet's body with its pieces.
@@ -40,7 +40,7 @@ fn run_body(
     ensures ran { OnOk result
         ((value_of (λ b. kernel (b.vtable, b.value)) (λ b. service (b.vtable, b.value)) body.new).ran ≡ true) }
 {
-    if !same_task(body.task(), work.task) {
+    if !body.task().same(work.task) {
         return Err(Fault::Stopped);
     }
     match body.perform(pieces) {

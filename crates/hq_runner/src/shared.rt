@@ -5,7 +5,6 @@ ghost use Rattle.hq_hall.specs.View.{work_in};
 ghost use Rattle.hq_runner.specs.Pieces.{AreFor, IsWorked};
 
 use crate::fault::Fault;
-use crate::same::same_work;
 use crate::step::{Step, fault_of, take};
 use hq_footprint::Work;
 use hq_hall::{Hall, HallFault};
@@ -42,7 +41,7 @@ fn knows(hall: &Hall, packet: u16, work: Work) -> bool
     ensures { IsTrue result → work_in hall.now packet ≡ work }
 {
     match hall.job().packets().get(packet as usize) {
-        Some(placed) => same_work(placed.work, work),
+        Some(placed) => placed.work.same(work),
         None => false,
     }
 }

@@ -3,7 +3,7 @@ use Rattle.std.proofs.Common.{◌≡◌, ◌≢◌, ℕ, ◌↔◌, ◌⊎◌, i
 use Rattle.hq_packet.specs.declared.packet.Packet.{Packet}
 use Rattle.hq_packet.specs.declared.packet.Packet.TheVariants as format
 use Rattle.hq_packet.specs.declared.packet.Barrier.{Barrier}
-use Rattle.hq_job.specs.Plan.{kind_of}
+use Rattle.hq_tables.specs.Kinds.{kind_of}
 use Rattle.hq_model.specs.Job.{Job, packet, Earlier}
 use Rattle.hq_model.specs.Job.Kind.{BarrierAnd, BarrierOr}
 use Rattle.hq_model.specs.Order.{FreesFor}

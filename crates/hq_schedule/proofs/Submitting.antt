@@ -3,7 +3,7 @@ use Rattle.std.proofs.Common.{◌≡◌, ℕ, ◌+◌, ◌<◌, ◌≤◌, ◌�
 use Rattle.std.proofs.lemmas.Bool.{cases_lt}
 use Rattle.std.proofs.lemmas.List.Folds.{fold-map}
 use Rattle.std.proofs.lemmas.List.{take-map}
-use Rattle.hq_job.specs.declared.rows.Placed.{Placed}
+use Rattle.hq_tables.specs.declared.rows.Placed.{Placed}
 use Rattle.hq_job.specs.Value.{JobValue}
 use Rattle.hq_job.specs.Plan.{plan, planned}
 use Rattle.hq_model.specs.Job.{Job, IsPacket, place_in_queue, Frees}

@@ -13,8 +13,9 @@ use Rattle.hq_packet.specs.declared.packet.Scope.TheVariants as scope
 use Rattle.hq_packet.specs.PacketText.{PacketText}
 use Rattle.hq_packet.proofs.Dispatches.{one_dispatch, faultless_fields}
 use Rattle.hq_packet.proofs.Packets.{one_text}
+use Rattle.hq_report.specs.Shown.{scope_word}
 use Rattle.hq_report.specs.Texts.{packet_refusal}
-use Rattle.hq_showing.specs.Pack.{word_at, number_in, numbers_in, with_first, bit_word, scope_word, HeadWords, KernelWords, AgentWords, BarrierWords, Say, fields_in, fields_fault}
+use Rattle.hq_showing.specs.Pack.{word_at, number_in, numbers_in, with_first, bit_word, HeadWords, KernelWords, AgentWords, BarrierWords, Say, fields_in, fields_fault}
 use Rattle.hq_showing.specs.Packing.{FieldsReport, OneReport}
 use Rattle.hq_showing.specs.Packing.FieldsReport.{spells, refused, no_memory}
 use Rattle.hq_showing.specs.Packing.PackReport.{packs, no_fields}

@@ -6,9 +6,9 @@ use Rattle.hq_model.specs.Job as model
 use Rattle.hq_model.specs.Theorems.{Valid}
 use Rattle.hq_job.specs.Plan.{plan, planned}
 use Rattle.hq_job.specs.Value.{JobValue}
-use Rattle.hq_job.specs.declared.rows.Placed.{Placed}
-use Rattle.hq_job.specs.declared.rows.Queue.{Queue}
-use Rattle.hq_job.proofs.Submitted.{at}
+use Rattle.hq_tables.specs.declared.rows.Placed.{Placed}
+use Rattle.hq_tables.specs.declared.rows.Queue.{Queue}
+use Rattle.hq_tables.proofs.Lists.{at}
 use Rattle.hq_job.proofs.QueuePlaces.{packet_at}
 
 queue_below : (job : JobValue) → Valid (plan job) → (k : ℕ) (d : Placed) → k < length job.packets → (slice_index_or job.packets k d).queue < length job.queues

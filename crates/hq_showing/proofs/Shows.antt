@@ -2,8 +2,8 @@
 use Rattle.std.proofs.Common.{◌≡◌, ℕ, zero, suc, ◌+◌, ◌<◌, List, [], ◌∷◌, ◌++◌, length, take, Option, sym, ap, ◌∙◌, subst, arith, slice_index_or, append-nil, add-one}
 use Rattle.std.proofs.lemmas.List.{append_assoc}
 use Rattle.std.specs.Io.KnownBytes.{Appends}
-use Rattle.hq_job.specs.declared.rows.Placed.{Placed}
-use Rattle.hq_job.specs.declared.rows.Queue.{Queue}
+use Rattle.hq_tables.specs.declared.rows.Placed.{Placed}
+use Rattle.hq_tables.specs.declared.rows.Queue.{Queue}
 use Rattle.hq_status.proofs.Appending.{appends_more}
 use Rattle.hq_showing.specs.Show.{packets_text, packet_line}
 

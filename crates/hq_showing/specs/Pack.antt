@@ -7,11 +7,10 @@ use Rattle.hq_packet.specs.declared.packet.Head.{Head}
 use Rattle.hq_packet.specs.declared.packet.KernelFields.{KernelFields}
 use Rattle.hq_packet.specs.declared.packet.Packet.{Packet}
 use Rattle.hq_packet.specs.declared.packet.Packet.TheVariants as packet
-use Rattle.hq_packet.specs.declared.packet.Scope.{Scope}
-use Rattle.hq_packet.specs.declared.packet.Scope.TheVariants as scope
 use Rattle.hq_packet.specs.declared.fault.PacketFault.{PacketFault}
 use Rattle.hq_packet.specs.Dispatches.{fields_of, field_tests}
 use Rattle.hq_packet.specs.Faults.{first_of}
+use Rattle.hq_report.specs.Shown.{scope_word}
 use Rattle.hq_text.specs.Numbers.{number_of}
 use Rattle.hq_showing.specs.declared.fields.Fields.{Fields}
 use Rattle.hq_showing.specs.declared.fields.Fields.TheVariants.{Kernel, Agent, And, Or}
@@ -45,12 +44,6 @@ numbers_in (suc count) bits words place = with_first (number_in bits words place
 -- the word for a barrier bit
 abbrev pub bit_word : Bool → List ℕ
 bit_word bit = if bit then codes "1" else codes "0"
-
--- the word for a fence's scope
-abbrev pub scope_word : Scope → List ℕ
-scope_word scope.None = codes "none"
-scope_word scope.Agent = codes "agent"
-scope_word scope.System = codes "system"
 
 -- ---- whole packets
 

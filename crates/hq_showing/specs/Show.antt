@@ -2,8 +2,8 @@
 use Rattle.std.specs.Prelude.{ℕ, ◌+◌, List, [], ◌∷◌, ◌++◌, length, codes, slice_get, Option, Some, None}
 use Rattle.std.specs.Fmt.{decimal}
 use Rattle.hq_job.specs.Value.{JobValue}
-use Rattle.hq_job.specs.declared.rows.Placed.{Placed}
-use Rattle.hq_job.specs.declared.rows.Queue.{Queue}
+use Rattle.hq_tables.specs.declared.rows.Placed.{Placed}
+use Rattle.hq_tables.specs.declared.rows.Queue.{Queue}
 use Rattle.hq_report.specs.Shown.{packet_text}
 use Rattle.hq_status.specs.declared.status.Status.{Status}
 use Rattle.hq_status.specs.declared.status.Status.TheVariants.{Done}

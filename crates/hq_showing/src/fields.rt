@@ -8,7 +8,8 @@ ghost use Rattle.hq_packet.specs.declared.packet.Head.{Head};
 ghost use Rattle.hq_packet.specs.declared.packet.KernelFields.{KernelFields};
 ghost use Rattle.hq_packet.specs.declared.packet.Scope.{Scope};
 ghost use Rattle.hq_showing.specs.declared.fields.Fields.{Fields};
-ghost use Rattle.hq_showing.specs.Pack.{word_at, number_in, numbers_in, bit_word, scope_word, HeadWords};
+ghost use Rattle.hq_report.specs.Shown.{scope_word};
+ghost use Rattle.hq_showing.specs.Pack.{word_at, number_in, numbers_in, bit_word, HeadWords};
 ghost use Rattle.hq_showing.specs.Pack.{KernelWords, AgentWords, BarrierWords, Say};
 
 use hq_packet::{AgentCall, Barrier, Head, KernelFields, Scope};

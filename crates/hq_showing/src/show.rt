@@ -5,9 +5,10 @@ ghost use Rattle.std.specs.Io.KnownBytes.{Appends};
 ghost use Rattle.hq_status.specs.Reports.{JobTextReport, ReaderReport, Reported, Said};
 ghost use Rattle.hq_showing.specs.Show.{packets_text, packet_line, show_text, ShowReport};
 
-use hq_job::{Job, Placed, Queue};
+use hq_job::Job;
 use hq_report::ShownPacket;
 use hq_status::{Status, let_go, take_job};
+use hq_tables::{Placed, Queue};
 use std::alloc::Global;
 use std::io;
 use std::io::{Read, Write};

@@ -6,8 +6,8 @@ use Rattle.hq_text.specs.Turns.{ReadTurn}
 use Rattle.hq_jobtext.specs.Answered.{FaultOf}
 use Rattle.hq_jobtext.specs.JobText.{JobText, FirstFault}
 use Rattle.hq_job.specs.Value.{JobValue}
-use Rattle.hq_job.specs.declared.fault.JobFault.{JobFault}
-use Rattle.hq_job.specs.declared.fault.Reason.TheVariants as reason
+use Rattle.hq_jobtext.specs.declared.fault.JobFault.{JobFault}
+use Rattle.hq_tables.specs.declared.fault.Reason.TheVariants as reason
 use Rattle.hq_report.specs.Texts.{job_refusal}
 use Rattle.hq_status.specs.Reports.{IsUnread, JobTextReport, NoJob, OfReader, ReaderReport, Reported, SaysNoJob, with_feed}
 use Rattle.hq_status.specs.Reports.JobTextReport.{of_job, no_job}

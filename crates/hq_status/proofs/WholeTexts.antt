@@ -5,8 +5,8 @@ use Rattle.hq_text.specs.Lines.{lines_of}
 use Rattle.hq_text.specs.Turns.{Ends, ReadTurn}
 use Rattle.hq_jobtext.specs.Answered.{no_memory, FaultOf}
 use Rattle.hq_jobtext.specs.JobText.{FirstFault}
-use Rattle.hq_job.specs.declared.fault.JobFault.{JobFault}
-use Rattle.hq_job.specs.declared.fault.Reason.TheVariants as reason
+use Rattle.hq_jobtext.specs.declared.fault.JobFault.{JobFault}
+use Rattle.hq_tables.specs.declared.fault.Reason.TheVariants as reason
 use Rattle.hq_jobtext.proofs.NotRead.{not_read}
 use Rattle.hq_status.specs.Reports.{IsUnread, NoJob, ReaderReport, Reported, SaysNoJob}
 use Rattle.hq_status.specs.declared.status.Status.{Status}

@@ -5,7 +5,7 @@ ghost use Rattle.hq_status.specs.Statuses.{code_of, code_of_found};
 
 use hq_certread::CertFault;
 use hq_finding::{Found, Kind, Why};
-use hq_job::JobFault;
+use hq_jobtext::JobFault;
 use hq_packet::PacketFault;
 use hq_report::Spot;
 

@@ -7,9 +7,10 @@ ghost use Rattle.hq_status.specs.Reports.{NoJob, OfReader, ReaderReport, Reporte
 
 use crate::saying::{say, say_file, say_memory};
 use crate::status::Status;
-use hq_job::{Job, JobFault, Reason};
-use hq_jobtext::{TextFault, read, read_text, take_text};
+use hq_job::Job;
+use hq_jobtext::{JobFault, TextFault, read, read_text, take_text};
 use hq_report::JobRefusal;
+use hq_tables::Reason;
 use std::alloc::Global;
 use std::io::{Read, Write};
 

@@ -1,6 +1,7 @@
 pub mod Lines
 pub mod Cuts
 pub mod NumberLaws
+pub mod DigitsRead
 pub mod Spelled
 pub mod Taken
 pub mod Pieces

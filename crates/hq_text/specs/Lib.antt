@@ -1,5 +1,6 @@
 pub mod Lines
 pub mod Numbers
+pub mod Ahead
 pub mod Names
 pub mod Padded
 pub mod Turns

@@ -2,12 +2,14 @@
 //! reader, whole or line by line.
 #![tactic(auto)]
 
+mod ahead;
 mod intake;
 mod name;
 mod number;
 mod take;
 mod words;
 
+pub use ahead::{digits_ahead, ended_number, more_digits_ahead, number_ahead, with_digit};
 pub use intake::{ReadFault, TakesLines, read_lines};
 pub use name::Name;
 pub use number::number_of;

@@ -4,6 +4,7 @@ use Rattle.std.specs.Prelude.{Result, Ok, Err, nat_lt}
 use Rattle.std.specs.List.{AllByRecursion}
 use Rattle.std.specs.Fmt.{decimal}
 use Rattle.std.specs.Str.{bytes_eq}
+use Rattle.hq_text.specs.Ahead.{IsSmall}
 use Rattle.hq_text.specs.Numbers.{number_of}
 use Rattle.hq_text.specs.InTurn.{◌>>=◌}
 use Rattle.hq_events.specs.declared.event.Event.{Event}
@@ -17,7 +18,7 @@ use Rattle.hq_timeline.specs.declared.kinds.OneNumber.TheVariants as one
 use Rattle.hq_timeline.specs.declared.kinds.TwoNumbers.{TwoNumbers}
 use Rattle.hq_timeline.specs.declared.kinds.TwoNumbers.TheVariants as two
 use Rattle.hq_timeline.specs.Names as word
-use Rattle.hq_timeline.specs.Grammar.{IsSmall, event_words, EventFits, Says, end_words}
+use Rattle.hq_timeline.specs.Grammar.{event_words, EventFits, Says, end_words}
 use Rattle.hq_timeline.specs.TextFaults.{first_word, operands, IsSmallNumber, HasEventForm, Refused}
 use Rattle.hq_timeline.specs.LineTests.{small, number_said, one_kind, event_of_one, two_kind, event_of_two, plain_said, one_said, two_said, event_said, is_head, is_last}
 use Rattle.hq_timeline.specs.TextStates.{State, with_head, with_event, with_end, add_head, add_event, add_content, add_at, added}

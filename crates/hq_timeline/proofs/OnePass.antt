@@ -1,83 +1,24 @@
 -- What one pass over a text finds, and that it is taken in.
-use Rattle.std.proofs.Common.{◌≡◌, ◌≢◌, ℕ, ◌+◌, ◌-◌, ◌*◌, ◌^◌, ◌<◌, ◌≤◌, ◌&&◌, Bool, true, false, cond, List, [], ◌∷◌, ◌++◌, length, get_or, take, Option, Some, None, Ok, refl, sym, ap, subst, ◌∙◌, arith, ltb, append_assoc, append-nil, length-append, zero, suc, add-one, eqb}
-use Rattle.std.proofs.Math.Nat.{pow-suc, pow-le-pow_right}
+use Rattle.std.proofs.Common.{◌≡◌, ℕ, ◌+◌, true, List, [], ◌∷◌, ◌++◌, length, Option, Some, None, Ok, refl, sym, ap, subst, ◌∙◌, arith, append_assoc, append-nil, length-append, eqb}
 use Rattle.std.specs.Prelude.{MatchOption, IfSome, codes}
 use Rattle.std.specs.Fmt.{decimal}
 use Rattle.std.specs.Bool.{Decides}
-use Rattle.std.proofs.lemmas.Bool.{lt-ltb, le-leb, eqb-true, ne_eqb, eq-eqb, cond-true, cond-false}
-use Rattle.std.proofs.lemmas.Fmt.{decimal_digit}
-use Rattle.std.proofs.lemmas.List.{take_more}
+use Rattle.std.proofs.lemmas.Bool.{eqb-true, eq-eqb}
+use Rattle.hq_text.specs.Ahead.{NumberAhead}
 use Rattle.hq_text.specs.LineByLine.{AdmitsAll}
 use Rattle.hq_text.specs.Lines.{lines_of}
-use Rattle.hq_text.specs.Numbers.{is_digit, read_on, number_of, IsNumber}
 use Rattle.hq_text.specs.Printed.{spaced, line_text}
 use Rattle.hq_text.proofs.LineByLine.{Taken, admits_both, admits_more}
-use Rattle.hq_text.proofs.NumberLaws.{number_tells}
 use Rattle.hq_text.proofs.Printed.{line_first}
 use Rattle.hq_events.specs.declared.event.Event.{Event}
 use Rattle.hq_events.specs.declared.event.Event.TheVariants as event
 use Rattle.hq_timeline.specs.declared.draft.Stage.TheVariants as stage
 use Rattle.hq_timeline.specs.Gives.{TakesAll}
 use Rattle.hq_timeline.specs.Grammar.{event_words, EventFits}
-use Rattle.hq_timeline.specs.OnePass.{DigitsAhead, NumberAhead, BothNumbers, EventAhead, TakenFrom}
+use Rattle.hq_timeline.specs.OnePass.{BothNumbers, EventAhead, TakenFrom}
 use Rattle.hq_timeline.specs.TextStates.{State, added, add_content, add_event, with_event}
 use Rattle.hq_timeline.proofs.Again.{plain_event}
 use Rattle.hq_timeline.proofs.Parts.{event_is, not_last}
-
--- ---- digits
-
--- one digit more
-read_more : (n m d : ℕ) (ds : List ℕ) → read_on n ds ≡ Some m → is_digit d ≡ true → m * 10 + (d - 48) < 18446744073709551616 → read_on n (ds ++ d ∷ []) ≡ Some (m * 10 + (d - 48))
-read_more n m d [] e digit l =
-    let same : n ≡ m = cc in
-    let test : (is_digit d && ltb (n * 10 + (d - 48)) 18446744073709551616) ≡ true = ap (λ b. b && ltb (n * 10 + (d - 48)) 18446744073709551616) digit ∙ lt-ltb (n * 10 + (d - 48)) 18446744073709551616 (subst (λ (k : ℕ). k * 10 + (d - 48) < 18446744073709551616) (sym same) l) in
-    cond-true _ (Some (n * 10 + (d - 48))) None test ∙ ap (λ k. Some (k * 10 + (d - 48))) same
-read_more n m d (x ∷ ds) e digit l = by (is_digit x && ltb (n * 10 + (x - 48)) 18446744073709551616) (λ h. read_more (n * 10 + (x - 48)) m d ds h digit l) e where
-  by : (b : Bool) → (read_on (n * 10 + (x - 48)) ds ≡ Some m → read_on (n * 10 + (x - 48)) (ds ++ d ∷ []) ≡ Some (m * 10 + (d - 48))) → cond b (read_on (n * 10 + (x - 48)) ds) None ≡ Some m
-      → cond b (read_on (n * 10 + (x - 48)) (ds ++ d ∷ [])) None ≡ Some (m * 10 + (d - 48))
-  by true more e = more e
-  by false more e = absurd cc
-
--- a digit, by its distance from `0`
-is_digit_at : (d : ℕ) → 48 ≤ d → d ≤ 57 → is_digit d ≡ true
-is_digit_at d lo hi = rw (le-leb 48 d lo, le-leb d 57 hi) refl
-
--- the digits up to i are the number so far
-pub record ReadSoFar (text : List ℕ) (i number : ℕ) : Type 0 where
-  pub reads : read_on 0 (take i text) ≡ Some number
-  pub bound : number < 10 ^ i
-
-pub one_read : (text : List ℕ) (i number digit b : ℕ) → ReadSoFar text i number → i < length text → b ≡ get_or text i 0 → 48 + digit ≡ b → digit ≤ 9 → number * 10 + digit < 4294967296 → ReadSoFar text (i + 1) (number * 10 + digit)
-one_read text i number digit b so lt is at le small =
-    let found : b - 48 ≡ digit = omega arith in
-    let more : read_on 0 (take i text ++ b ∷ []) ≡ Some (number * 10 + (b - 48)) = read_more 0 number b (take i text) so.reads (is_digit_at b (omega arith) (omega arith)) (omega arith) in
-    record {
-      reads = ap (read_on 0) (take_more text i 0 lt ∙ ap (λ c. take i text ++ c ∷ []) (sym is)) ∙ more ∙ ap (λ k. Some (number * 10 + k)) found;
-      bound = let p : 10 ^ (i + 1) ≡ 10 ^ i * 10 = rw add-one (pow-suc 10 i) in let low = so.bound in omega arith;
-    }
-
--- eight digits have 32 bits
-eight : (i number : ℕ) → i ≤ 8 → number < 10 ^ i → number < 100000000
-eight i number le l = let p : 10 ^ i ≤ 100000000 = pow-le-pow_right {n = 10} (omega arith) le in omega arith
-
-pub room_left : (text : List ℕ) (i number digit : ℕ) → ReadSoFar text i number → i < 9 → digit ≤ 9 → number * 10 + digit < 4294967296
-room_left text i number digit so lt le = let low = eight i number (omega arith) so.bound in omega arith
-
--- digits of which the first isn't `0`
-word_reads : (d : ℕ) (ds : List ℕ) (n : ℕ) → d ≢ 48 → read_on 0 (d ∷ ds) ≡ Some n → d ∷ ds ≡ decimal n
-unfolding number_of
-word_reads d ds n other e =
-    let found : IsNumber (d ∷ ds) n = number_tells (d ∷ ds) (Some n) (sym (cond-false (eqb d 48) _ (read_on 0 (d ∷ ds)) (ne_eqb d 48 other) ∙ e)) in found.0
-
-pub digits_end : (text : List ℕ) (i number : ℕ) → 10 ≤ length text → i < 9 → 0 < i → get_or text 0 0 ≢ 48 → ReadSoFar text i number → DigitsAhead text number i
-digits_end [] i number long lt some other so = absurd (omega arith)
-digits_end (d ∷ more) zero number long lt some other so = absurd (omega arith)
-digits_end (d ∷ more) (suc i) number long lt some other so =
-    let low = eight (suc i) number (omega arith) so.bound in record { goes_on = omega arith; are = word_reads d (take i more) number other so.reads; small = omega arith }
-
-pub zero_digit : (text : List ℕ) → 10 ≤ length text → get_or text 0 0 ≡ 48 → DigitsAhead text 0 1
-zero_digit [] long e = absurd (omega arith)
-zero_digit (d ∷ more) long e = record { goes_on = omega arith; are = ap (λ c. c ∷ []) e ∙ sym (decimal_digit 0 (omega arith)); small = omega arith }
 
 -- ---- words of a line
 

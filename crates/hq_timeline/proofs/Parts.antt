@@ -4,6 +4,7 @@ use Rattle.std.specs.Prelude.{Result, Ok, Err, nat_lt}
 use Rattle.std.specs.Fmt.{decimal}
 use Rattle.std.specs.Str.{bytes_eq}
 use Rattle.std.proofs.lemmas.Bool.{ltb-true, lt-ltb}
+use Rattle.hq_text.specs.Ahead.{IsSmall}
 use Rattle.hq_text.specs.Numbers.{IsNumber, number_of}
 use Rattle.hq_text.proofs.InTurn.{steps, ok_is, both, word_is, guarded}
 use Rattle.hq_text.proofs.NumberLaws.{number_only, number_tells}
@@ -16,7 +17,7 @@ use Rattle.hq_timeline.specs.declared.kinds.OneNumber.TheVariants as one
 use Rattle.hq_timeline.specs.declared.kinds.TwoNumbers.{TwoNumbers}
 use Rattle.hq_timeline.specs.declared.kinds.TwoNumbers.TheVariants as two
 use Rattle.hq_timeline.specs.Names as word
-use Rattle.hq_timeline.specs.Grammar.{IsSmall, event_words, EventFits, Says, head_words, end_words}
+use Rattle.hq_timeline.specs.Grammar.{event_words, EventFits, Says, head_words, end_words}
 use Rattle.hq_timeline.specs.LineTests.{small, number_said, one_kind, event_of_one, two_kind, event_of_two, plain_said, one_said, two_said, event_said, is_head, is_last}
 
 -- the word is the number

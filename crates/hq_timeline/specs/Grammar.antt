@@ -1,7 +1,8 @@
 -- The text of a journal: what its lines spell.
-use Rattle.std.specs.Prelude.{◌≡◌, ℕ, ◌^◌, ◌<◌, List, [], ◌∷◌, ◌++◌, map}
+use Rattle.std.specs.Prelude.{◌≡◌, ℕ, List, [], ◌∷◌, ◌++◌, map}
 use Rattle.std.specs.List.{AllByRecursion}
 use Rattle.std.specs.Fmt.{decimal}
+use Rattle.hq_text.specs.Ahead.{IsSmall}
 use Rattle.hq_text.specs.Lines.{words_of}
 use Rattle.hq_events.specs.declared.event.Event.{Event}
 use Rattle.hq_events.specs.declared.event.Event.TheVariants as event
@@ -26,10 +27,6 @@ event_words (event.FillLane packet byte) = word.fill_lane_word ∷ decimal packe
 event_words (event.FillAgent agent byte) = word.fill_agent_word ∷ decimal agent ∷ decimal byte ∷ []
 event_words (event.DropLane packet byte) = word.drop_lane_word ∷ decimal packet ∷ decimal byte ∷ []
 event_words (event.DropAgent agent byte) = word.drop_agent_word ∷ decimal agent ∷ decimal byte ∷ []
-
--- a number of the text: at most 4294967295
-abbrev pub IsSmall : ℕ → Type 0
-IsSmall n = n < 2 ^ 32
 
 -- the event has a line: its numbers are small
 abbrev pub EventFits : Event → Type 0

@@ -1,23 +1,12 @@
 -- What a text is found to begin with, in one pass over its bytes.
-use Rattle.std.specs.Prelude.{◌≡◌, ℕ, ◌+◌, ◌<◌, ◌≤◌, List, ◌∷◌, ◌++◌, length, take}
-use Rattle.std.specs.Fmt.{decimal}
+use Rattle.std.specs.Prelude.{◌≡◌, ℕ, ◌+◌, ◌≤◌, List, ◌++◌, length}
+use Rattle.hq_text.specs.Ahead.{NumberAhead}
 use Rattle.hq_text.specs.LineByLine.{AdmitsAll}
 use Rattle.hq_text.specs.Lines.{lines_of}
 use Rattle.hq_text.specs.Printed.{line_text}
 use Rattle.hq_events.specs.declared.event.Event.{Event}
-use Rattle.hq_timeline.specs.Grammar.{IsSmall, event_words, EventFits}
+use Rattle.hq_timeline.specs.Grammar.{event_words, EventFits}
 use Rattle.hq_timeline.specs.TextStates.{State, added}
-
--- the text begins with so many digits, which are the number n, and goes on
-pub record DigitsAhead (text : List ℕ) (n count : ℕ) : Type 0 where
-  pub goes_on : count < length text
-  pub are : take count text ≡ decimal n
-  pub small : IsSmall n
-
--- the text is the number n, a byte that ends it, and the rest
-pub record NumberAhead (text : List ℕ) (n stop : ℕ) (rest : List ℕ) : Type 0 where
-  pub is : text ≡ decimal n ++ stop ∷ rest
-  pub small : IsSmall n
 
 -- the text is two numbers, a space between them, a line feed, and the rest
 pub record BothNumbers (text : List ℕ) (m n : ℕ) (rest : List ℕ) : Type 0 where

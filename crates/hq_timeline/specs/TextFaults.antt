@@ -2,6 +2,7 @@
 use Rattle.std.specs.Prelude.{◌≡◌, ℕ, ◌+◌, ◌⊎◌, List, [], ◌∷◌, ◌++◌, length, map}
 use Rattle.std.specs.List.{AllByRecursion}
 use Rattle.std.specs.Fmt.{decimal}
+use Rattle.hq_text.specs.Ahead.{IsSmall}
 use Rattle.hq_text.specs.Lines.{words_of}
 use Rattle.hq_events.specs.declared.event.Event.{Event}
 use Rattle.hq_timeline.specs.declared.fault.TimeReason.{TimeReason}
@@ -9,7 +10,7 @@ use Rattle.hq_timeline.specs.declared.fault.TimeReason.TheVariants as reason
 use Rattle.hq_timeline.specs.declared.fault.TimeFault.{TimeFault}
 use Rattle.hq_timeline.specs.declared.draft.Stage.{Stage}
 use Rattle.hq_timeline.specs.declared.draft.Stage.TheVariants as stage
-use Rattle.hq_timeline.specs.Grammar.{event_words, EventFits, IsSmall, head_words, end_words, journal_words, TimeText}
+use Rattle.hq_timeline.specs.Grammar.{event_words, EventFits, head_words, end_words, journal_words, TimeText}
 
 -- ---- the place of a line
 

@@ -2,9 +2,14 @@
 //! readers of words, which tell what is wrong with it.
 
 ghost use Rattle.std.specs.Prelude.{◌≡◌, ◌++◌, IfSome};
-ghost use Rattle.hq_timeline.specs.OnePass.{DigitsAhead, NumberAhead, BothNumbers, EventAhead};
+ghost use Rattle.hq_timeline.specs.OnePass.{BothNumbers, EventAhead};
 
 use hq_machine::Event;
+use hq_text::number_ahead;
+
+/// How many bytes a text has at least where a number of it is read here, so that no digit of it needs a question of its
+/// own.
+const LONG: usize = 10;
 
 /// Two numbers, and what stands behind them.
 #[derive(Clone, Copy)]
@@ -14,49 +19,20 @@ struct TwoNumbers<'a> {
     rest: &'a [u8],
 }
 
-/// The number of the digits that a text begins with, and how many these are: at most eight, with ten bytes in all.
-#[inline(always)]
-fn digits(text: &[u8]) -> Option<(u32, usize)>
-    ensures { IfSome result (λ t. DigitsAhead text.now t.0 t.1) }
-{
-    if text.len() < 10 {
-        return None;
-    }
-    if text[0] == b'0' {
-        return Some((0, 1));
-    }
-    let mut number: u32 = 0;
-    for i in 0..9 {
-        let digit = text[i].wrapping_sub(b'0');
-        if digit > 9 {
-            return if i == 0 { None } else { Some((number, i)) };
-        }
-        number = number * 10 + digit as u32;
-    }
-    None
-}
-
-/// The number that a text begins with, and what stands behind it and the byte that ends it.
-#[inline(always)]
-fn number(text: &[u8], stop: u8) -> Option<(u32, &[u8])>
-    ensures { IfSome result (λ t. NumberAhead text.now t.0 stop t.1.now) }
-{
-    let (number, count) = digits(text)?;
-    if text[count] == stop {
-        Some((number, text.split_at(count + 1).1))
-    } else {
-        None
-    }
-}
-
 /// The two numbers that a line ends with, and what stands behind it.
 #[inline(always)]
 #[tactic(auto, using(crate::proofs::OnePass::both_ahead))]
 fn two_numbers(text: &[u8]) -> Option<TwoNumbers<'_>>
     ensures { IfSome result (λ t. BothNumbers text.now t.first t.second t.rest.now) }
 {
-    let (first, rest) = number(text, b' ')?;
-    let (second, rest) = number(rest, b'\n')?;
+    if text.len() < LONG {
+        return None;
+    }
+    let (first, rest) = number_ahead(text, b' ')?;
+    if rest.len() < LONG {
+        return None;
+    }
+    let (second, rest) = number_ahead(rest, b'\n')?;
     Some(TwoNumbers {
         first,
         second,

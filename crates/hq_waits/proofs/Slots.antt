@@ -4,7 +4,7 @@ use Rattle.std.proofs.lemmas.Bool.{cases_lt}
 use Rattle.std.proofs.lemmas.List.{get_or_default, get_or_past}
 use Rattle.std.proofs.lemmas.List.Elements.{All-get_or}
 use Rattle.std.proofs.lemmas.Option.{slice_get-get_or, get_or_from_slice_get}
-use Rattle.hq_job.specs.declared.rows.Placed.{Placed}
+use Rattle.hq_tables.specs.declared.rows.Placed.{Placed}
 use Rattle.hq_job.specs.Value.{JobValue}
 use Rattle.hq_job.specs.View.{PacketIsRead}
 use Rattle.hq_job.specs.Plan.{plan}

@@ -2,3 +2,4 @@ pub mod Traces
 pub mod Runs
 pub mod Bytes
 pub mod Pairs
+pub mod Meeting

@@ -1,6 +1,7 @@
 use crate::calls::good;
-use hq_job::{Job, JobFault, Reason};
-use hq_jobtext::{read, read_text};
+use hq_job::Job;
+use hq_jobtext::{JobFault, read, read_text};
+use hq_tables::Reason;
 use std::alloc::Global;
 use std::io;
 use std::io::Read;

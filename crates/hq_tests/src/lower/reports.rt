@@ -1,7 +1,8 @@
 use crate::calls::good;
-use hq_job::{JobFault, Reason};
+use hq_jobtext::JobFault;
 use hq_packet::PacketFault;
 use hq_report::{JobRefusal, PacketRefusal};
+use hq_tables::Reason;
 use std::alloc::Global;
 use std::test::*;
 

@@ -1,6 +1,7 @@
 use Rattle.std.proofs.Common.{arith, sym, length}
 use Rattle.std.proofs.lemmas.Bool.{ltb-true}
-use Rattle.hq_certcheck.proofs.Saying.{says_here, says_of, none_some}
+use Rattle.hq_ordercheck.proofs.Options.{none_some}
+use Rattle.hq_certcheck.proofs.Saying.{says_here, says_of}
 use Rattle.hq_certcheck.proofs.citing.follower.Goals as goal
 use Rattle.hq_certcheck.proofs.citing.follower.Goals.{else-k-limit-via-then-k-limit+else-line-p, else-k-limit-via-else-k-limit}
 

@@ -1,6 +1,6 @@
 use Rattle.std.proofs.Common.{sym, ◌∙◌, ap, Some}
 use Rattle.std.proofs.lemmas.Bool.{eq-eqb, eqb-true}
-use Rattle.hq_certcheck.proofs.Saying.{none_some, some_same}
+use Rattle.hq_ordercheck.proofs.Options.{none_some, some_same}
 use Rattle.hq_certcheck.proofs.citing.says.Goals as goal
 
 pub returns-in-Some : goal.returns-in-Some

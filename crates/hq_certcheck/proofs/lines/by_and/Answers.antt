@@ -1,7 +1,7 @@
 use Rattle.std.proofs.Common.{subst, sym, ◌∙◌}
 use Rattle.hq_job.specs.Plan.{plan}
 use Rattle.hq_model.specs.Job.{Decrements}
-use Rattle.hq_certcheck.proofs.Saying.{some_same}
+use Rattle.hq_ordercheck.proofs.Options.{some_same}
 use Rattle.hq_certcheck.proofs.lines.by_and.Goals as goal
 
 pub is_and-requires : goal.is_and-requires

@@ -1,5 +1,5 @@
 use Rattle.std.proofs.Common.{sym, ◌∙◌}
-use Rattle.hq_certcheck.proofs.Saying.{none_some}
+use Rattle.hq_ordercheck.proofs.Options.{none_some}
 use Rattle.hq_certcheck.proofs.lines.through.Goals as goal
 
 pub returns-in-None : goal.returns-in-None

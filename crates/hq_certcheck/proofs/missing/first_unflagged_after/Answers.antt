@@ -1,6 +1,6 @@
 use Rattle.std.proofs.Common.{◌+◌, length, arith}
 use Rattle.hq_job.specs.Plan.{plan}
-use Rattle.hq_certcheck.proofs.Tables.{packets_count}
+use Rattle.hq_ordercheck.proofs.Packets.{packets_count}
 use Rattle.hq_certcheck.proofs.Flags.{passed_over, flagged_one_more}
 use Rattle.hq_certcheck.proofs.missing.first_unflagged_after.Goals as goal
 

@@ -1,7 +1,7 @@
 use Rattle.std.proofs.Common.{ℕ, ◌<◌, length, sym, refl, subst, MatchOption}
 use Rattle.hq_job.specs.Plan.{plan}
 use Rattle.hq_certcheck.specs.Covering.{AreListed, AllFlagged, FirstUnflagged, NoneMissing, FirstMissing}
-use Rattle.hq_certcheck.proofs.Tables.{packets_count}
+use Rattle.hq_ordercheck.proofs.Packets.{packets_count}
 use Rattle.hq_certcheck.proofs.Flags.{match_change, none_missing, first_missing}
 use Rattle.hq_certcheck.proofs.missing.missing_by.Goals as goal
 

@@ -2,7 +2,8 @@ use Rattle.std.proofs.Common.{sym, ◌∙◌, subst, map}
 use Rattle.hq_cert.specs.View.{line_of, pair_of}
 use Rattle.hq_job.specs.Plan.{plan}
 use Rattle.hq_certcheck.specs.Listed.{PairFollows}
-use Rattle.hq_certcheck.proofs.Saying.{some_same, meant_at}
+use Rattle.hq_ordercheck.proofs.Options.{some_same}
+use Rattle.hq_certcheck.proofs.Saying.{meant_at}
 use Rattle.hq_certcheck.proofs.pairs.pair_line_holds.Goals as goal
 
 pub returns : goal.returns

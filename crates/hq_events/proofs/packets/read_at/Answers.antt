@@ -2,8 +2,8 @@ use Rattle.std.proofs.Common.{◌<◌, All, length, ap, sym, subst, arith}
 use Rattle.std.proofs.lemmas.List.{length-map}
 use Rattle.std.proofs.lemmas.List.Concat.{length-flat_map}
 use Rattle.hq_job.specs.Plan.{plan, planned}
-use Rattle.hq_job.specs.Tables.{total_of}
-use Rattle.hq_job.specs.Value.{Bytes}
+use Rattle.hq_tables.specs.Tables.{total_of}
+use Rattle.hq_tables.specs.Blocks.{Bytes}
 use Rattle.hq_model.specs.Job.{Packet, packet}
 use Rattle.hq_events.proofs.Jobs.{reads_within, entry_match}
 use Rattle.hq_events.proofs.packets.read_at.Goals as goal

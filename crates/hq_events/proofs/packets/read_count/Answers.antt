@@ -1,7 +1,7 @@
 use Rattle.std.proofs.Common.{◌<◌, All, sym, subst, arith}
 use Rattle.std.proofs.lemmas.List.{length-map}
 use Rattle.hq_job.specs.Plan.{planned}
-use Rattle.hq_job.specs.Tables.{total_of}
+use Rattle.hq_tables.specs.Tables.{total_of}
 use Rattle.hq_model.specs.Job.{Packet}
 use Rattle.hq_events.proofs.Jobs.{ranges_few, reads_within}
 use Rattle.hq_events.proofs.packets.read_count.Goals as goal

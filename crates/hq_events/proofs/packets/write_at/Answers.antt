@@ -2,7 +2,7 @@ use Rattle.std.proofs.Common.{◌≡◌, ◌+◌, ◌<◌, length, slice_index, 
 use Rattle.std.proofs.lemmas.List.Concat.{length-flat_map}
 use Rattle.hq_footprint.proofs.RangeBytes.{bytes_placed, bytes_counted}
 use Rattle.hq_job.specs.Plan.{plan}
-use Rattle.hq_job.specs.Value.{Bytes}
+use Rattle.hq_tables.specs.Blocks.{Bytes}
 use Rattle.hq_model.specs.Job.{Packet, packet}
 use Rattle.hq_events.proofs.packets.write_at.Goals as goal
 

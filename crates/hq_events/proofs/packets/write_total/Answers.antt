@@ -1,7 +1,7 @@
 use Rattle.std.proofs.Common.{◌<◌, All, length, sym, subst, arith}
 use Rattle.std.proofs.lemmas.List.Concat.{length-flat_map}
 use Rattle.hq_job.specs.Plan.{plan}
-use Rattle.hq_job.specs.Value.{Bytes}
+use Rattle.hq_tables.specs.Blocks.{Bytes}
 use Rattle.hq_model.specs.Job.{Packet}
 use Rattle.hq_events.proofs.Jobs.{write_few}
 use Rattle.hq_events.proofs.packets.write_total.Goals as goal

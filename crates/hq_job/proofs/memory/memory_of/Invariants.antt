@@ -1,6 +1,6 @@
 use Rattle.std.proofs.Common.{◌≡◌, take}
 use Rattle.std.specs.List.{flat_map}
-use Rattle.hq_job.specs.Blocks.{blocks_of}
+use Rattle.hq_tables.specs.Blocks.{blocks_of}
 use Rattle.hq_job.proofs.memory.memory_of.Given as goal
 
 abbrev pub invariant-loop-buffer : goal.invariant-loop-buffer

@@ -1,6 +1,6 @@
 use Rattle.std.proofs.Common.{refl, arith}
 use Rattle.hq_signals.proofs.Places.{agree_further}
-use Rattle.hq_job.specs.Blocks.{blocks_of}
+use Rattle.hq_tables.specs.Blocks.{blocks_of}
 use Rattle.hq_job.proofs.BlockRows.{places_tested, apart_there, blocks_to_the_end}
 use Rattle.hq_job.proofs.same.same_blocks.Goals as goal
 

@@ -1,7 +1,7 @@
 use Rattle.std.proofs.Common.{◌≡◌, ◌∙◌, ap}
-use Rattle.hq_job.specs.LineFaults.{reason_of}
+use Rattle.hq_tables.specs.LineFaults.{reason_of}
 use Rattle.hq_jobtext.specs.JobText.{misplaced}
-use Rattle.hq_job.specs.TablesView.{tables_of}
+use Rattle.hq_tables.specs.TablesView.{tables_of}
 use Rattle.hq_jobtext.proofs.Leads.{behind_refused}
 use Rattle.hq_jobtext.proofs.Lines.{outside_or}
 use Rattle.hq_jobtext.proofs.draft.take_at.Goals as goal

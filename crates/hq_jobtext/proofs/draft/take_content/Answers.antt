@@ -1,4 +1,4 @@
-use Rattle.hq_job.specs.TablesView.{tables_of}
+use Rattle.hq_tables.specs.TablesView.{tables_of}
 use Rattle.hq_jobtext.proofs.Leads.{content_steps, content_refused}
 use Rattle.hq_jobtext.proofs.Lines.{admits_fit}
 use Rattle.hq_jobtext.proofs.draft.take_content.Goals as goal

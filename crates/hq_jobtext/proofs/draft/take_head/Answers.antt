@@ -1,5 +1,5 @@
 use Rattle.std.proofs.lemmas.Result.{err_from_is_err_and}
-use Rattle.hq_job.specs.TablesView.{tables_of}
+use Rattle.hq_tables.specs.TablesView.{tables_of}
 use Rattle.hq_jobtext.proofs.Leads.{headless_at}
 use Rattle.hq_jobtext.proofs.draft.take_head.Goals as goal
 

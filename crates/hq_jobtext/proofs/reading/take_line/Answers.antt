@@ -1,7 +1,7 @@
 use Rattle.std.proofs.Common.{refl}
 use Rattle.std.proofs.lemmas.Result.{err_from_is_err_and}
 use Rattle.hq_lines.specs.Meaning.{view}
-use Rattle.hq_job.specs.TablesView.{tables_of}
+use Rattle.hq_tables.specs.TablesView.{tables_of}
 use Rattle.hq_jobtext.proofs.Lines.{refused_itself, refused_here}
 use Rattle.hq_jobtext.proofs.reading.take_line.Goals as goal
 

@@ -1,5 +1,5 @@
 use Rattle.std.proofs.Common.{length, ap, arith}
-use Rattle.hq_job.specs.Value.{Bytes}
+use Rattle.hq_tables.specs.Blocks.{Bytes}
 use Rattle.std.proofs.lemmas.List.Concat.{length-flat_map}
 use Rattle.hq_machine.proofs.state.first_copies.Goals as goal
 

@@ -1,6 +1,7 @@
 use Rattle.std.proofs.Common.{◌≡◌, ◌↔◌, ◌/◌, ◌<◌, inl, inr, length, sym, ◌∙◌, ap, subst, arith, IsTrue, Some, None}
 use Rattle.std.proofs.lemmas.Option.{get_or_from_slice_get}
-use Rattle.hq_job.specs.Plan.{plan, kind_of}
+use Rattle.hq_job.specs.Plan.{plan}
+use Rattle.hq_tables.specs.Kinds.{kind_of}
 use Rattle.hq_bits.specs.Bits.{has}
 use Rattle.hq_waits.specs.Waits.{Completing}
 use Rattle.hq_order.specs.Rounds.{Awaits}

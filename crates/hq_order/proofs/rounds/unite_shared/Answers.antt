@@ -1,6 +1,7 @@
 use Rattle.std.proofs.Common.{◌↔◌, ◌/◌, ◌<◌, length, sym, ◌∙◌, ap, subst, IsTrue, arith, Some, None}
 use Rattle.std.proofs.lemmas.Option.{get_or_from_slice_get}
-use Rattle.hq_job.specs.Plan.{plan, kind_of}
+use Rattle.hq_job.specs.Plan.{plan}
+use Rattle.hq_tables.specs.Kinds.{kind_of}
 use Rattle.hq_bits.specs.Bits.{has}
 use Rattle.hq_rows.specs.Matrix.{Marks, Square}
 use Rattle.hq_order.specs.Rounds.{ByOr}

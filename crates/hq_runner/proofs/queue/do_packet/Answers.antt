@@ -1,6 +1,7 @@
 use Rattle.std.proofs.Common.{rules, arith, ◌≡◌, ◌<◌, length}
 use Rattle.std.proofs.lemmas.List.{length-map}
-use Rattle.hq_job.specs.Plan.{kind_of, plan, planned}
+use Rattle.hq_job.specs.Plan.{plan, planned}
+use Rattle.hq_tables.specs.Kinds.{kind_of}
 use Rattle.hq_model.specs.Job.{IsPacket}
 use Rattle.hq_model.specs.Job.Kind.{Work, BarrierOr}
 use Rattle.hq_runner.proofs.Packets.{map_same, ran_more, did_work, did_or}

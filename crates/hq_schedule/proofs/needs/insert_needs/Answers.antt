@@ -1,5 +1,6 @@
 use Rattle.std.proofs.Common.{ap, sym, ◌∙◌}
-use Rattle.hq_job.specs.Plan.{plan, kind_of}
+use Rattle.hq_job.specs.Plan.{plan}
+use Rattle.hq_tables.specs.Kinds.{kind_of}
 use Rattle.hq_schedule.proofs.Behind.{and_packet, needs_without, needs_with}
 use Rattle.hq_schedule.proofs.needs.insert_needs.Goals as goal
 

@@ -1,7 +1,7 @@
 use Rattle.std.proofs.Common.{◌≡◌, inl, inr, refl, sym, ◌∙◌, ap, arith}
 use Rattle.std.proofs.lemmas.Bool.{cases_lt}
 use Rattle.hq_fence.specs.Judgement.{begin_of}
-use Rattle.hq_fence.specs.Spans.{number_at}
+use Rattle.hq_fence.specs.Circuits.{number_at}
 use Rattle.hq_fence.proofs.Wrapping.{none_in_queue}
 use Rattle.hq_fence.proofs.Linking.{begins_there, any_release, ends_from_first}
 use Rattle.hq_fence.proofs.search.Search.release.Goals as goal
@@ -19,7 +19,7 @@ returns c = λ fences end a.
     let self = c.args.self.now in
     let there = begins_there self.before.now self.p self.r fences (any_release self.before.now self.p self.r self.form fences a.release) in
     none_in_queue self.before.now self.p self.queue_of_p self.queue_of_p (λ x. begin_of fences ≡ x) c.loop-turn.turn
-    c.requires.queue_of_p c.requires.queue_of_p.is_span refl refl (omega arith)
+    c.requires.queue_of_p c.requires.queue_of_p.is_circuit refl refl (omega arith)
     (λ k l b. c.loop-turn.invariant k l fences end b a) (begin_of fences) there.0 there.1 refl
 
 pub returns-in_default-ending : goal.returns-in_default-ending

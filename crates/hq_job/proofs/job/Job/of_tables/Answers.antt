@@ -1,9 +1,9 @@
 use Rattle.std.proofs.Common.{rules, ◌≡◌, ◌∙◌, ap, length, map}
 use Rattle.hq_model.specs.Journal.{numbers}
 use Rattle.hq_job.specs.Numbering.{by_number, submissions_of}
-use Rattle.hq_job.specs.declared.rows.Placed.{Placed}
-use Rattle.hq_job.specs.TablesView.{tables_of}
-use Rattle.hq_job.proofs.Kept.{fits_read}
+use Rattle.hq_tables.specs.declared.rows.Placed.{Placed}
+use Rattle.hq_tables.specs.TablesView.{tables_of}
+use Rattle.hq_job.proofs.ReadPlan.{fits_read}
 use Rattle.hq_job.proofs.job.Job.of_tables.Goals as goal
 
 pub invariant_of-result : goal.invariant_of-result

@@ -1,11 +1,11 @@
 use Rattle.std.proofs.Common.{refl, sym, ◌∙◌, ap, subst, List}
 use Rattle.std.specs.Vec.{with_items}
-use Rattle.hq_job.specs.declared.rows.Placed.{Placed}
+use Rattle.hq_tables.specs.declared.rows.Placed.{Placed}
 use Rattle.hq_job.specs.Heads.{job_with_each, SameButHeads}
 use Rattle.hq_job.specs.Plan.{plan}
 use Rattle.hq_job.specs.Value.{JobValue}
 use Rattle.hq_job.specs.View.{value_of}
-use Rattle.hq_job.proofs.Heads.{SamePackets, with_packets, fit_kept, written_back, same_each, plan_each, each_with, length_each}
+use Rattle.hq_job.proofs.GivenHeads.{SamePackets, with_packets, fit_kept, written_back, same_each, plan_each, each_with, length_each}
 use Rattle.hq_job.proofs.job.Job.set_each_head.Goals as goal
 
 abbrev given : goal.After-self-1 → List Placed → List Placed

@@ -1,5 +1,5 @@
 use Rattle.std.proofs.Common.{refl}
-use Rattle.hq_job.specs.TablesView.{tables_of}
+use Rattle.hq_tables.specs.TablesView.{tables_of}
 use Rattle.hq_jobtext.proofs.Leads.{finished, no_end}
 use Rattle.hq_jobtext.proofs.draft.Draft.finish.Goals as goal
 

@@ -1,8 +1,8 @@
 use Rattle.std.proofs.Common.{length}
 use Rattle.hq_text.specs.Lines.{lines_of}
 use Rattle.hq_jobtext.specs.DraftView.{so_far}
-use Rattle.hq_job.specs.Fits.{TablesFit}
-use Rattle.hq_job.specs.TablesView.{tables_of}
+use Rattle.hq_tables.specs.Fits.{TablesFit}
+use Rattle.hq_tables.specs.TablesView.{tables_of}
 use Rattle.hq_jobtext.proofs.Leads.{Partly}
 use Rattle.hq_jobtext.proofs.draft.Draft.take_lines.Given as goal
 

@@ -1,5 +1,6 @@
 use Rattle.std.proofs.Common.{◌≡◌, sym, ◌∙◌, ap}
-use Rattle.hq_job.specs.Plan.{plan, kind_of}
+use Rattle.hq_job.specs.Plan.{plan}
+use Rattle.hq_tables.specs.Kinds.{kind_of}
 use Rattle.hq_model.specs.Job.{Packet, Kind, packet}
 use Rattle.hq_machine.proofs.Moves.{and_over}
 use Rattle.hq_machine.specs.View.{state_of}

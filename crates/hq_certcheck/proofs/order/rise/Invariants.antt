@@ -1,6 +1,0 @@
-use Rattle.std.proofs.Common.{◌≤◌}
-use Rattle.hq_certcheck.specs.Placed.{RisesOn}
-use Rattle.hq_certcheck.proofs.order.rise.Given as goal
-
-abbrev pub invariant-loop-r : goal.invariant-loop-r
-invariant-loop-r l = RisesOn l.places l.start l.r × (l.start ≤ l.r)

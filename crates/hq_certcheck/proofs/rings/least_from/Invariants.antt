@@ -1,5 +1,0 @@
-use Rattle.hq_certcheck.proofs.Orders.{IsLeast}
-use Rattle.hq_certcheck.proofs.rings.least_from.Given as goal
-
-abbrev pub invariant-loop-r : goal.invariant-loop-r
-invariant-loop-r l = IsLeast l.turns l.places l.m l.r l.least

@@ -1,7 +1,0 @@
-use Rattle.std.proofs.Common.{ℕ, ◌<◌}
-use Rattle.hq_job.specs.Plan.{plan}
-use Rattle.hq_certcheck.specs.Placed.{HasWaited}
-use Rattle.hq_certcheck.proofs.waits.all_have_waited.Given as goal
-
-abbrev pub invariant-loop-r : goal.invariant-loop-r
-invariant-loop-r l = (r : ℕ) → r < l.r → HasWaited (plan l.job) l.places r

@@ -1,8 +1,0 @@
-use Rattle.std.proofs.Common.{arith, refl, ◌%◌, ◌+◌, get_or}
-use Rattle.hq_certread.proofs.OnePass.{first_digit}
-use Rattle.hq_certread.proofs.one_pass.digits.Goals as goal
-
-pub digits_on-requires-clause-so_far : goal.digits_on-requires-clause-so_far
-digits_on-requires-clause-so_far c =
-    let digit = (get_or c.args.text.now 0 0 + 208) % 256 in
-    first_digit c.args.text.now digit (get_or c.args.text.now 0 0) c.requires refl (omega arith) (omega arith) (omega arith)

@@ -1,7 +1,0 @@
-use Rattle.std.proofs.Common.{◌≡◌, take}
-use Rattle.std.specs.Prelude.{map}
-use Rattle.hq_job.specs.PacketTests.{awaited}
-use Rattle.hq_job.proofs.packets.note_dependencies.Given as goal
-
-abbrev pub invariant-loop-dep : goal.invariant-loop-dep
-invariant-loop-dep l = l.signals ≡ map (awaited (take l.dep-index l.deps)) l.fn.signals

@@ -1,0 +1,7 @@
+pub mod Options
+pub mod Packets
+pub mod Orders
+pub mod Places
+pub mod Lasts
+pub mod Counts
+pub mod Slots

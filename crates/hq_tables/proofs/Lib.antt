@@ -1,0 +1,14 @@
+pub mod Lists
+pub mod Counts
+pub mod Found
+pub mod Tail
+pub mod BytePlaces
+pub mod ByteNumbers
+pub mod SignalNumbers
+pub mod PacketKept
+pub mod Kept
+pub mod Notes
+pub mod Numbers
+pub mod Calls
+pub mod RowLaws
+pub mod Verdicts

@@ -1,0 +1,10 @@
+pub mod Blocks
+pub mod Kinds
+pub mod Ranges
+pub mod LineFaults
+pub mod Tables
+pub mod PacketTests
+pub mod Adds
+pub mod TablesView
+pub mod Fits
+pub mod AtEnd
