@@ -20,7 +20,7 @@ pub fn buffer_ranges(alloc: Global, buffers: &[Block]) -> Result<Vec<Range>, All
     Ok(ranges)
 }
 
-/// The number of the byte at an address, if a buffer has it.
+/// The number of the byte at an address, if a buffer has it. The buffers have no more bytes in all than a job may.
 pub fn byte_number(buffers: &[Block], address: u64) -> Option<u32>
     requires { total_of (blocks_of buffers.now) ≤ BYTES }
     ensures { result ≡ byte_number (blocks_of buffers.now) address }
