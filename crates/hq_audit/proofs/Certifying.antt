@@ -16,7 +16,11 @@ use Rattle.hq_audit.specs.declared.fault.AuditNo.{AuditNo}
 use Rattle.hq_audit.specs.declared.fault.AuditNo.TheVariants as audit
 use Rattle.hq_audit.specs.declared.directed.Unshown.{Unshown}
 use Rattle.hq_derive.specs.Gathered.{AllFollow}
-use Rattle.hq_audit.specs.Paired.{AllHold, HasAll, AllPaired}
+use Rattle.hq_audit.specs.declared.audited.Audited.{Audited}
+use Rattle.hq_audit.specs.declared.draft.Draft.{Draft}
+use Rattle.hq_audit.specs.Audited.{order_in, lines_in, drafts_in, IsAudited}
+use Rattle.hq_audit.specs.Paired.{HasAll, AllPaired, ArePairsOf}
+use Rattle.hq_audit.proofs.Numbering.{all_hold, has_pair}
 use Rattle.hq_audit.specs.Refused.{IsUnshown, AllShown, IsFirstUnshown, IsRefused, AllRefused, no_of_order}
 use Rattle.hq_audit.specs.Lawful.{OrderedIsNotRefused}
 
@@ -25,21 +29,23 @@ use Rattle.hq_audit.specs.Lawful.{OrderedIsNotRefused}
 abbrev pub parts : List ℕ → List model.Line → List model.Pair → Certificate
 parts order lines pairs = record { order = order; lines = lines; pairs = pairs }
 
-has_pairs : (job : Job) (order : List ℕ) (lines : List model.Line) (pairs : List model.Pair) (p r : ℕ) → HasAll job pairs p r → HasPairs job (parts order lines pairs) p r
-has_pairs job order lines pairs p r h = λ kind c. let x = h kind c in record { k = x.k; pair = x.pair; there = x.there; first = x.first; second = x.second; kind_is = x.kind_is }
-
-has_one : (job : Job) (order : List ℕ) (lines : List model.Line) (pairs : List model.Pair) (p r : ℕ) → HasAll job pairs p r ⊎ HasAll job pairs r p
+has_one : (job : Job) (order : List ℕ) (lines : List model.Line) (drafts : List Draft) (pairs : List model.Pair) (p r : ℕ) → ArePairsOf job lines drafts pairs → HasAll job drafts p r ⊎ HasAll job drafts r p
     → HasPairs job (parts order lines pairs) p r ⊎ HasPairs job (parts order lines pairs) r p
-has_one job order lines pairs p r (inl h) = inl (has_pairs job order lines pairs p r h)
-has_one job order lines pairs p r (inr h) = inr (has_pairs job order lines pairs r p h)
+has_one job order lines drafts pairs p r are (inl h) = inl (λ kind c. has_pair job order lines drafts pairs p r kind are (h kind c))
+has_one job order lines drafts pairs p r are (inr h) = inr (λ kind c. has_pair job order lines drafts pairs r p kind are (h kind c))
 
-pub cert_holds : (job : Job) (order : List ℕ) (lines : List model.Line) (pairs : List model.Pair) → OrderList job order → AllFollow job lines → AllHold job lines pairs → AllPaired job pairs → CertHolds job (parts order lines pairs)
-cert_holds job order lines pairs o f h a = record {
+pub cert_holds : (job : Job) (order : List ℕ) (lines : List model.Line) (drafts : List Draft) (pairs : List model.Pair) → OrderList job order → AllFollow job lines → ArePairsOf job lines drafts pairs → AllPaired job drafts
+    → CertHolds job (parts order lines pairs)
+cert_holds job order lines drafts pairs o f are a = record {
   order = o;
   lines = λ k line e. f k line e;
-  conflicts = λ p r kind low is c. has_one job order lines pairs p r (a p r low is);
-  pairs = h;
+  conflicts = λ p r kind low is c. has_one job order lines drafts pairs p r are (a p r low is);
+  pairs = all_hold job lines drafts pairs are;
 }
+
+-- what an audit found is a certificate, with its pair lines
+pub audited_certifies : (job : Job) (a : Audited) (pairs : List model.Pair) → IsAudited job a → ArePairsOf job (lines_in a) (drafts_in a) pairs → CertHolds job (parts (order_in a) (lines_in a) pairs)
+audited_certifies job a pairs is are = cert_holds job (order_in a) (lines_in a) (drafts_in a) pairs is.order is.sound.follow are is.paired
 
 pub cert_same : (job : Job) (c : Certificate) (order : List ℕ) (lines : List model.Line) (pairs : List model.Pair) → c.order ≡ order → c.lines ≡ lines → c.pairs ≡ pairs → CertHolds job (parts order lines pairs) → CertHolds job c
 cert_same job c order lines pairs e f g h =

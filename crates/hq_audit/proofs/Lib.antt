@@ -1,6 +1,6 @@
 pub mod Parting
 pub mod Turning
-pub mod Fencing
+pub mod Resting
 pub mod Pairing
 pub mod Numbering
 pub mod Certifying

@@ -1,126 +1,71 @@
--- Pair lines are given the numbers of the lines that they cite, one by one.
-use Rattle.std.proofs.Common.{◌≡◌, ℕ, ◌+◌, ◌<◌, ◌≤◌, inl, inr, length, refl, sym, ◌∙◌, ap, subst, arith, List, slice_index_or, slice_set, map, take, drop, ◌++◌}
-use Rattle.std.proofs.lemmas.Grind.{common_steps}
-use Rattle.std.specs.Prelude.{All}
-use Rattle.std.proofs.lemmas.Bool.{cases_eq}
-use Rattle.std.proofs.lemmas.List.{length-map, length-set, get_or_default, get_or-map, get_or-set_same, get_or-set_other}
-use Rattle.std.proofs.lemmas.List.Elements.{All-map}
-use Rattle.std.proofs.lemmas.Option.{slice_get_within, same_Some, slice_get-map, slice_get-get_or}
-use Rattle.std.specs.Option.{option_map}
+-- Drafts get the numbers of the lines that they cite, one by one.
+use Rattle.std.proofs.Common.{◌≡◌, ℕ, ◌+◌, ◌<◌, length, refl, sym, ◌∙◌, ap, subst, List, [], ◌∷◌, ◌++◌, Option, Some, None, slice_get, slice_index_or, take, map}
+use Rattle.std.specs.Prelude.{MatchOption}
+use Rattle.std.specs.Option.{IsSomeAnd}
+use Rattle.std.proofs.lemmas.List.{take_more, map-append}
+use Rattle.std.proofs.lemmas.Option.{slice_get-get_or}
+use Rattle.std.proofs.lemmas.Slice.Zip.{AllZip-left, AllZip-right}
+use Rattle.std.specs.Global.{Vec}
 use Rattle.hq_cert.specs.declared.certificate.Pair.{Pair}
-use Rattle.hq_cert.specs.declared.certificate.Fences.{Fences}
-use Rattle.hq_cert.specs.declared.certificate.Fences.TheVariants as fences
-use Rattle.hq_cert.specs.View.{pair_of, fences_of}
+use Rattle.hq_cert.specs.View.{pair_of}
+use Rattle.hq_derive.proofs.Branching.{zip_push}
 use Rattle.hq_model.specs.Job.{Job, IsPacket}
 use Rattle.hq_model.specs.Fence.{Conflict}
 use Rattle.hq_model.specs.Certificate as model
-use Rattle.hq_model.specs.Certificate.{FencesHold, kind_of}
-use Rattle.hq_derive.specs.declared.lines.Lines.{Lines}
-use Rattle.hq_derive.specs.Gathered.{lines_of, AreSound, Goes}
-use Rattle.hq_audit.specs.Drafted.{Drafted, AllDrafted}
-use Rattle.hq_audit.specs.Paired.{Fenced, AllHold, HasPairIn, HasAll, AllPaired, IsSameHead, SameHeads}
-use Rattle.hq_derive.proofs.Adding.{goes_same, goes_more}
-use Rattle.hq_audit.proofs.Fencing.{fences_more}
-use Rattle.hq_audit.proofs.Pairing.{pair_by}
+use Rattle.hq_model.specs.Certificate.{FencesHold, kind_of, HasPair}
+use Rattle.hq_audit.specs.declared.draft.Draft.{Draft}
+use Rattle.hq_audit.specs.Paired.{pairs_of, AllHold, HasDraft, IsPairOf, ArePairsOf}
 
--- a pair line of the code's holds
-abbrev pub Holds : Job → List model.Line → Pair → Type 0
-Holds job lines pair = IsPacket job pair.p × IsPacket job pair.r × FencesHold job lines pair.p pair.r (fences_of pair.fences)
+some_and : {X : Type 0} (o : Option X) (P : X → Type 0) → IsSomeAnd o P → (x : X) × (o ≡ Some x) × P x
+some_and None P h = absurd h
+some_and (Some x) P h = (x, refl, h)
 
--- the pair lines up to i have their numbers, the others are as they were
-pub record CitedUpto (job : Job) (old new : Lines) (first now : List Pair) (i : ℕ) : Type 0 where
-  pub goes : Goes job old new
-  pub heads : SameHeads first now
-  pub hold : (k : ℕ) (d : Pair) → k < i → k < length now → Holds job (lines_of new) (slice_index_or now k d)
-  pub rest : (k : ℕ) (d : Pair) → i ≤ k → slice_index_or now k d ≡ slice_index_or first k d
+-- the pair line of a draft, and the draft of a pair line
+pub pair_at : (job : Job) (lines : List model.Line) (drafts : List Draft) (pairs : List model.Pair) (k : ℕ) (draft : Draft) → ArePairsOf job lines drafts pairs → slice_get drafts k ≡ Some draft
+    → (pair : model.Pair) × (slice_get pairs k ≡ Some pair) × IsPairOf job lines draft pair
+pair_at job lines drafts pairs k draft h e =
+    some_and (slice_get pairs k) (IsPairOf job lines draft)
+    (subst (λ o. MatchOption o (Unit {0}) (λ x. IsSomeAnd (slice_get pairs k) (IsPairOf job lines x))) e (AllZip-left (IsPairOf job lines) drafts pairs h k))
 
-heads_same : (pairs : List Pair) → SameHeads pairs pairs
-heads_same pairs = record { len = refl; each = λ k d. record { first = refl; second = refl; kind_is = refl } }
+draft_at : (job : Job) (lines : List model.Line) (drafts : List Draft) (pairs : List model.Pair) (k : ℕ) (pair : model.Pair) → ArePairsOf job lines drafts pairs → slice_get pairs k ≡ Some pair
+    → (draft : Draft) × (slice_get drafts k ≡ Some draft) × IsPairOf job lines draft pair
+draft_at job lines drafts pairs k pair h e =
+    some_and (slice_get drafts k) (λ x. IsPairOf job lines x pair)
+    (subst (λ o. MatchOption o (Unit {0}) (λ y. IsSomeAnd (slice_get drafts k) (λ x. IsPairOf job lines x y))) e (AllZip-right (IsPairOf job lines) drafts pairs h k))
 
-pub cited_start : (job : Job) (l : Lines) (pairs : List Pair) → AreSound job l → CitedUpto job l l pairs pairs 0
-cited_start job l pairs kept = record {
-  goes = goes_same job l kept;
-  heads = heads_same pairs;
-  hold = λ k d low. absurd (omega (arith, low));
-  rest = λ k d low. refl;
-}
+hold_of : (job : Job) (lines : List model.Line) (draft : Draft) (pair : model.Pair) → IsPairOf job lines draft pair → IsPacket job pair.p × IsPacket job pair.r × FencesHold job lines pair.p pair.r pair.fences
+hold_of job lines draft pair i = (
+  subst (IsPacket job) (sym i.first) i.p_is,
+  subst (IsPacket job) (sym i.second) i.r_is,
+  subst (λ p. FencesHold job lines p pair.r pair.fences) (sym i.first) (subst (λ r. FencesHold job lines draft.p r pair.fences) (sym i.second) i.holds.hold),
+)
 
--- what is drafted, of the code's pair lines
-drafted_code : (job : Job) (pairs : List Pair) → AllDrafted job (map pair_of pairs) → All (λ pair. IsPacket job pair.p × IsPacket job pair.r × Drafted job pair.p pair.r (fences_of pair.fences)) pairs
-drafted_code job pairs all = λ k d low.
-    let P : model.Pair → Type 0 = λ pair. IsPacket job pair.p × IsPacket job pair.r × Drafted job pair.p pair.r pair.fences in
-    subst P (get_or-map pair_of pairs k d (pair_of d) low) (all k (pair_of d) (omega (arith, low, length-map pairs pair_of)))
+pub all_hold : (job : Job) (lines : List model.Line) (drafts : List Draft) (pairs : List model.Pair) → ArePairsOf job lines drafts pairs → AllHold job lines pairs
+all_hold job lines drafts pairs h = λ k d low.
+    let pair = slice_index_or pairs k d in
+    let f = draft_at job lines drafts pairs k pair h (slice_get-get_or pairs k d low) in
+    hold_of job lines f.0 pair f.2
 
-pub drafted_at : (job : Job) (first now : List Pair) (old new : Lines) (i : ℕ) (x : Pair) → AllDrafted job (map pair_of first) → CitedUpto job old new first now i → i < length now → x ≡ slice_index_or now i x
-    → IsPacket job x.p × IsPacket job x.r × Drafted job x.p x.r (fences_of x.fences)
-drafted_at job first now old new i x all c low is =
-    let P : Pair → Type 0 = λ pair. IsPacket job pair.p × IsPacket job pair.r × Drafted job pair.p pair.r (fences_of pair.fences) in
-    subst P (sym (is ∙ c.rest i x (omega arith))) (drafted_code job first all i x (omega (arith, c.heads.len, low)))
-
-place : (now : List Pair) (i k : ℕ) (y d : Pair) → i < length now → k ≡ i → slice_index_or (slice_set now i y) k d ≡ y
-place now i k y d low e = ap (λ n. slice_index_or (slice_set now i y) n d) e ∙ get_or-set_same now i y d low
-
-heads_next : (first now : List Pair) (i : ℕ) (x y : Pair) → SameHeads first now → i < length now → x ≡ slice_index_or now i x → IsSameHead x y → SameHeads first (slice_set now i y)
-heads_next first now i x y h low is same = record {
-  len = length-set now i y ∙ h.len;
-  each = λ k d. elim (cases_eq k i) [
-    | inl e ↦
-        let at : slice_index_or now k d ≡ x = ap (λ n. slice_index_or now n d) e ∙ get_or_default now i d x low ∙ sym is in
-        let was : IsSameHead (slice_index_or first k d) x = subst (IsSameHead (slice_index_or first k d)) at (h.each k d) in
-        subst (IsSameHead (slice_index_or first k d)) (sym (place now i k y d low e))
-        (record { first = same.first ∙ was.first; second = same.second ∙ was.second; kind_is = same.kind_is ∙ was.kind_is })
-    | inr apart ↦ subst (IsSameHead (slice_index_or first k d)) (sym (get_or-set_other now i k y d apart)) (h.each k d)
-  ];
-}
-
-pub cited_next : (job : Job) (old mid new : Lines) (first now : List Pair) (i : ℕ) (x : Pair) (cited : Fences) → AllDrafted job (map pair_of first) → CitedUpto job old mid first now i
-    → i < length now → x ≡ slice_index_or now i x → Fenced job mid new (kind_of (fences_of x.fences)) x.p x.r cited → CitedUpto job old new first (slice_set now i (pair_by x.p x.r cited)) (i + 1)
-cited_next job old mid new first now i x cited all c low is f =
-    let y = pair_by x.p x.r cited in
-    let at = drafted_at job first now old mid i x all c low is in
+pub has_pair : (job : Job) (order : List ℕ) (lines : List model.Line) (drafts : List Draft) (pairs : List model.Pair) (p r : ℕ) (kind : Conflict) → ArePairsOf job lines drafts pairs
+    → HasDraft drafts p r kind → HasPair (record { order = order; lines = lines; pairs = pairs }) p r kind
+has_pair job order lines drafts pairs p r kind h d =
+    let f = pair_at job lines drafts pairs d.k d.draft h d.there in
     record {
-      goes = goes_more job old mid new c.goes f.goes;
-      heads = heads_next first now i x y c.heads low is (record { first = refl; second = refl; kind_is = f.kind_is });
-      hold = λ k d upto within. elim (cases_eq k i) [
-        | inl e ↦ subst (Holds job (lines_of new)) (sym (place now i k y d low e)) (at.0, at.1, f.hold)
-        | inr apart ↦
-            let pair = slice_index_or now k d in
-            let h = c.hold k d (omega (arith, upto, apart)) (omega (arith, within, length-set now i y)) in
-            subst (Holds job (lines_of new)) (sym (get_or-set_other now i k y d apart)) (h.0, h.1, fences_more job (lines_of mid) (lines_of new) pair.p pair.r (fences_of pair.fences) f.goes.grown h.2)
-      ];
-      rest = λ k d above. get_or-set_other now i k y d (λ e. omega (arith, e, above)) ∙ c.rest k d (omega (arith, above));
+      k = d.k;
+      pair = f.0;
+      there = f.1;
+      first = f.2.first ∙ d.first;
+      second = f.2.second ∙ d.second;
+      kind_is = f.2.holds.kind_is ∙ d.kind_is;
     }
 
-pub cited_hold : (job : Job) (old new : Lines) (first now : List Pair) (i : ℕ) → CitedUpto job old new first now i → length now ≤ i → AllHold job (lines_of new) (map pair_of now)
-cited_hold job old new first now i c over = All-map (λ pair. IsPacket job pair.p × IsPacket job pair.r × FencesHold job (lines_of new) pair.p pair.r pair.fences) pair_of now (λ k d low. c.hold k d (omega (arith, over, low)) low)
+-- ---- one more
 
--- ---- the pair lines are still there
+pub pairs_push : (v w : Vec Pair) (x : Pair) → w.items ≡ v.items ++ x ∷ [] → pairs_of w ≡ pairs_of v ++ pair_of x ∷ []
+pairs_push v w x e = ap (map pair_of) e ∙ map-append pair_of v.items (x ∷ [])
 
-has_cited : (first now : List Pair) (p r : ℕ) (kind : Conflict) → SameHeads first now → HasPairIn (map pair_of first) p r kind → HasPairIn (map pair_of now) p r kind
-has_cited first now p r kind s h =
-    let d : Pair = pair_by 0 0 (fences.ReadWrite 0) in
-    let low : h.k < length first = omega (arith, slice_get_within (map pair_of first) h.k h.pair h.there, length-map first pair_of) in
-    let x : Pair = slice_index_or first h.k d in
-    let e : pair_of x ≡ h.pair = same_Some (pair_of x) h.pair (sym (slice_get-map pair_of first h.k ∙ ap (option_map pair_of) (slice_get-get_or first h.k d low)) ∙ h.there) in
-    let same = s.each h.k d in
-    record {
-      k = h.k;
-      pair = pair_of (slice_index_or now h.k d);
-      there = slice_get-map pair_of now h.k ∙ ap (option_map pair_of) (slice_get-get_or now h.k d (omega (arith, low, s.len)));
-      first = same.first ∙ ap (λ (m : model.Pair). m.p) e ∙ h.first;
-      second = same.second ∙ ap (λ (m : model.Pair). m.r) e ∙ h.second;
-      kind_is = same.kind_is ∙ ap (λ (m : model.Pair). kind_of m.fences) e ∙ h.kind_is;
-    }
-
-pub all_cited : (job : Job) (first now : List Pair) (p r : ℕ) → SameHeads first now → HasAll job (map pair_of first) p r → HasAll job (map pair_of now) p r
-all_cited job first now p r s h = λ kind c. has_cited first now p r kind s (h kind c)
-
-pub paired_cited : (job : Job) (first now : List Pair) → SameHeads first now → AllPaired job (map pair_of first) → AllPaired job (map pair_of now)
-paired_cited job first now s h = λ p r above is. elim (h p r above is) [
-  | inl a ↦ inl (all_cited job first now p r s a)
-  | inr a ↦ inr (all_cited job first now r p s a)
-]
-
--- what a borrowed list is once it is given back
-pub given_back : {X : Type 0} (len : ℕ) (old new : List X) → length old ≡ len → length new ≡ length old → take len (new ++ drop (length new) old) ≡ new
-given_back len old new e f = grind (arith, common_steps)
+pub cited_more : (job : Job) (lines : List model.Line) (drafts : List Draft) (pairs : List model.Pair) (i : ℕ) (d : Draft) (pair : model.Pair) → i < length drafts → ArePairsOf job lines (take i drafts) pairs
+    → IsPairOf job lines (slice_index_or drafts i d) pair → ArePairsOf job lines (take (i + 1) drafts) (pairs ++ pair ∷ [])
+cited_more job lines drafts pairs i d pair low h is =
+    subst (λ ds. ArePairsOf job lines ds (pairs ++ pair ∷ [])) (sym (take_more drafts i d low))
+    (zip_push (IsPairOf job lines) (take i drafts) pairs (slice_index_or drafts i d) pair h is)

@@ -1,52 +1,92 @@
 -- What is known of pair lines before the lines that they cite have numbers.
-use Rattle.std.specs.Prelude.{◌≡◌, ℕ, List, Option, Some, None, All}
-use Rattle.hq_cert.specs.declared.certificate.Fences.{Fences}
-use Rattle.hq_cert.specs.View.{fences_of}
-use Rattle.hq_packet.specs.declared.packet.Scope.TheVariants as scope
-use Rattle.hq_fence.specs.Judgement.{ReleasesBefore, ReleasesToAcquire}
+use Rattle.std.specs.Prelude.{◌≡◌, ℕ, ◌⊎◌, Bool, true, false, List, Some, All, slice_get}
+use Rattle.hq_fence.specs.Judgement.{ReleasesBefore, ReleasesToAcquire, end_of, first_of}
 use Rattle.hq_fence.specs.declared.shown.Release.{Release}
 use Rattle.hq_fence.specs.declared.shown.Release.TheVariants as release
 use Rattle.hq_fence.specs.declared.shown.Acquire.{Acquire}
 use Rattle.hq_fence.specs.declared.shown.Acquire.TheVariants as acquire
 use Rattle.hq_model.specs.Job.{Job, IsPacket}
 use Rattle.hq_model.specs.Order.{Before}
-use Rattle.hq_model.specs.Fence.{Conflict, need}
-use Rattle.hq_model.specs.Certificate as model
-use Rattle.hq_model.specs.Certificate.{kind_of}
-use Rattle.hq_model.specs.Certificate.Fences.{ForReadWrite, ForWriteWrite, ForWriteRead, ForWriteWriteChained}
-use Rattle.hq_model.specs.Certificate.Fences.{ForWriteReadChained}
-use Rattle.hq_audit.specs.Paired.{Longer}
+use Rattle.hq_model.specs.Fence as model
+use Rattle.hq_model.specs.Fence.{Conflict}
+use Rattle.hq_derive.specs.Needed.{HasRoom, IsNeeded}
+use Rattle.hq_audit.specs.declared.draft.Draft.{Draft}
+use Rattle.hq_audit.specs.declared.draft.Means.{Means}
+use Rattle.hq_audit.specs.declared.draft.Means.TheVariants.{ReadWrite, WriteWrite, WriteRead}
+use Rattle.hq_audit.specs.declared.drafting.Drafts.{Drafts}
 
--- the release by x alone where the link is `=`, else from x to x2
-abbrev pub release_by : ℕ → ℕ → Option ℕ → Release
-release_by x x2 None = release.Alone x
-release_by x x2 (Some link) = release.Chained x x2
+-- the kind of conflict that these are for
+abbrev pub kind_by : Means → Conflict
+kind_by ReadWrite = model.Conflict.ReadWrite
+kind_by (WriteWrite release) = model.Conflict.WriteWrite
+kind_by (WriteRead release acquire) = model.Conflict.WriteRead
 
--- the acquire by y alone where the link is `=`, else from y2 to y
-abbrev pub acquire_by : ℕ → ℕ → Option ℕ → Acquire
-acquire_by y2 y None = acquire.Alone y
-acquire_by y2 y (Some link) = acquire.Chained y2 y
+-- whether a fence goes on from another
+abbrev pub is_chained : Means → Bool
+is_chained ReadWrite = false
+is_chained (WriteWrite (release.Alone x)) = false
+is_chained (WriteWrite (release.Chained x x2)) = true
+is_chained (WriteRead (release.Alone x) (acquire.Alone y)) = false
+is_chained (WriteRead (release.Alone x) (acquire.Chained y2 y)) = true
+is_chained (WriteRead (release.Chained x x2) acquire) = true
 
--- The packets that the fences name order p and r, whatever the numbers of lines are.
-abbrev pub Drafted : Job → ℕ → ℕ → model.Fences → Type 0
-Drafted job p r (ForReadWrite line) = Before job p r
-Drafted job p r (ForWriteWrite x from on) = ReleasesBefore job p r (release.Alone x)
-Drafted job p r (ForWriteRead x y from between to) = ReleasesToAcquire job p r (release.Alone x, acquire.Alone y)
-Drafted job p r (ForWriteWriteChained x x2 from link on) = ReleasesBefore job p r (release.Chained x x2)
-Drafted job p r (ForWriteReadChained x x2 y2 y from link between link2 to) =
-    (need job p r ≡ scope.System) × ReleasesToAcquire job p r (release_by x x2 link, acquire_by y2 y link2)
+-- These order p and r.
+abbrev pub Order : Job → ℕ → ℕ → Means → Type 0
+Order job p r ReadWrite = Before job p r
+Order job p r (WriteWrite release) = ReleasesBefore job p r release
+Order job p r (WriteRead release acquire) = ReleasesToAcquire job p r (release, acquire)
 
--- so do those of each pair line
-abbrev pub AllDrafted : Job → List model.Pair → Type 0
-AllDrafted job pairs = All
-    (λ pair. IsPacket job pair.p × IsPacket job pair.r × Drafted job pair.p pair.r pair.fences) pairs
+-- ---- the lines that are cited
 
--- and the fences are for this kind of conflict
-pub record DraftedAs (job : Job) (kind : Conflict) (p r : ℕ) (fences : Fences) : Type 0 where
-  pub drafted : Drafted job p r (fences_of fences)
-  pub kind_is : kind_of (fences_of fences) ≡ kind
+-- p is x, or it is known that p is before x
+abbrev pub Upto : (ℕ → ℕ → Type 0) → ℕ → ℕ → Type 0
+Upto Known p x = (p ≡ x) ⊎ Known p x
 
--- what one more pair line keeps
-pub record DraftsGo (job : Job) (ps qs : List model.Pair) : Type 0 where
-  pub drafted : AllDrafted job qs
-  pub longer : Longer ps qs
+-- what is to be known of a release of p
+abbrev pub ReleaseRests : (ℕ → ℕ → Type 0) → ℕ → Release → Type 0
+ReleaseRests Known p (release.Alone x) = Upto Known p x
+ReleaseRests Known p (release.Chained x x2) = Upto Known p x × Known x x2
+
+-- and of an acquire for r
+abbrev pub AcquireRests : (ℕ → ℕ → Type 0) → ℕ → Acquire → Type 0
+AcquireRests Known r (acquire.Alone y) = Upto Known y r
+AcquireRests Known r (acquire.Chained y2 y) = Known y2 y × Upto Known y r
+
+-- What is to be known, of which packet is before which, where these order p and r.
+abbrev pub Rests : (ℕ → ℕ → Type 0) → ℕ → ℕ → Means → Type 0
+Rests Known p r ReadWrite = Known p r
+Rests Known p r (WriteWrite release) = ReleaseRests Known p release × Known (end_of release) r
+Rests Known p r (WriteRead release acquire) =
+    ReleaseRests Known p release × Known (end_of release) (first_of acquire) × AcquireRests Known r acquire
+
+-- ---- drafts
+
+-- A draft is right, and rests on lines of which this is known.
+pub record IsDraft (job : Job) (Known : ℕ → ℕ → Type 0) (draft : Draft) : Type 0 where
+  pub p_is : IsPacket job draft.p
+  pub r_is : IsPacket job draft.r
+  pub order : Order job draft.p draft.r draft.means
+  pub rests : Rests Known draft.p draft.r draft.means
+
+-- so is each one
+abbrev pub AllDrafts : Job → (ℕ → ℕ → Type 0) → List Draft → Type 0
+AllDrafts job Known drafts = All (IsDraft job Known) drafts
+
+-- None is chained.
+abbrev pub NoneChained : List Draft → Type 0
+NoneChained drafts = All (λ draft. is_chained draft.means ≡ false) drafts
+
+-- Each draft is right, what it rests on is noted, and so it is where one is chained.
+pub record AreDrafts (job : Job) (drafts : Drafts) : Type 0 where
+  pub room : HasRoom job drafts.needs
+  pub each : AllDrafts job (IsNeeded drafts.needs) drafts.drafts.items
+  pub plain : drafts.chained ≡ false → NoneChained drafts.drafts.items
+
+-- No draft was lost.
+pub record Longer (old new : List Draft) : Type 0 where
+  pub drafts : (k : ℕ) (draft : Draft) → slice_get old k ≡ Some draft → slice_get new k ≡ Some draft
+
+-- what one more draft keeps
+pub record DraftsGo (job : Job) (old new : Drafts) : Type 0 where
+  pub are : AreDrafts job new
+  pub longer : Longer old.drafts.items new.drafts.items

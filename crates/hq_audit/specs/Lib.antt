@@ -1,5 +1,6 @@
 pub mod Paired
 pub mod Drafted
+pub mod Audited
 pub mod Rowed
 pub mod Refused
 pub mod Lawful

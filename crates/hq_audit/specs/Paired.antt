@@ -1,9 +1,9 @@
--- What is known of pair lines as they are gathered.
-use Rattle.std.specs.Prelude.{◌≡◌, ℕ, ◌<◌, ◌⊎◌, List, [], length, map, Some, slice_get, slice_index_or, All}
-use Rattle.hq_cert.specs.declared.certificate.Pair.{Pair}
-use Rattle.hq_cert.specs.declared.certificate.Fences.{Fences}
-use Rattle.hq_cert.specs.View.{cited, fences_of, pair_of}
+-- Which pairs of packets have drafts of pair lines, and pair lines.
+use Rattle.std.specs.Prelude.{◌≡◌, ℕ, ◌<◌, ◌⊎◌, List, length, map, Some, slice_get, All}
 use Rattle.std.specs.Global.{Vec}
+use Rattle.std.specs.List.{AllZip}
+use Rattle.hq_cert.specs.declared.certificate.Pair.{Pair}
+use Rattle.hq_cert.specs.View.{cited, pair_of}
 use Rattle.hq_model.specs.Job.{Job, IsPacket}
 use Rattle.hq_model.specs.Fence.{Conflict, Conflicts}
 use Rattle.hq_model.specs.Certificate as model
@@ -13,8 +13,40 @@ use Rattle.hq_fence.specs.declared.shown.Release.{Release}
 use Rattle.hq_fence.specs.declared.shown.Acquire.{Acquire}
 use Rattle.hq_audit.specs.declared.citing.CitedRelease.{CitedRelease}
 use Rattle.hq_audit.specs.declared.citing.CitedAcquire.{CitedAcquire}
-use Rattle.hq_derive.specs.declared.lines.Lines.{Lines}
-use Rattle.hq_derive.specs.Gathered.{lines_of, Goes}
+use Rattle.hq_model.specs.Certificate.Fences.{ForReadWrite, ForWriteWrite, ForWriteRead, ForWriteWriteChained}
+use Rattle.hq_model.specs.Certificate.Fences.{ForWriteReadChained}
+use Rattle.hq_audit.specs.declared.draft.Draft.{Draft}
+use Rattle.hq_audit.specs.declared.draft.Means.{Means}
+use Rattle.hq_audit.specs.Drafted.{kind_by}
+
+-- ---- drafts
+
+-- one of the drafts is of this kind of conflict of p with r
+pub record HasDraft (drafts : List Draft) (p r : ℕ) (kind : Conflict) : Type 0 where
+  pub k : ℕ
+  pub draft : Draft
+  pub there : slice_get drafts k ≡ Some draft
+  pub first : draft.p ≡ p
+  pub second : draft.r ≡ r
+  pub kind_is : kind_by draft.means ≡ kind
+
+-- so there is one for each kind that there is
+abbrev pub HasAll : Job → List Draft → ℕ → ℕ → Type 0
+HasAll job drafts p r = (kind : Conflict) → Conflicts job kind p r → HasDraft drafts p r kind
+
+-- for the pairs of a with each packet above it, up to b, in one direction
+abbrev pub RowPaired : Job → List Draft → ℕ → ℕ → Type 0
+RowPaired job drafts a b = (s : ℕ) → a < s → s < b → IsPacket job s → HasAll job drafts a s ⊎ HasAll job drafts s a
+
+-- for all pairs whose lesser packet is below a
+abbrev pub RowsPaired : Job → List Draft → ℕ → Type 0
+RowsPaired job drafts a = (q s : ℕ) → q < a → q < s → IsPacket job s → HasAll job drafts q s ⊎ HasAll job drafts s q
+
+-- and for all pairs
+abbrev pub AllPaired : Job → List Draft → Type 0
+AllPaired job drafts = (q s : ℕ) → q < s → IsPacket job s → HasAll job drafts q s ⊎ HasAll job drafts s q
+
+-- ---- pair lines
 
 -- a release of p, with what it cites: that p is x or before it, and that x is x2 or before it
 pub record ReleaseCited (job : Job) (lines : List model.Line) (p r : ℕ) (release : Release)
@@ -30,14 +62,6 @@ pub record AcquireCited (job : Job) (lines : List model.Line) (p r : ℕ) (acqui
   pub holds : AcquireHolds job lines p r c.y2 c.y (cited c.link2)
   pub first : c.y2 ≡ first_of acquire
 
--- the fences order a conflict of this kind of p with r
-pub record Fenced (job : Job) (old new : Lines) (kind : Conflict) (p r : ℕ) (fences : Fences) : Type 0 where
-  pub goes : Goes job old new
-  pub hold : FencesHold job (lines_of new) p r (fences_of fences)
-  pub kind_is : kind_of (fences_of fences) ≡ kind
-
--- ---- pair lines
-
 -- the pair lines, as the model has them
 abbrev pub pairs_of : Vec Pair → List model.Pair
 pairs_of v = map pair_of v.items
@@ -47,37 +71,28 @@ abbrev pub AllHold : Job → List model.Line → List model.Pair → Type 0
 AllHold job lines pairs = All
     (λ pair. IsPacket job pair.p × IsPacket job pair.r × FencesHold job lines pair.p pair.r pair.fences) pairs
 
--- No pair line was lost.
-pub record Longer (old new : List model.Pair) : Type 0 where
-  pub pairs : (k : ℕ) (pair : model.Pair) → slice_get old k ≡ Some pair → slice_get new k ≡ Some pair
+-- These fences, with what they cite, hold for p and r, and are for the kind of conflict that the draft is for.
+pub record HoldFor (job : Job) (lines : List model.Line) (p r : ℕ) (means : Means)
+    (fences : model.Fences) : Type 0 where
+  pub kind_is : kind_of fences ≡ kind_by means
+  pub hold : FencesHold job lines p r fences
 
--- one of the pair lines is of this kind of conflict of p with r
-abbrev pub HasPairIn : List model.Pair → ℕ → ℕ → Conflict → Type 0
-HasPairIn pairs p r kind = model.HasPair (record { order = []; lines = []; pairs = pairs }) p r kind
+-- None of these fences goes on from another.
+abbrev pub IsPlain : model.Fences → Type 0
+IsPlain (ForReadWrite line) = Unit {0}
+IsPlain (ForWriteWrite x from on) = Unit {0}
+IsPlain (ForWriteRead x y from between to) = Unit {0}
+IsPlain (ForWriteWriteChained x x2 from link on) = ⊥
+IsPlain (ForWriteReadChained x x2 y2 y from link between link2 to) = ⊥
 
--- so there is one for each kind that there is
-abbrev pub HasAll : Job → List model.Pair → ℕ → ℕ → Type 0
-HasAll job pairs p r = (kind : Conflict) → Conflicts job kind p r → HasPairIn pairs p r kind
+-- The pair line is of the draft's packets and kind of conflict, and holds.
+pub record IsPairOf (job : Job) (lines : List model.Line) (draft : Draft) (pair : model.Pair) : Type 0 where
+  pub p_is : IsPacket job draft.p
+  pub r_is : IsPacket job draft.r
+  pub first : pair.p ≡ draft.p
+  pub second : pair.r ≡ draft.r
+  pub holds : HoldFor job lines draft.p draft.r draft.means pair.fences
 
--- for the pairs of a with each packet above it, up to b, in one direction
-abbrev pub RowPaired : Job → List model.Pair → ℕ → ℕ → Type 0
-RowPaired job pairs a b = (s : ℕ) → a < s → s < b → IsPacket job s → HasAll job pairs a s ⊎ HasAll job pairs s a
-
--- for all pairs whose lesser packet is below a
-abbrev pub RowsPaired : Job → List model.Pair → ℕ → Type 0
-RowsPaired job pairs a = (q s : ℕ) → q < a → q < s → IsPacket job s → HasAll job pairs q s ⊎ HasAll job pairs s q
-
--- and for all pairs
-abbrev pub AllPaired : Job → List model.Pair → Type 0
-AllPaired job pairs = (q s : ℕ) → q < s → IsPacket job s → HasAll job pairs q s ⊎ HasAll job pairs s q
-
--- the two pair lines are of the same packets and kind of conflict
-pub record IsSameHead (old new : Pair) : Type 0 where
-  pub first : new.p ≡ old.p
-  pub second : new.r ≡ old.r
-  pub kind_is : kind_of (fences_of new.fences) ≡ kind_of (fences_of old.fences)
-
--- the pair lines are of the same packets and kinds of conflicts, one by one
-pub record SameHeads (old new : List Pair) : Type 0 where
-  pub len : length new ≡ length old
-  pub each : (k : ℕ) (d : Pair) → IsSameHead (slice_index_or old k d) (slice_index_or new k d)
+-- so it is one by one
+abbrev pub ArePairsOf : Job → List model.Line → List Draft → List model.Pair → Type 0
+ArePairsOf job lines drafts pairs = AllZip (IsPairOf job lines) drafts pairs

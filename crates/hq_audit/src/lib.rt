@@ -3,23 +3,26 @@
 //! A job is *ordered* where its packets have an order list and each two packets that conflict are ordered by
 //! fences, in one direction. `audit` gives such a job a certificate that says so, line by line, and so can be
 //! checked by itself; of any other job it says which packets can never complete, or which conflict of which packets
-//! isn't ordered, and why. `verdict` says the same without a certificate, and `all_shown` says it of a job whose
-//! order is worked out.
+//! isn't ordered, and why. `find` answers the same with an `Audited` in place of the certificate, which hands out one
+//! pair line behind another and takes less memory. `verdict` says whether there is a certificate, and `all_shown` says
+//! it of a job whose order is worked out.
 #![tactic(auto)]
 
+mod audited;
 mod auditing;
 mod citing;
 mod directed;
+mod draft;
 mod drafting;
 mod fault;
 pub mod laws;
 mod marking;
-mod pairs;
 mod spreading;
 mod verdicts;
 mod wide;
 
-pub use auditing::audit;
+pub use audited::Audited;
+pub use auditing::{audit, find};
 pub use directed::{Directed, Unshown, direct};
 pub use fault::AuditNo;
 pub use verdicts::{all_shown, verdict};

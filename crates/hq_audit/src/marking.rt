@@ -1,32 +1,49 @@
-//! What the pair lines need.
+//! What pair lines need.
 
 ghost use Rattle.std.specs.Prelude.{◌≡◌};
-ghost use Rattle.hq_fence.specs.Judgement.{end_of, first_of};
+ghost use Rattle.hq_model.specs.Job.{IsPacket};
+ghost use Rattle.hq_fence.specs.Judgement.{IsRelease, IsAcquire, end_of, first_of};
+ghost use Rattle.hq_derive.specs.Needed.{HasRoom, IsNeeded, Widens};
+ghost use Rattle.hq_audit.specs.Drafted.{Order, Upto, ReleaseRests, AcquireRests, Rests};
 
+use crate::draft::Means;
 use hq_derive::Needs;
-use hq_fence::{Acquire, Release, Shown};
+use hq_fence::{Acquire, Release};
+use hq_order::Before;
 
 /// A line that p is before x is needed, unless p is x.
 #[inline(always)]
-fn need_upto(needs: &mut Needs, p: usize, x: usize) {
+fn need_upto(needs: &mut Needs, before: &Before, p: usize, x: usize)
+    requires room { HasRoom before.now needs.old }
+    requires p_is { IsPacket before.now p }
+    requires x_is { IsPacket before.now x }
+    ensures needed { Upto (IsNeeded needs.new) p x }
+    ensures widens { Widens before.now needs.old needs.new }
+{
     if p != x {
-        needs.need(p, x);
+        needs.need(before, p, x);
     }
 }
 
 /// What a release needs; answers its last packet.
 #[inline(always)]
-fn need_release(needs: &mut Needs, p: usize, release: Release) -> usize
+fn need_release(needs: &mut Needs, before: &Before, p: usize, r: usize, release: Release) -> usize
+    requires room { HasRoom before.now needs.old }
+    requires p_is { IsPacket before.now p }
+    requires release { IsRelease before.now p r release }
+    ensures needed { ReleaseRests (IsNeeded needs.new) p release }
+    ensures widens { Widens before.now needs.old needs.new }
     ensures last { result ≡ end_of release }
+    ensures last_is { IsPacket before.now result }
 {
     match release {
         Release::Alone(x) => {
-            need_upto(needs, p, x as usize);
+            need_upto(needs, before, p, x as usize);
             x as usize
         }
         Release::Chained(x, x2) => {
-            need_upto(needs, p, x as usize);
-            needs.need(x as usize, x2 as usize);
+            need_upto(needs, before, p, x as usize);
+            needs.need(before, x as usize, x2 as usize);
             x2 as usize
         }
     }
@@ -34,47 +51,48 @@ fn need_release(needs: &mut Needs, p: usize, release: Release) -> usize
 
 /// What an acquire needs; answers its first packet.
 #[inline(always)]
-fn need_acquire(needs: &mut Needs, r: usize, acquire: Acquire) -> usize
+fn need_acquire(needs: &mut Needs, before: &Before, p: usize, r: usize, acquire: Acquire) -> usize
+    requires room { HasRoom before.now needs.old }
+    requires r_is { IsPacket before.now r }
+    requires acquire { IsAcquire before.now p r acquire }
+    ensures needed { AcquireRests (IsNeeded needs.new) r acquire }
+    ensures widens { Widens before.now needs.old needs.new }
     ensures first { result ≡ first_of acquire }
+    ensures first_is { IsPacket before.now result }
 {
     match acquire {
         Acquire::Alone(y) => {
-            need_upto(needs, y as usize, r);
+            need_upto(needs, before, y as usize, r);
             y as usize
         }
         Acquire::Chained(y2, y) => {
-            need_upto(needs, y as usize, r);
-            needs.need(y2 as usize, y as usize);
+            need_upto(needs, before, y as usize, r);
+            needs.need(before, y2 as usize, y as usize);
             y2 as usize
         }
     }
 }
 
-/// What fences need between a write and a read.
+/// What a pair line of p with r needs that these order.
 #[inline(always)]
-fn need_write_read(needs: &mut Needs, p: usize, r: usize, fences: (Release, Acquire)) {
-    let last = need_release(needs, p, fences.0);
-    let first = need_acquire(needs, r, fences.1);
-    needs.need(last, first);
-}
-
-/// What fences need between two writes.
-#[inline(always)]
-fn need_write_write(needs: &mut Needs, p: usize, r: usize, release: Release) {
-    let last = need_release(needs, p, release);
-    needs.need(last, r);
-}
-
-/// What the pair lines of p with r need.
-#[inline(always)]
-pub fn need_shown(needs: &mut Needs, p: usize, r: usize, shown: Shown) {
-    if let Some(fences) = shown.wr {
-        need_write_read(needs, p, r, fences);
-    }
-    if let Some(release) = shown.ww {
-        need_write_write(needs, p, r, release);
-    }
-    if shown.rw {
-        needs.need(p, r);
+pub fn need_means(needs: &mut Needs, before: &Before, p: usize, r: usize, means: Means)
+    requires room { HasRoom before.now needs.old }
+    requires p_is { IsPacket before.now p }
+    requires r_is { IsPacket before.now r }
+    requires order { Order before.now p r means }
+    ensures needed { Rests (IsNeeded needs.new) p r means }
+    ensures widens { Widens before.now needs.old needs.new }
+{
+    match means {
+        Means::ReadWrite => needs.need(before, p, r),
+        Means::WriteWrite(release) => {
+            let last = need_release(needs, before, p, r, release);
+            needs.need(before, last, r);
+        }
+        Means::WriteRead(release, acquire) => {
+            let last = need_release(needs, before, p, r, release);
+            let first = need_acquire(needs, before, p, r, acquire);
+            needs.need(before, last, first);
+        }
     }
 }

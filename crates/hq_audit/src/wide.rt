@@ -6,16 +6,15 @@ ghost use Rattle.hq_model.specs.Certificate.{CertHolds};
 ghost use Rattle.hq_model.specs.Fence.{Ordered};
 ghost use Rattle.hq_model.specs.Order.{OrderList};
 ghost use Rattle.hq_derive.specs.Gathered.{lines_of, AreSound};
-ghost use Rattle.hq_audit.specs.Paired.{pairs_of, AllHold, RowsPaired};
+ghost use Rattle.hq_derive.specs.Needed.{HasRoom};
 ghost use Rattle.hq_parts.specs.Parts.{AreParts};
 ghost use Rattle.hq_audit.specs.Refused.{IsRefused, AllRefused};
-ghost use Rattle.hq_audit.specs.Rowed.{AllMayCite};
+ghost use Rattle.hq_audit.specs.Rowed.{AllMayCite, CitesUpto};
 ghost use Rattle.hq_audit.specs.declared.fault.AuditNo.TheVariants.{Memory};
 
-use crate::auditing::{certified_alone, widened};
-use crate::citing::cite_wide;
+use crate::audited::{audited_alone, widened};
 use crate::fault::AuditNo;
-use crate::spreading::draft_wide;
+use crate::spreading::{cite_wide, draft_wide};
 use hq_cert::{Certificate, Pair};
 use hq_derive::{Lines, Needs, lines_for};
 use hq_job::Job;
@@ -55,8 +54,7 @@ fn join(
 ) -> bool
     requires parts { AllMayCite before.now (lines_of lines.now) parts.old }
     requires empty { all.old.items ≡ [] }
-    ensures hold { IsTrue result → AllHold before.now (lines_of lines.now) (pairs_of all.new) }
-    ensures paired { IsTrue result → RowsPaired before.now (pairs_of all.new) (length parts.old * 64) }
+    ensures { IsTrue result → CitesUpto before.now (lines_of lines.now) (length parts.old * 64) all.new }
 {
     for part in parts.iter_mut() {
         let Some(pairs) = part else {
@@ -77,8 +75,7 @@ fn joined(
     mut parts: Vec<Option<Vec<Pair>>>,
 ) -> Option<Vec<Pair>>
     requires { AllMayCite before.now (lines_of lines.now) parts.items }
-    ensures hold { IfSome result (λ all. AllHold before.now (lines_of lines.now) (pairs_of all)) }
-    ensures paired { IfSome result (λ all. RowsPaired before.now (pairs_of all) (length parts.items * 64)) }
+    ensures { IfSome result (CitesUpto before.now (lines_of lines.now) (length parts.items * 64)) }
 {
     let mut all = Vec::new(alloc);
     if join(alloc, &mut all, before, lines, &mut parts) {
@@ -89,7 +86,8 @@ fn joined(
 }
 
 /// The lines that are needed, if there is memory for them.
-fn lines_if(alloc: Global, before: &Before, needs: Needs) -> Option<Lines>
+fn lines_if(alloc: Global, before: &Before, needs: &Needs) -> Option<Lines>
+    requires { HasRoom before.now needs.now }
     ensures { IfSome result (AreSound before.now) }
 {
     match lines_for(alloc, before, needs) {
@@ -109,7 +107,9 @@ fn widened_if(alloc: Global, numbers: &[u16]) -> Option<Vec<u32>>
 }
 
 /// That no line is needed yet, if there is memory for it.
-fn no_needs(alloc: Global, before: &Before) -> Option<Needs> {
+fn no_needs(alloc: Global, before: &Before) -> Option<Needs>
+    ensures { IfSome result (HasRoom before.now) }
+{
     match Needs::new(alloc, before) {
         Ok(needs) => Some(needs),
         Err(_) => None,
@@ -130,8 +130,8 @@ fn certified_wide<R: Threads + Sync>(
 {
     let mut needs = no_needs(alloc, before)?;
     let drafts = draft_wide(rt, &mut needs, alloc, before, parts)?;
-    let lines = lines_if(alloc, before, needs)?;
-    let cited = cite_wide(rt, &lines, before, drafts)?;
+    let lines = lines_if(alloc, before, &needs)?;
+    let cited = cite_wide(rt, alloc, &lines, before, drafts)?;
     let pairs = joined(alloc, before, &lines, cited)?;
     let order = widened_if(alloc, order)?;
     Some(Certificate::new(order, lines.into_lines(), pairs))
@@ -145,7 +145,8 @@ fn has_processors(rt: &impl Threads) -> bool {
     }
 }
 
-/// What `certified_alone` answers, in many threads where that is worth it. What isn't ordered is told of by one thread.
+/// The certificate of an order list, or the first two packets that aren't ordered, in many threads where that is worth
+/// it. What isn't ordered is told of by one thread.
 fn certified_by_all<R: Threads + Sync>(
     rt: &R,
     alloc: Global,
@@ -163,7 +164,9 @@ fn certified_by_all<R: Threads + Sync>(
             return Ok(certificate);
         }
     }
-    certified_alone(alloc, before, parts, order)
+    let audited = audited_alone(alloc, before, parts, order)?;
+    let certificate = audited.certificate(alloc, before.job())?;
+    Ok(certificate)
 }
 
 /// What `audit` answers, with the pairs judged in many threads.

@@ -1,6 +1,6 @@
 -- Texts put behind one another in a buffer, and written in between.
-use Rattle.std.proofs.Common.{◌≡◌, ℕ, Bool, zero, suc, ◌+◌, ◌<◌, List, [], ◌∷◌, ◌++◌, length, get_or, take, Option, Some, None, refl, sym, ap, subst, ◌∙◌, append_assoc, append-nil, arith, add-one, length-take}
-use Rattle.std.specs.Prelude.{codes, ◌||◌, map}
+use Rattle.std.proofs.Common.{◌≡◌, ℕ, Bool, false, zero, suc, ◌+◌, ◌<◌, List, [], ◌∷◌, ◌++◌, length, get_or, take, Option, Some, None, refl, sym, ap, subst, ◌∙◌, append_assoc, append-nil, arith, add-one, length-take, Result, Ok, Err}
+use Rattle.std.specs.Prelude.{codes, ◌||◌, map, OnOk}
 use Rattle.std.specs.Fmt.{decimal}
 use Rattle.std.specs.List.{list_any}
 use Rattle.std.specs.Io.KnownBytes.{Appends, append_known}
@@ -8,9 +8,9 @@ use Rattle.std.proofs.lemmas.List.{map-append, length-map}
 use Rattle.std.proofs.lemmas.Grind.{flat_map-append}
 use Rattle.hq_model.specs.Certificate as model
 use Rattle.hq_certtext.specs.Gains.{Gains}
-use Rattle.hq_certtext.specs.Grammar.{rule_words, line_words, lines_words, head_words, order_words, pair_words}
+use Rattle.hq_certtext.specs.Grammar.{rule_words, line_words, lines_words, head_words, order_words, pair_words, certificate_words}
 use Rattle.hq_text.specs.Printed.{spaced, line_text, lines_text}
-use Rattle.hq_certtext.specs.Printed.{has_chain, text_of}
+use Rattle.hq_certtext.specs.Printed.{is_chain, has_chain, text_of}
 
 -- ---- with a writer
 
@@ -47,6 +47,26 @@ all_written u v w a b t j h k = by u v w h.gained k where
   by (Some xs) None w h k = absurd h
   by (Some xs) (Some ys) None h k = absurd k
   by (Some xs) (Some ys) (Some zs) h k = k ∙ h ∙ ap (λ r. r ++ t) (append-nil xs)
+
+-- so it is when nothing is left in the buffer
+nothing_left : (u v : Option (List ℕ)) (t : List ℕ) → Appends u (append_known v []) t → Appends u v t
+nothing_left None v t k = tt
+nothing_left (Some xs) None t k = absurd k
+nothing_left (Some xs) (Some ys) t k = sym (append-nil ys) ∙ k
+
+pub all_gone : (u v w : Option (List ℕ)) (a b s t : List ℕ) (i : ℕ) → Appends u (append_known v (take i a)) s → Gains v a i w b 0 t → Appends u w (s ++ t)
+all_gone u v w a b s t i h g = nothing_left u w (s ++ t) (appends_both u (append_known v (take i a)) (append_known w []) s t h g.gained)
+
+pub from_front : {u v : Option (List ℕ)} {a b t : List ℕ} → Gains u a 0 v b 0 t → Appends u v t
+from_front {u} {v} {a} {b} {t} g = nothing_left u v t (by u (append_known v []) g.gained) where
+  by : (u w : Option (List ℕ)) → Appends (append_known u []) w t → Appends u w t
+  by None w k = tt
+  by (Some xs) None k = absurd k
+  by (Some xs) (Some ws) k = k ∙ ap (λ r. r ++ t) (append-nil xs)
+
+pub on_ok : {T E P Q : Type 0} (r : Result T E) → (P → Q) → OnOk r P → OnOk r Q
+on_ok (Ok x) f p = f p
+on_ok (Err e) f p = tt
 
 -- ---- lists of texts
 
@@ -119,6 +139,17 @@ text_parts head order last ls ps =
 pub any_map : {A B : Type 0} (p : B → Bool) (v : A → B) (xs : List A) → list_any (λ x. p (v x)) xs ≡ list_any p (map v xs)
 any_map p v [] = refl
 any_map p v (x ∷ xs) = ap (λ b. p (v x) || b) (any_map p v xs)
+
+-- what is printed one part behind another is the text of a certificate without chained pair lines
+pub plain_text : (order : List ℕ) (ls : List model.Line) (ps : List model.Pair) → list_any (λ pair. is_chain pair.fences) ps ≡ false
+    → (((line_text (head_words false) ++ line_text (order_words order)) ++ lines_text (lines_words 0 ls)) ++ lines_text (map pair_words ps)) ++ codes "end\n" ≡ text_of (record { order = order; lines = ls; pairs = ps })
+plain_text order ls ps plain =
+    let head = line_text (head_words false) in
+    let second = line_text (order_words order) in
+    let lines = lines_text (lines_words 0 ls) in
+    let pairs = lines_text (map pair_words ps) in
+    append_assoc ((head ++ second) ++ lines) pairs (codes "end\n") ∙ append_assoc (head ++ second) lines (pairs ++ codes "end\n") ∙ append_assoc head second (lines ++ (pairs ++ codes "end\n"))
+    ∙ sym (ap (λ b. lines_text (certificate_words b (record { order = order; lines = ls; pairs = ps }))) plain ∙ text_parts (head_words false) (order_words order) (codes "end" ∷ []) (lines_words 0 ls) (map pair_words ps))
 
 -- what was put is the text of the certificate
 pub text_is : {A : Type 0} (p : model.Pair → Bool) (v : A → model.Pair) (c : model.Certificate) (chained : Bool) (order : List ℕ) (ls : List model.Line) (looked ps : List A)

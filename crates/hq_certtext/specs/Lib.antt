@@ -3,3 +3,4 @@ pub mod Printed
 pub mod Rows
 pub mod Gains
 pub mod Parted
+pub mod Printing

@@ -1,14 +1,16 @@
 //! The texts of certificates: their grammar, and how they are printed.
 //!
 //! The grammar says which lines spell which certificate, and which certificates have a text. `print` writes it by
-//! way of a buffer, `print_wide` by parts that many threads get ready.
+//! way of a buffer, `print_wide` by parts that many threads get ready, and a `Printer` line by line.
 #![tactic(auto)]
 
 pub mod laws;
 mod placing;
+mod printer;
 mod printing;
 mod rows;
 mod wide;
 
-pub use printing::{PrintFault, print};
+pub use printer::Printer;
+pub use printing::{PrintFault, WriterFailed, print};
 pub use wide::print_wide;

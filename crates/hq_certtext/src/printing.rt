@@ -44,7 +44,8 @@ pub fn has_chain(pairs: &[Pair]) -> bool
 }
 
 /// The writer failed.
-#[derive(Clone, Copy)]
+#[derive(Clone, Copy, Debug, PartialEq, Eq, Error)]
+#[error("the writer failed")]
 pub struct WriterFailed;
 
 /// Writes what was put. Answers where the next text goes.
@@ -198,6 +199,26 @@ pub fn write_lines<W: Write>(
     Ok(at)
 }
 
+/// A pair line.
+#[inline(always)]
+pub fn write_pair<W: Write>(
+    bytes: &mut [u8],
+    at: usize,
+    rows: &Rows,
+    pair: &Pair,
+    writer: &mut W,
+) -> Result<usize, WriterFailed>
+    requires within { at ≤ length bytes.old }
+    requires long { 256 ≤ length bytes.old }
+    ensures written { IfOk result
+        (λ end. Gains (W.contents writer.old) bytes.old at (W.contents writer.new) bytes.new end
+        (line_text (pair_words (pair_of pair.now)))) }
+    ensures within { IfOk result (λ end. end ≤ length bytes.new) }
+{
+    let at = make_room(bytes, at, writer)?;
+    Ok(put_pair(bytes, at, rows, pair))
+}
+
 /// Pair lines.
 pub fn write_pairs<W: Write>(
     bytes: &mut [u8],
@@ -215,8 +236,7 @@ pub fn write_pairs<W: Write>(
 {
     let mut at = start;
     for pair in pairs {
-        at = make_room(bytes, at, writer)?;
-        at = put_pair(bytes, at, rows, pair);
+        at = write_pair(bytes, at, rows, pair, writer)?;
     }
     Ok(at)
 }
@@ -242,6 +262,19 @@ pub fn write_order<W: Write>(
     Ok(put(bytes, at, b"\n"))
 }
 
+/// The last line; all that was put goes to the writer.
+pub fn write_end<W: Write>(bytes: &mut [u8], at: usize, writer: &mut W) -> Result<(), WriterFailed>
+    requires within { at ≤ length bytes.old }
+    requires long { 256 ≤ length bytes.old }
+    ensures { OnOk result
+        (Gains (W.contents writer.old) bytes.old at (W.contents writer.new) bytes.new 0 (codes "end\n")) }
+{
+    let at = make_room(bytes, at, writer)?;
+    let at = put(bytes, at, b"end\n");
+    spill(bytes, at, writer)?;
+    Ok(())
+}
+
 /// Writes the text of a certificate, by way of a buffer.
 fn write_text<W: Write>(
     bytes: &mut [u8],
@@ -256,12 +289,7 @@ fn write_text<W: Write>(
     let at = write_order(bytes, rows, chained, certificate.order(), writer)?;
     let at = write_lines(bytes, at, rows, 0, certificate.lines(), writer)?;
     let at = write_pairs(bytes, at, rows, certificate.pairs(), writer)?;
-    let at = make_room(bytes, at, writer)?;
-    let at = put(bytes, at, b"end\n");
-    match writer.write_all(&bytes[..at]) {
-        Ok(()) => Ok(()),
-        Err(_) => Err(WriterFailed),
-    }
+    write_end(bytes, at, writer)
 }
 
 /// Why a certificate wasn't printed: there was no memory, and nothing was written; or the writer failed.

@@ -48,7 +48,7 @@ before_second job p r (waits_each any f) = any.some.2.is_packet
 before_second job p r (through {m} b c) = before_second job m r c
 
 mutual
-  first_of : (job : Job) {p r : ℕ} → Before job p r → IsPacket job p
+  pub first_of : (job : Job) {p r : ℕ} → Before job p r → IsPacket job p
   first_of job (bit_behind {p = p} {j = j} by) = earlier_packet job p j by.earlier
   first_of job (queued {p = p} {r = r} by) = earlier_packet job p r by.earlier
   first_of job (waits_one by) = by.decrements.is_packet

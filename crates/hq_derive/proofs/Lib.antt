@@ -2,3 +2,4 @@ pub mod Founded
 pub mod Growing
 pub mod Adding
 pub mod Branching
+pub mod Noting

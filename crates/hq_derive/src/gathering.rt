@@ -3,7 +3,8 @@
 ghost use Rattle.std.specs.Prelude.{All, IfOk, OnOk, ◌+◌, ◌<◌, ◌≤◌};
 ghost use Rattle.hq_model.specs.Job.{IsPacket};
 ghost use Rattle.hq_derive.specs.Derived.{AllDerived, IsDerived};
-ghost use Rattle.hq_derive.specs.Gathered.{AreSound};
+ghost use Rattle.hq_derive.specs.Gathered.{lines_of, AreSound};
+ghost use Rattle.hq_derive.specs.Needed.{HasRoom, AllThere};
 
 use crate::grounds::rule_alone;
 use crate::lines::Lines;
@@ -170,18 +171,25 @@ fn add_rounds(
     Ok(())
 }
 
-/// The lines that are needed, and no others: by round, then by the first packet, then by the second.
+/// The lines that are needed, and those that they rest on, and no others: by round, then by the first packet, then by
+/// the second.
 ///
 /// # Errors
 ///
 /// `AllocError` where there is no memory.
-pub fn lines_for(alloc: Global, before: &Before, needs: Needs) -> Result<Lines, AllocError>
-    ensures { IfOk result (AreSound before.now) }
+pub fn lines_for(alloc: Global, before: &Before, needs: &Needs) -> Result<Lines, AllocError>
+    requires room { HasRoom before.now needs.now }
+    ensures sound { IfOk result (AreSound before.now) }
+    ensures there { IfOk result (λ lines. AllThere needs.now (lines_of lines)) }
 {
-    let mut needs = needs;
-    let rounds = derive_all(alloc, &mut needs, before)?;
-    let mut lines = Lines::new(alloc, before, needs)?;
+    let mut all = needs.copied(alloc)?;
+    let rounds = derive_all(alloc, &mut all, before)?;
+    let mut lines = Lines::new(alloc, before, all)?;
     add_round(&mut lines, alloc, before, 0)?;
     add_rounds(&mut lines, alloc, before, &rounds)?;
-    Ok(lines)
+    if lines.has_all(before, needs) {
+        Ok(lines)
+    } else {
+        Err(AllocError)
+    }
 }

@@ -2,8 +2,8 @@
 //!
 //! `Needs` notes which packets a certificate has to say of that one is before the other. `lines_for` then gives a line
 //! for each of these, and one for each that such lines rest on, behind those that it cites: by what is known of the
-//! order alone, whatever the lines are needed for. `Lines` is the table of them: it answers the number of a line that
-//! is there, and adds one that is wanted later.
+//! order alone, whatever the lines are needed for. `Lines` is the table of them: it answers the number of each line
+//! that is there.
 #![tactic(auto)]
 
 mod gathering;
@@ -12,6 +12,7 @@ mod lines;
 mod needs;
 mod resting;
 mod slots;
+mod there;
 
 pub use gathering::lines_for;
 pub use lines::Lines;

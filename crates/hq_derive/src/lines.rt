@@ -1,9 +1,9 @@
 //! The lines of a certificate, gathered.
 
 ghost use Rattle.std.specs.Prelude.{◌≡◌, ℕ, ◌+◌, ◌*◌, ◌^◌, ◌<◌, ◌++◌, ◌∷◌, [], IfOk, IfSome, MatchOption, OnOk, Some};
-ghost use Rattle.std.specs.Prelude.{length};
-ghost use Rattle.std.specs.Prelude.{slice_get};
-ghost use Rattle.hq_cert.specs.View.{rule_of};
+ghost use Rattle.std.specs.Prelude.{IsTrue, ◌↔◌};
+ghost use Rattle.std.specs.Prelude.{length, map, slice_get};
+ghost use Rattle.hq_cert.specs.View.{rule_of, line_of};
 ghost use Rattle.hq_model.specs.Job.{packet};
 ghost use Rattle.hq_model.specs.Job.{IsPacket};
 ghost use Rattle.hq_model.specs.Certificate.{Says, signals};
@@ -12,10 +12,12 @@ ghost use Rattle.hq_order.specs.Rounds.{IsFirstWithin, Reaches, ByOr};
 ghost use Rattle.hq_derive.specs.Rests.{Below, ByMiddle, FollowsAlone};
 ghost use Rattle.hq_derive.specs.Gathered.{items_of, lines_of, AllEntered, AreSound, Numbered, Ruled};
 ghost use Rattle.hq_derive.specs.Gathered.{Branched, AllBranched};
+ghost use Rattle.hq_derive.specs.Needed.{AllThere, HasLine, HasRoom, IsNumber};
 
 use crate::grounds::{Ground, branch_of, ground_of};
 use crate::needs::Needs;
 use crate::slots::Slots;
+use crate::there::are_there;
 use hq_bits::WIDTH;
 use hq_cert::{Branches, Citation, Line, Rule};
 use hq_order::Before;
@@ -50,6 +52,13 @@ fn no_entry() -> Entry
         r: 0,
         next: 0,
     }
+}
+
+/// Whether a line says that p is before r.
+fn says(line: &Line, p: usize, r: usize) -> bool
+    ensures { IsTrue result ↔ ((line.now.p ≡ p) × (line.now.r ≡ r)) }
+{
+    line.p as usize == p && line.r as usize == r
 }
 
 /// The first round in which p is before r.
@@ -97,6 +106,13 @@ impl Lines {
     }
 
     /// The lines, by number.
+    pub fn lines(&self) -> &[Line]
+        ensures { map line_of result.now ≡ lines_of self.now }
+    {
+        &self.lines
+    }
+
+    /// The same, and nothing else.
     pub fn into_lines(self) -> Vec<Line>
         ensures { result.items ≡ items_of self }
     {
@@ -181,27 +197,40 @@ impl Lines {
         Ok(())
     }
 
-    /// The number of the line that p is before r. Where there is none yet, it goes in, behind those that it cites.
-    ///
-    /// # Errors
-    ///
-    /// `AllocError` where there is no memory.
-    #[inline(always)]
-    pub fn number(
-        &mut self,
-        alloc: Global,
-        before: &Before,
-        p: usize,
-        r: usize,
-    ) -> Result<u32, AllocError>
-        requires kept { AreSound before.now self.old }
-        requires before { order.Before before.now p r }
-        ensures { IfOk result (λ k. Numbered before.now self.old self.new p r k) }
+    /// Whether each line is there that is noted as needed.
+    pub fn has_all(&self, before: &Before, needs: &Needs) -> bool
+        requires sound { AreSound before.now self.now }
+        requires room { HasRoom before.now needs.now }
+        ensures { IsTrue result → AllThere needs.now (lines_of self.now) }
     {
-        if let Some(number) = self.known(p, r) {
-            return Ok(number);
+        are_there(self, needs)
+    }
+
+    /// The number of a line that is there, which says that p is before r.
+    #[inline(always)]
+    pub fn number(&self, p: usize, r: usize) -> u32
+        requires entered { AllEntered self.now }
+        requires there { HasLine (lines_of self.now) p r }
+        ensures { IsNumber (lines_of self.now) p r result }
+    {
+        match self.known(p, r) {
+            Some(number) => number,
+            None => self.search(p, r),
         }
-        self.numbered(alloc, before, round_of(before, p, r), p, r)
+    }
+
+    /// The same, by a look at each line.
+    #[cold]
+    #[inline(never)]
+    fn search(&self, p: usize, r: usize) -> u32
+        requires { HasLine (lines_of self.now) p r }
+        ensures { IsNumber (lines_of self.now) p r result }
+    {
+        let mut k = 0;
+        'lines: while !says(&self.lines[k], p, r) {
+            k += 1;
+        }
+        k as u32
     }
 
     /// Adds the line that p is before r, which comes first in this round, behind those that it cites; answers its

@@ -1,11 +1,19 @@
 //! Which lines a certificate needs.
 
-use hq_bits::WORDS;
+ghost use Rattle.std.specs.Prelude.{◌≡◌, ℕ, ◌+◌, ◌*◌, ◌/◌, ◌<◌, IfOk, IsTrue, length};
+ghost use Rattle.hq_bits.specs.Bits.{has};
+ghost use Rattle.hq_model.specs.Job.{IsPacket};
+ghost use Rattle.hq_derive.specs.Needed.{IsNeeded, HasRoom, Widens};
+
+use hq_bits::{WIDTH, WORDS};
 use hq_order::Before;
 use std::alloc::{AllocError, Global};
 
 /// The place of r's word in the row of p.
-pub fn place_of(p: usize, r: usize) -> usize {
+#[inline(always)]
+pub fn place_of(p: usize, r: usize) -> usize
+    ensures { p < WIDTH → r < WIDTH → result ≡ (p * WIDTH + r) / 64 }
+{
     p.wrapping_mul(WORDS).wrapping_add(r / 64)
 }
 
@@ -22,9 +30,18 @@ impl Needs {
     /// # Errors
     ///
     /// `AllocError` where there is no memory.
-    pub fn new(alloc: Global, before: &Before) -> Result<Needs, AllocError> {
+    pub fn new(alloc: Global, before: &Before) -> Result<Needs, AllocError>
+        ensures { IfOk result (HasRoom before.now) }
+    {
         before.job().valid();
         let bits = vec![in alloc; 0; before.len() * WORDS]?;
+        Ok(Needs { bits })
+    }
+
+    /// The same once more.
+    pub(crate) fn copied(&self, alloc: Global) -> Result<Needs, AllocError> {
+        let mut bits = Vec::new(alloc);
+        bits.extend_from_slice(&self.bits)?;
         Ok(Needs { bits })
     }
 
@@ -33,8 +50,18 @@ impl Needs {
         self.bits
     }
 
+    /// The bits, row by row.
+    pub(crate) fn bits(&self) -> &[u64]
+        ensures { result.now ≡ self.now.bits.items }
+    {
+        &self.bits
+    }
+
     /// The lines are needed too that others note as needed.
-    pub fn take_in(&mut self, others: &Needs) {
+    pub fn take_in(&mut self, before: &Before, others: &Needs)
+        requires { HasRoom before.now self.old }
+        ensures { HasRoom before.now self.new }
+    {
         for (place, word) in self.bits.iter_mut().enumerate() {
             if let Some(more) = others.bits.get(place) {
                 *word |= *more;
@@ -53,7 +80,24 @@ impl Needs {
 
     /// A line that p is before r is needed.
     #[inline(always)]
-    pub fn need(&mut self, p: usize, r: usize) {
+    pub fn need(&mut self, before: &Before, p: usize, r: usize)
+        requires room { HasRoom before.now self.old }
+        requires p_is { IsPacket before.now p }
+        requires r_is { IsPacket before.now r }
+        ensures needed { IsNeeded self.new p r }
+        ensures widens { Widens before.now self.old self.new }
+    {
+        self.note(p, r);
+    }
+
+    /// Notes that a line that p is before r is needed, where there is room for that.
+    #[inline(always)]
+    pub(crate) fn note(&mut self, p: usize, r: usize)
+        ensures len { length self.new.bits.items ≡ length self.old.bits.items }
+        ensures still { (n : ℕ) → IsTrue (has self.old.bits.items n) → IsTrue (has self.new.bits.items n) }
+        ensures noted { p < WIDTH → r < WIDTH → (p * WIDTH + r) / 64 < length self.old.bits.items
+            → IsTrue (has self.new.bits.items (p * WIDTH + r)) }
+    {
         if let Some(word) = self.bits.get_mut(place_of(p, r)) {
             *word |= 1 << (r % 64);
         }

@@ -36,7 +36,7 @@ fn need_each(needs: &mut Needs, before: &Before, round: usize, p: usize, slots: 
     for slot in slots {
         if let Some(signal) = slot {
             if let Some(d) = branch_of(before, round, p, *signal) {
-                needs.need(p, d);
+                needs.note(p, d);
             }
         }
     }
@@ -61,8 +61,8 @@ fn add_through(
     ensures { OnOk result (All (IsDerived before.now round) lines.new.items) }
 {
     before.job().valid();
-    needs.need(p, m);
-    needs.need(m, r);
+    needs.note(p, m);
+    needs.note(m, r);
     let line = Derived {
         p: p as u16,
         r: r as u16,

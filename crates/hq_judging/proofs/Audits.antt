@@ -1,5 +1,5 @@
 -- What `audit` writes of a job.
-use Rattle.std.proofs.Common.{◌⊎◌, ℕ, inl, inr, List, Option, codes}
+use Rattle.std.proofs.Common.{◌⊎◌, ℕ, inl, inr, List, Option, codes, refl}
 use Rattle.hq_model.specs.Job.{Job}
 use Rattle.hq_model.specs.Certificate.{Certificate, CertHolds}
 use Rattle.hq_model.specs.Theorems.{Valid}
@@ -11,6 +11,7 @@ use Rattle.hq_audit.specs.declared.fault.AuditNo.TheVariants as no
 use Rattle.hq_judging.specs.Audit.{JobReport, NeverComplete, StuckExactly, NoSaid, NotOrdered, stuck_text, conflict_text}
 use Rattle.hq_judging.specs.Audit.JobReport.{ordered, not_ordered}
 use Rattle.hq_judging.specs.Audit.NotOrdered.{stuck, conflict, no_memory}
+use Rattle.hq_judging.specs.Giving.{WritesCertificate}
 use Rattle.hq_status.specs.Reports.{Reported, Said, with_feed}
 use Rattle.hq_status.specs.declared.status.Status.{Status}
 use Rattle.hq_status.specs.declared.status.Status.TheVariants as status
@@ -36,3 +37,12 @@ no_certificate job old new answered said = (said.0, said.1, not_ordered said.2, 
 pub certificate_reported : (job : Job) (c : Certificate) (old new : Option (List ℕ)) (answered : Status) → CertHolds job c → Said old new (text_of c) status.Done answered ⊎ Said old new (with_feed (codes "out of memory")) status.Memory answered → Reported (JobReport job) old new answered
 certificate_reported job c old new answered holds (inl said) = (text_of c, status.Done, ordered c holds, said)
 certificate_reported job c old new answered holds (inr said) = (with_feed (codes "out of memory"), status.Memory, not_ordered no_memory, said)
+
+pub memory_reported : (job : Job) (old new : Option (List ℕ)) (answered : Status) → Said old new (with_feed (codes "out of memory")) status.Memory answered → Reported (JobReport job) old new answered
+memory_reported job old new answered said = (with_feed (codes "out of memory"), status.Memory, not_ordered no_memory, said)
+
+pub written_reported : (job : Job) (old new : Option (List ℕ)) → WritesCertificate job old new → Reported (JobReport job) old new status.Done
+written_reported job old new w = (text_of w.certificate, status.Done, ordered w.certificate w.holds, inl (refl, w.appends))
+
+pub file_reported : (job : Job) (old new : Option (List ℕ)) → Reported (JobReport job) old new status.File
+file_reported job old new = (with_feed (codes "out of memory"), status.Memory, not_ordered no_memory, inr refl)

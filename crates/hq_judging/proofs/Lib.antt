@@ -1,3 +1,4 @@
 pub mod Audits
 pub mod Checks
 mod Numbers
+pub mod Audited

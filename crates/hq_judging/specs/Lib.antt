@@ -1,2 +1,3 @@
 pub mod Audit
 pub mod Check
+pub mod Giving

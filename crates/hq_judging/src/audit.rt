@@ -6,9 +6,10 @@ ghost use Rattle.hq_job.specs.Plan.{plan};
 ghost use Rattle.hq_judging.specs.Audit.{JobReport, NoSaid, conflict_text};
 ghost use Rattle.hq_status.specs.Reports.{JobTextReport, ReaderReport, Reported, Said, with_feed};
 
+use crate::giving::say_audited;
 use crate::laws::stuck_exactly;
 use crate::stuck::say_stuck;
-use hq_audit::{AuditNo, audit};
+use hq_audit::{AuditNo, find};
 use hq_cert::Certificate;
 use hq_certtext::{PrintFault, print};
 use hq_finding::{Kind, Why};
@@ -42,7 +43,7 @@ impl fmt::Display for ConflictLine {
 }
 
 /// Writes a certificate.
-fn say_certificate<W: Write>(alloc: Global, writer: &mut W, certificate: &Certificate) -> Status
+pub fn say_certificate<W: Write>(alloc: Global, writer: &mut W, certificate: &Certificate) -> Status
     ensures { Said (W.contents writer.old) (W.contents writer.new) (text_of certificate.now) Status.Done result
         ⊎ Said (W.contents writer.old) (W.contents writer.new)
         (with_feed (codes "out of memory")) Status.Memory result }
@@ -75,8 +76,8 @@ fn audit_found<W: Write>(alloc: Global, writer: &mut W, job: &Job) -> Status
 {
     job.valid();
     stuck_exactly();
-    match audit(alloc, job) {
-        Ok(certificate) => say_certificate(alloc, writer, &certificate),
+    match find(alloc, job) {
+        Ok(audited) => say_audited(alloc, writer, job, audited),
         Err(no) => say_no_certificate(writer, no),
     }
 }

@@ -1,10 +1,14 @@
 use crate::calls::good;
 use crate::upper::jobs::job_of;
-use hq_audit::{AuditNo, audit};
-use hq_cert::{Certificate, Fences, Rule};
+use hq_audit::{AuditNo, audit, find};
+use hq_cert::{Certificate, Fences, Pair, Rule};
 use hq_finding::{Kind, Why};
 use std::alloc::Global;
 use std::test::*;
+
+/// Two stores in one queue, the second with the barrier bit.
+const TWO_STORES: &[u8] =
+    b"hsaq 1\nagent a\nbuffer b 16 16\nqueue q a 4\npacket 04150080000000001000000000000000000000000000000000000000000000000000000000000000000000000000000000000000000000000000000000000000\npacket 04150080000000001000000000000000000000000000000000000000000000000000000000000000000000000000000000000000000000000000000000000000\nend";
 
 // The audit of a text, without a contract, so that no test is proved over all that a certificate and a refusal promise.
 
@@ -20,11 +24,33 @@ fn refusal_of(alloc: Global, text: &[u8]) -> Result<Option<AuditNo>, Fail> {
     Ok(audit(alloc, &job).err())
 }
 
+/// The one pair line that an audit of a job's text finds, where no fence goes on from another.
+fn pair_found(alloc: Global, text: &[u8]) -> Result<Pair, Fail> {
+    let job = job_of(alloc, text)?;
+    let Ok(audited) = find(alloc, &job) else {
+        return Err("an ordered job".into());
+    };
+    if audited.is_chained() || audited.count() != 1 {
+        return Err("one pair line".into());
+    }
+    Ok(audited.pair(&job, 0))
+}
+
+#[test]
+fn a_pair_line_by_itself(rt: HostRuntime) -> Result<(), Fail> {
+    let pair = pair_found(rt.alloc(), TWO_STORES)?;
+    assert!(rt; pair.p == 0 && pair.r == 1);
+    let Fences::WriteWrite { x, from, on } = &pair.fences else {
+        return Err("two writes".into());
+    };
+    assert!(rt; *x == 0 && *on == 0);
+    assert_eq!(rt; from.number(), None);
+    Ok(())
+}
+
 #[test]
 fn two_stores_with_a_barrier_bit(rt: HostRuntime) -> Result<(), Fail> {
-    let text =
-        b"hsaq 1\nagent a\nbuffer b 16 16\nqueue q a 4\npacket 04150080000000001000000000000000000000000000000000000000000000000000000000000000000000000000000000000000000000000000000000000000\npacket 04150080000000001000000000000000000000000000000000000000000000000000000000000000000000000000000000000000000000000000000000000000\nend";
-    let certificate = certificate_of(rt.alloc(), text)?;
+    let certificate = certificate_of(rt.alloc(), TWO_STORES)?;
     assert_eq!(rt; certificate.order(), [0, 1].as_slice());
     let [line] = certificate.lines() else {
         return Err("one line".into());

@@ -2,7 +2,7 @@ use crate::calls::good;
 use crate::upper::readers::Pieces;
 use hq_cert::Certificate;
 use hq_certread::{CertFault, CertReason, ReadFault, parse, read};
-use hq_certtext::print;
+use hq_certtext::{Printer, print};
 use std::alloc::Global;
 use std::process::Abort;
 use std::test::*;
@@ -38,6 +38,34 @@ fn printed(alloc: Global, certificate: &Certificate) -> Result<Vec<u8>, Fail> {
     let mut text = Vec::new(alloc);
     good(print(alloc, certificate, &mut text))?;
     Ok(text)
+}
+
+/// The same of a certificate with one pair line, part by part.
+fn printed_by_parts(alloc: Global, certificate: &Certificate) -> Result<Vec<u8>, Fail> {
+    let mut text = Vec::new(alloc);
+    let [pair] = certificate.pairs() else {
+        return Err("one pair line".into());
+    };
+    let Ok(mut printer) = Printer::begin(alloc, false, certificate.order(), &mut text) else {
+        return Err("a printer".into());
+    };
+    if printer.lines(certificate.lines(), &mut text).is_err() {
+        return Err("lines".into());
+    }
+    if printer.pair(pair, &mut text).is_err() {
+        return Err("a pair line".into());
+    }
+    good(printer.end(&mut text))?;
+    Ok(text)
+}
+
+#[test]
+fn printed_part_by_part(rt: HostRuntime) -> Result<(), Fail> {
+    let one = b"hsac 1\norder 0 1\nline 0 0 1 bit 1\npair 0 1 ww 0 = 0\nend\n".as_slice();
+    let certificate = certificate_of(rt.alloc(), one)?;
+    let text = printed_by_parts(rt.alloc(), &certificate)?;
+    assert!(rt; text.as_slice() == one);
+    Ok(())
 }
 
 #[test]

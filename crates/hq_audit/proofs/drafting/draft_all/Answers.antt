@@ -1,5 +1,4 @@
 use Rattle.std.proofs.Common.{◌<◌, length, arith}
-use Rattle.hq_audit.specs.Paired.{pairs_of}
 use Rattle.hq_audit.specs.Refused.{IsFirstOfRow, IsFirstUnshown}
 use Rattle.hq_audit.proofs.Pairing.{rows_paired_next}
 use Rattle.hq_audit.proofs.Turning.{rows_next, whole_refused}
@@ -10,8 +9,8 @@ loop-a-preserved c =
     let job = c.args.before.now in
     let row = c.in_ok-add_row.ensures in
     record {
-      drafted = row.goes.drafted;
-      paired = rows_paired_next job c.loop-a.a (pairs_of c.loop-a.drafts.pairs) (pairs_of c.add_row.new.self.pairs) c.loop-a.invariant.paired row.goes.longer row.paired;
+      are = row.goes.are;
+      paired = rows_paired_next job c.loop-a.a c.loop-a.drafts.drafts.items c.add_row.new.self.drafts.items c.loop-a.invariant.paired row.goes.longer row.paired;
       shown = rows_next job c.loop-a.a c.loop-a.invariant.shown row.shown;
     }
 
@@ -21,6 +20,13 @@ returns-clause-paired c = λ q s above is.
     let count = c.len-a-end.ensures in
     let low : s < length c.args.before.now.packets = is in
     c.loop-a.invariant.paired q s (omega arith) above is
+
+pub returns-clause-shown : goal.returns-clause-shown
+returns-clause-shown c = λ q s above is.
+    let over = c.loop-a-test.false in
+    let count = c.len-a-end.ensures in
+    let low : s < length c.args.before.now.packets = is in
+    c.loop-a.invariant.shown q s (omega arith) above is
 
 pub returns-in_err-add_row-clause-refused : goal.returns-in_err-add_row-clause-refused
 returns-in_err-add_row-clause-refused c =

@@ -1,5 +1,4 @@
 use Rattle.std.proofs.Common.{◌≡◌, ◌<◌, min, length, arith, rules}
-use Rattle.hq_audit.specs.Paired.{pairs_of}
 use Rattle.hq_audit.proofs.Rowing.{rows_next}
 use Rattle.hq_audit.proofs.spreading.draft_rows.Goals as goal
 
@@ -7,13 +6,13 @@ pub loop-a-preserved : goal.loop-a-preserved
 loop-a-preserved c =
     let row = c.in_ok-add_row.ensures in
     record {
-      drafted = row.goes.drafted;
-      paired = rows_next c.args.before.now c.args.from c.loop-a.a (pairs_of c.loop-a.drafts.pairs) (pairs_of c.add_row.new.self.pairs) c.loop-a.invariant.paired row.goes.longer row.paired;
+      are = row.goes.are;
+      paired = rows_next c.args.before.now c.args.from c.loop-a.a c.loop-a.drafts.drafts.items c.add_row.new.self.drafts.items c.loop-a.invariant.paired row.goes.longer row.paired;
     }
 
 pub returns : goal.returns
 returns c = record {
-  drafted = c.loop-a.invariant.drafted;
+  are = c.loop-a.invariant.are;
   paired = λ q s low upto above is.
       let over = c.loop-a-test.false in
       let end : c.min-a-end.result ≡ min c.args.to c.len.result = search rules in

@@ -1,10 +1,9 @@
-use Rattle.hq_audit.specs.Drafted.{AllDrafted}
-use Rattle.hq_audit.specs.Paired.{pairs_of}
+use Rattle.hq_audit.specs.Drafted.{AreDrafts}
 use Rattle.hq_audit.specs.Rowed.{RowsBetween}
 use Rattle.hq_audit.proofs.spreading.draft_rows.Given as goal
 
 abbrev pub invariant-loop-a : goal.invariant-loop-a
 invariant-loop-a l = record {
-  drafted : AllDrafted l.before (pairs_of l.drafts.pairs);
-  paired : RowsBetween l.before (pairs_of l.drafts.pairs) l.fn.from l.a;
+  are : AreDrafts l.before l.drafts;
+  paired : RowsBetween l.before l.drafts.drafts.items l.fn.from l.a;
 }

@@ -12,6 +12,7 @@ returns g c =
     let order = c.args.order.now in
     let lines = lines_of c.in_ok-lines.lines in
     let pairs = pairs_of c.in_ok-pairs.pairs in
-    let paired = subst (λ n. RowsPaired job pairs (n * 64)) c.in_ok-cited.ensures.count c.in_ok-pairs.ensures.paired in
+    let cites = c.in_ok-pairs.ensures in
+    let paired = subst (λ n. RowsPaired job cites.drafts (n * 64)) c.in_ok-cited.ensures.count cites.paired in
     cert_same job c.new.result order lines pairs (c.new.ensures.order ∙ c.in_ok-order.ensures) (c.new.ensures.lines ∙ ap (map line_of) c.into_lines.ensures) c.new.ensures.pairs
-    (cert_holds job order lines pairs c.requires.order c.in_ok-lines.ensures.follow c.in_ok-pairs.ensures.hold (all_paired job pairs (length c.in_ok-drafts.drafts.items) c.in_ok-drafts.ensures.whole paired))
+    (cert_holds job order lines cites.drafts pairs c.requires.order c.in_ok-lines.ensures.follow cites.are (all_paired job cites.drafts (length c.in_ok-drafts.drafts.items) c.in_ok-drafts.ensures.whole paired))

@@ -1,7 +1,8 @@
-use Rattle.std.proofs.Common.{◌≡◌, ◌<◌, ◌∙◌, length, arith, rules, slice_index_or, Some}
+use Rattle.std.proofs.Common.{◌≡◌, ◌*◌, ◌<◌, ◌∙◌, refl, subst, length, arith, rules, slice_index_or, Some}
 use Rattle.std.proofs.lemmas.List.{length-set, get_or-set_other}
 use Rattle.hq_derive.specs.Gathered.{lines_of}
-use Rattle.hq_audit.proofs.Rowing.{part_cited, hold_joined, paired_joined}
+use Rattle.hq_audit.specs.Rowed.{CitesUpto}
+use Rattle.hq_audit.proofs.Rowing.{part_cited, cites_none, cites_joined}
 use Rattle.hq_audit.proofs.wide.join.Goals as goal
 
 pub loop-part-preserved : goal.loop-part-preserved
@@ -22,9 +23,17 @@ loop-part-preserved c =
     record {
       len = length-set now i (Some c.add_part.new.pairs) ∙ inv.len;
       rest = λ k d above. get_or-set_other now i k (Some c.add_part.new.pairs) d (λ e. omega (arith, e, above)) ∙ inv.rest k d (omega (arith, above));
-      hold = hold_joined job lines i c.loop-part.all c.add_part.new.all v more inv.hold cites;
-      paired = paired_joined job lines i c.loop-part.all c.add_part.new.all v more inv.paired cites;
+      cites = cites_joined job lines i c.loop-part.all c.add_part.new.all v more inv.cites cites;
     }
 
-pub returns-clause-paired : goal.returns-clause-paired
-returns-clause-paired c = λ t q s low above is. c.loop-part.invariant.paired q s (omega (arith, low, c.loop-part-test.false, c.loop-part.invariant.len)) above is
+pub loop-part-init : goal.loop-part-init
+loop-part-init c = record {
+  len = refl;
+  rest = λ k d above. refl;
+  cites = cites_none c.args.before.now (lines_of c.args.lines.now) c.args.all.now c.requires.empty;
+}
+
+pub returns : goal.returns
+returns c = λ t.
+    let all : c.loop-part.part-index ≡ length c.args.parts.now = omega (arith, c.loop-part-test.false, c.loop-part.invariant.len) in
+    subst (λ n. CitesUpto c.args.before.now (lines_of c.args.lines.now) (n * 64) c.loop-part.all) all c.loop-part.invariant.cites

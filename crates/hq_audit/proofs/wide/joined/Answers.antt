@@ -1,6 +1,7 @@
 use Rattle.std.proofs.Common.{◌*◌, subst, length}
-use Rattle.hq_audit.specs.Paired.{pairs_of, RowsPaired}
+use Rattle.hq_derive.specs.Gathered.{lines_of}
+use Rattle.hq_audit.specs.Rowed.{CitesUpto}
 use Rattle.hq_audit.proofs.wide.joined.Goals as goal
 
-pub returns-then-join-clause-paired : goal.returns-then-join-clause-paired
-returns-then-join-clause-paired c = subst (λ xs. RowsPaired c.args.before.now (pairs_of c.join.new.all) (length xs * 64)) c.deref_mut.ensures.value (c.join.ensures.paired c.if-join.true)
+pub returns-then-join : goal.returns-then-join
+returns-then-join c = subst (λ xs. CitesUpto c.args.before.now (lines_of c.args.lines.now) (length xs * 64) c.join.new.all) c.deref_mut.ensures.value (c.join.ensures c.if-join.true)

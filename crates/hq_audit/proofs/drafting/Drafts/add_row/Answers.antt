@@ -1,7 +1,6 @@
 use Rattle.std.proofs.Common.{◌+◌, arith}
-use Rattle.hq_audit.specs.Paired.{pairs_of}
 use Rattle.hq_audit.specs.Refused.{IsUnshown, IsFirstOfRow}
-use Rattle.hq_audit.proofs.Pairing.{drafts_same, drafts_more, row_paired_next}
+use Rattle.hq_audit.proofs.Pairing.{go_same, go_more, row_paired_next}
 use Rattle.hq_job.specs.Plan.{plan}
 use Rattle.hq_audit.proofs.Parting.{row_skipped, row_paired_skipped}
 use Rattle.hq_audit.proofs.Turning.{row_next, whole_refused}
@@ -10,24 +9,24 @@ use Rattle.hq_audit.proofs.drafting.Drafts.add_row.Goals as goal
 pub others-init : goal.others-init
 others-init c =
     let job = c.args.before.now in
-    let pairs = pairs_of c.args.self.now.pairs in
+    let drafts = c.args.self.now.drafts.items in
     let next = c.next-b.ensures in
     record {
       above = omega (arith, next.above);
-      goes = drafts_same job pairs c.requires.drafted;
-      paired = row_paired_skipped job (plan c.job-job.result.now) pairs c.args.a (c.args.a + 1) c.next-b.result c.job-job.ensures (λ s above low is. absurd (omega arith)) (λ s. next.apart c.args.a s c.others-row.ensures);
+      goes = go_same job c.args.self.now c.requires.are;
+      paired = row_paired_skipped job (plan c.job-job.result.now) drafts c.args.a (c.args.a + 1) c.next-b.result c.job-job.ensures (λ s above low is. absurd (omega arith)) (λ s. next.apart c.args.a s c.others-row.ensures);
       shown = row_skipped job (plan c.job-job.result.now) c.args.a (c.args.a + 1) c.next-b.result c.job-job.ensures (λ s above low is. absurd (omega arith)) (λ s. next.apart c.args.a s c.others-row.ensures);
     }
 
 pub others-preserved : goal.others-preserved
 others-preserved c =
     let job = c.args.before.now in
-    let old = pairs_of c.others.self.pairs in
-    let new = pairs_of c.add_pair.new.self.pairs in
+    let old = c.others.self.drafts.items in
+    let new = c.add_pair.new.self.drafts.items in
     let next = c.next-b-in-others.ensures in
     record {
       above = omega (arith, next.above, c.others.invariant.above);
-      goes = drafts_more job (pairs_of c.args.self.now.pairs) old new c.others.invariant.goes c.in_ok-add_pair.ensures.goes;
+      goes = go_more job c.args.self.now c.others.self c.add_pair.new.self c.others.invariant.goes c.in_ok-add_pair.ensures.goes;
       paired = row_paired_skipped job (plan c.job-job.result.now) new c.args.a (c.others.b + 1) c.next-b-in-others.result c.job-job.ensures
           (row_paired_next job c.args.a c.others.b old new c.others.invariant.paired c.in_ok-add_pair.ensures.goes.longer c.in_ok-add_pair.ensures.has) (λ s. next.apart c.args.a s c.others-row.ensures);
       shown = row_skipped job (plan c.job-job.result.now) c.args.a (c.others.b + 1) c.next-b-in-others.result c.job-job.ensures (row_next job c.args.a c.others.b c.others.invariant.shown c.in_ok-add_pair.ensures.shown) (λ s. next.apart c.args.a s c.others-row.ensures);

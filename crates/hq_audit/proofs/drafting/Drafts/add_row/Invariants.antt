@@ -1,14 +1,14 @@
 use Rattle.std.proofs.Common.{◌<◌, ◌-◌, length}
 use Rattle.hq_audit.specs.Drafted.{DraftsGo}
-use Rattle.hq_audit.specs.Paired.{pairs_of, RowPaired}
+use Rattle.hq_audit.specs.Paired.{RowPaired}
 use Rattle.hq_audit.specs.Refused.{RowShown}
 use Rattle.hq_audit.proofs.drafting.Drafts.add_row.Given as goal
 
 abbrev pub invariant-others : goal.invariant-others
 invariant-others l = record {
   above : l.a < l.b;
-  goes : DraftsGo l.before (pairs_of l.fn.self.pairs) (pairs_of l.self.pairs);
-  paired : RowPaired l.before (pairs_of l.self.pairs) l.a l.b;
+  goes : DraftsGo l.before l.fn.self l.self;
+  paired : RowPaired l.before l.self.drafts.items l.a l.b;
   shown : RowShown l.before l.a l.b;
 }
 

@@ -1,5 +1,0 @@
-use Rattle.hq_audit.proofs.Numbering.{CitedUpto}
-use Rattle.hq_audit.proofs.pairs.cite_all.Given as goal
-
-abbrev pub invariant-loop-pair : goal.invariant-loop-pair
-invariant-loop-pair l = CitedUpto l.before l.fn.lines l.lines l.fn.pairs l.pairs l.pair-index

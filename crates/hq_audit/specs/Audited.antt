@@ -1,0 +1,39 @@
+-- What an audit finds of an ordered job.
+use Rattle.std.specs.Prelude.{◌≡◌, ℕ, Bool, false, List, Some, slice_get}
+use Rattle.hq_model.specs.Job.{Job}
+use Rattle.hq_model.specs.Order.{OrderList}
+use Rattle.hq_model.specs.Certificate as model
+use Rattle.hq_derive.specs.Gathered.{lines_of, AreSound}
+use Rattle.hq_derive.specs.Needed.{HasLine}
+use Rattle.hq_audit.specs.declared.audited.Audited.{Audited}
+use Rattle.hq_audit.specs.declared.draft.Draft.{Draft}
+use Rattle.hq_audit.specs.Drafted.{AllDrafts, NoneChained}
+use Rattle.hq_audit.specs.Paired.{AllPaired, IsPairOf, IsPlain}
+
+-- the order list, the lines, and the drafts of pair lines
+abbrev pub order_in : Audited → List ℕ
+order_in a = a.order.items
+
+abbrev pub lines_in : Audited → List model.Line
+lines_in a = lines_of a.lines
+
+abbrev pub drafts_in : Audited → List Draft
+drafts_in a = a.drafts.items
+
+-- whether one is chained
+abbrev pub chained_in : Audited → Bool
+chained_in a = a.chained
+
+-- Its order is an order list, each line follows from lines of lower number, each draft is right and what it rests on
+-- are lines that are there, and each pair that conflicts has its drafts in one direction.
+pub record IsAudited (job : Job) (a : Audited) : Type 0 where
+  pub order : OrderList job (order_in a)
+  pub sound : AreSound job a.lines
+  pub each : AllDrafts job (HasLine (lines_in a)) (drafts_in a)
+  pub paired : AllPaired job (drafts_in a)
+  pub plain : chained_in a ≡ false → NoneChained (drafts_in a)
+
+-- This is the pair line of draft k, without a fence that goes on from another.
+pub record IsPairAt (job : Job) (a : Audited) (k : ℕ) (pair : model.Pair) : Type 0 where
+  pub is : (draft : Draft) → slice_get (drafts_in a) k ≡ Some draft → IsPairOf job (lines_in a) draft pair
+  pub plain : IsPlain pair.fences
