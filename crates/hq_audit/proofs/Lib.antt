@@ -1,7 +1,9 @@
 pub mod Parting
 pub mod Turning
 pub mod Resting
+pub mod Packing
 pub mod Pairing
+pub mod Listing
 pub mod Numbering
 pub mod Certifying
 pub mod Rowing

@@ -1,8 +1,8 @@
 -- Drafts get the numbers of the lines that they cite, one by one.
-use Rattle.std.proofs.Common.{◌≡◌, ℕ, ◌+◌, ◌<◌, length, refl, sym, ◌∙◌, ap, subst, List, [], ◌∷◌, ◌++◌, Option, Some, None, slice_get, slice_index_or, take, map}
-use Rattle.std.specs.Prelude.{MatchOption}
+use Rattle.std.proofs.Common.{◌≡◌, ℕ, ◌+◌, ◌<◌, length, refl, sym, ◌∙◌, ap, subst, List, [], ◌∷◌, ◌++◌, Option, Some, None, slice_get, slice_index_or, take, map, append_assoc, append-nil, arith}
+use Rattle.std.specs.Prelude.{All, MatchOption}
 use Rattle.std.specs.Option.{IsSomeAnd}
-use Rattle.std.proofs.lemmas.List.{take_more, map-append}
+use Rattle.std.proofs.lemmas.List.{take_more, map-append, get_or-map, length-map}
 use Rattle.std.proofs.lemmas.Option.{slice_get-get_or}
 use Rattle.std.proofs.lemmas.Slice.Zip.{AllZip-left, AllZip-right}
 use Rattle.std.specs.Global.{Vec}
@@ -14,7 +14,9 @@ use Rattle.hq_model.specs.Fence.{Conflict}
 use Rattle.hq_model.specs.Certificate as model
 use Rattle.hq_model.specs.Certificate.{FencesHold, kind_of, HasPair}
 use Rattle.hq_audit.specs.declared.draft.Draft.{Draft}
-use Rattle.hq_audit.specs.Paired.{pairs_of, AllHold, HasDraft, IsPairOf, ArePairsOf}
+use Rattle.hq_audit.specs.declared.packed.Packed.{Packed}
+use Rattle.hq_audit.specs.Packed.{unpacked}
+use Rattle.hq_audit.specs.Paired.{pairs_of, AllHold, HasDraft, IsPairOf, ArePairsOf, PairsGo}
 
 some_and : {X : Type 0} (o : Option X) (P : X → Type 0) → IsSomeAnd o P → (x : X) × (o ≡ Some x) × P x
 some_and None P h = absurd h
@@ -69,3 +71,23 @@ pub cited_more : (job : Job) (lines : List model.Line) (drafts : List Draft) (pa
 cited_more job lines drafts pairs i d pair low h is =
     subst (λ ds. ArePairsOf job lines ds (pairs ++ pair ∷ [])) (sym (take_more drafts i d low))
     (zip_push (IsPairOf job lines) (take i drafts) pairs (slice_index_or drafts i d) pair h is)
+
+-- the pair line of a draft that stands in one number
+pub packed_pair : (job : Job) (lines : List model.Line) (drafts : List Packed) (i : ℕ) (d : Packed) (x : Draft) (pair : model.Pair) → i < length drafts → x ≡ unpacked (slice_index_or drafts i d) → IsPairOf job lines x pair
+    → IsPairOf job lines (slice_index_or (map unpacked drafts) i x) pair
+packed_pair job lines drafts i d x pair low e is = subst (λ y. IsPairOf job lines y pair) (e ∙ sym (get_or-map unpacked drafts i d x low)) is
+
+pub packed_draft : (P : Draft → Type 0) (drafts : List Packed) (i : ℕ) (d : Packed) (x : Draft) → i < length drafts → x ≡ unpacked (slice_index_or drafts i d) → All P (map unpacked drafts) → P x
+packed_draft P drafts i d x low e all =
+    subst P (get_or-map unpacked drafts i d x low ∙ sym e) (all i x (omega (arith, low, length-map drafts unpacked)))
+
+pub pairs_none : (job : Job) (lines : List model.Line) (v : Vec Pair) → PairsGo job lines [] v v
+pairs_none job lines v = λ others are. subst (λ ds. ArePairsOf job lines ds (pairs_of v)) (sym (append-nil others)) are
+
+pub pairs_go : (job : Job) (lines : List model.Line) (drafts : List Draft) (i : ℕ) (d : Draft) (x : Pair) (u v w : Vec Pair) → i < length drafts → PairsGo job lines (take i drafts) u v
+    → IsPairOf job lines (slice_index_or drafts i d) (pair_of x) → w.items ≡ v.items ++ x ∷ [] → PairsGo job lines (take (i + 1) drafts) u w
+pairs_go job lines drafts i d x u v w low go is e = λ others are.
+    let last = slice_index_or drafts i d in
+    let all : (others ++ take i drafts) ++ last ∷ [] ≡ others ++ take (i + 1) drafts = append_assoc others (take i drafts) (last ∷ []) ∙ ap (λ ds. others ++ ds) (sym (take_more drafts i d low)) in
+    subst (ArePairsOf job lines (others ++ take (i + 1) drafts)) (sym (pairs_push v w x e))
+    (subst (λ ds. ArePairsOf job lines ds (pairs_of v ++ pair_of x ∷ [])) all (zip_push (IsPairOf job lines) (others ++ take i drafts) (pairs_of v) last (pair_of x) (go others are) is))

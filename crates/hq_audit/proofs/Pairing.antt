@@ -1,8 +1,9 @@
 -- Drafts are added.
-use Rattle.std.proofs.Common.{◌≡◌, ℕ, ◌+◌, ◌<◌, ◌⊎◌, inl, inr, List, [], ◌∷◌, ◌++◌, length, refl, sym, ◌∙◌, ap, subst, arith, Some, slice_get, slice_index_or, Bool, true, false, ◌||◌}
+use Rattle.std.proofs.Common.{◌≡◌, ℕ, ◌+◌, ◌<◌, ◌⊎◌, inl, inr, List, [], ◌∷◌, ◌++◌, length, refl, sym, ◌∙◌, ap, subst, arith, Some, slice_get, Bool, true, false, ◌||◌}
 use Rattle.std.specs.Prelude.{IsTrue, IsSome}
 use Rattle.std.proofs.lemmas.Bool.{cases_eq}
-use Rattle.std.proofs.lemmas.List.Elements.{All-push}
+use Rattle.std.proofs.lemmas.List.Elements.{All-push, All-append, All-nil}
+use Rattle.std.proofs.lemmas.List.Folds.{list_any-append}
 use Rattle.std.proofs.lemmas.Option.{slice_get_within}
 use Rattle.hq_job.proofs.Grouped.{get_before, get_after}
 use Rattle.hq_fence.specs.Judgement.{Shows}
@@ -14,7 +15,7 @@ use Rattle.hq_derive.specs.Needed.{IsNeeded, Widens}
 use Rattle.hq_audit.specs.declared.directed.Directed.{Directed}
 use Rattle.hq_audit.specs.declared.draft.Draft.{Draft}
 use Rattle.hq_audit.specs.declared.drafting.Drafts.{Drafts}
-use Rattle.hq_audit.specs.Drafted.{kind_by, is_chained, IsDraft, AreDrafts, Longer, DraftsGo}
+use Rattle.hq_audit.specs.Drafted.{drafts_of, any_chained, kind_by, is_chained, IsDraft, AllDrafts, AreDrafts, Longer, DraftsGo}
 use Rattle.hq_audit.specs.Paired.{HasDraft, HasAll, RowPaired, RowsPaired}
 use Rattle.hq_audit.specs.Refused.{IsDirected}
 use Rattle.hq_audit.proofs.Resting.{drafts_more}
@@ -26,31 +27,35 @@ pub longer_more : (a b c : List Draft) → Longer a b → Longer b c → Longer 
 longer_more a b c g h = record { drafts = λ k draft e. h.drafts k draft (g.drafts k draft e) }
 
 pub go_same : (job : Job) (d : Drafts) → AreDrafts job d → DraftsGo job d d
-go_same job d h = record { are = h; longer = longer_same d.drafts.items }
+go_same job d h = record { are = h; longer = longer_same (drafts_of d) }
 
 pub go_more : (job : Job) (a b c : Drafts) → DraftsGo job a b → DraftsGo job b c → DraftsGo job a c
-go_more job a b c g h = record { are = h.are; longer = longer_more a.drafts.items b.drafts.items c.drafts.items g.longer h.longer }
+go_more job a b c g h = record { are = h.are; longer = longer_more (drafts_of a) (drafts_of b) (drafts_of c) g.longer h.longer }
 
 -- ---- one more
 
-neither : (a b : Bool) → (a || b) ≡ false → (a ≡ false) × (b ≡ false)
-neither true b e = absurd cc
-neither false b e = (refl, e)
+or_none : (b : Bool) → (b || false) ≡ b
+or_none true = refl
+or_none false = refl
+
+-- more drafts stand behind those that were there
+pub drafts_behind : (job : Job) (old new : Drafts) (more : List Draft) → AreDrafts job old → Widens job old.needs new.needs → AllDrafts job (IsNeeded new.needs) more
+    → drafts_of new ≡ drafts_of old ++ more → new.chained ≡ (old.chained || any_chained more) → AreDrafts job new
+drafts_behind job old new more are w is e f = record {
+  room = w.room;
+  each = subst (AllDrafts job (IsNeeded new.needs)) (sym e)
+      (All-append (IsDraft job (IsNeeded new.needs)) (drafts_of old) more (drafts_more (IsNeeded old.needs) (IsNeeded new.needs) w.needed job (drafts_of old) are.each) is);
+  chained = f ∙ ap (λ b. b || any_chained more) are.chained ∙ sym (list_any-append (λ (d : Draft). is_chained d.means) (drafts_of old) more) ∙ ap any_chained (sym e);
+}
+
+pub longer_front : (xs ys : List Draft) → Longer xs (xs ++ ys)
+longer_front xs ys = record { drafts = λ k draft t. let low : k < length xs = slice_get_within xs k draft t in get_before xs ys k low ∙ t }
 
 pub pushed_goes : (job : Job) (old new : Drafts) (draft : Draft) → AreDrafts job old → Widens job old.needs new.needs → IsDraft job (IsNeeded new.needs) draft
-    → new.drafts.items ≡ old.drafts.items ++ draft ∷ [] → new.chained ≡ (old.chained || is_chained draft.means) → DraftsGo job old new
+    → drafts_of new ≡ drafts_of old ++ draft ∷ [] → new.chained ≡ (old.chained || is_chained draft.means) → DraftsGo job old new
 pushed_goes job old new draft are w is e f = record {
-  are = record {
-    room = w.room;
-    each = subst (λ ds. (k : ℕ) (d : Draft) → k < length ds → IsDraft job (IsNeeded new.needs) (slice_index_or ds k d)) (sym e)
-        (All-push (IsDraft job (IsNeeded new.needs)) old.drafts.items draft (drafts_more (IsNeeded old.needs) (IsNeeded new.needs) w.needed job old.drafts.items are.each) is);
-    plain = λ none.
-        let both = neither old.chained (is_chained draft.means) (sym f ∙ none) in
-        subst (λ ds. (k : ℕ) (d : Draft) → k < length ds → is_chained (slice_index_or ds k d).means ≡ false) (sym e)
-        (All-push (λ d. is_chained d.means ≡ false) old.drafts.items draft (are.plain both.0) both.1);
-  };
-  longer = subst (Longer old.drafts.items) (sym e)
-      (record { drafts = λ k d t. let low : k < length old.drafts.items = slice_get_within old.drafts.items k d t in get_before old.drafts.items (draft ∷ []) k low ∙ t });
+  are = drafts_behind job old new (draft ∷ []) are w (All-push (IsDraft job (IsNeeded new.needs)) [] draft (All-nil (IsDraft job (IsNeeded new.needs))) is) e (f ∙ ap (λ b. old.chained || b) (sym (or_none (is_chained draft.means))));
+  longer = subst (Longer (drafts_of old)) (sym e) (longer_front (drafts_of old) (draft ∷ []));
 }
 
 last_there : (ps : List Draft) (x : Draft) → slice_get (ps ++ x ∷ []) (length ps) ≡ Some x

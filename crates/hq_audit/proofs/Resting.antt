@@ -11,7 +11,7 @@ use Rattle.hq_derive.proofs.Founded.{before_second, first_of as before_first}
 use Rattle.hq_audit.specs.declared.draft.Draft.{Draft}
 use Rattle.hq_audit.specs.declared.draft.Means.{Means}
 use Rattle.hq_audit.specs.declared.draft.Means.TheVariants.{ReadWrite, WriteWrite, WriteRead}
-use Rattle.hq_audit.specs.Drafted.{Upto, ReleaseRests, AcquireRests, Rests, IsDraft, AllDrafts}
+use Rattle.hq_audit.specs.Drafted.{Upto, KnownForRelease, KnownForAcquire, KnownFor, IsDraft, AllDrafts}
 
 -- ---- what is known of two packets may be more
 
@@ -20,21 +20,21 @@ module _ (Known More : ℕ → ℕ → Type 0) (more : (p r : ℕ) → Known p r
   upto_more p x (inl e) = inl e
   upto_more p x (inr k) = inr (more p x k)
 
-  pub release_more : (p : ℕ) (r : Release) → ReleaseRests Known p r → ReleaseRests More p r
+  pub release_more : (p : ℕ) (r : Release) → KnownForRelease Known p r → KnownForRelease More p r
   release_more p (release.Alone x) h = upto_more p x h
   release_more p (release.Chained x x2) h = (upto_more p x h.0, more x x2 h.1)
 
-  pub acquire_more : (r : ℕ) (a : Acquire) → AcquireRests Known r a → AcquireRests More r a
+  pub acquire_more : (r : ℕ) (a : Acquire) → KnownForAcquire Known r a → KnownForAcquire More r a
   acquire_more r (acquire.Alone y) h = upto_more y r h
   acquire_more r (acquire.Chained y2 y) h = (more y2 y h.0, upto_more y r h.1)
 
-  pub rests_more : (p r : ℕ) (means : Means) → Rests Known p r means → Rests More p r means
+  pub rests_more : (p r : ℕ) (means : Means) → KnownFor Known p r means → KnownFor More p r means
   rests_more p r ReadWrite h = more p r h
   rests_more p r (WriteWrite released) h = (release_more p released h.0, more (end_of released) r h.1)
   rests_more p r (WriteRead released acquired) h = (release_more p released h.0, more (end_of released) (first_of acquired) h.1, acquire_more r acquired h.2)
 
   pub draft_more : (job : Job) (draft : Draft) → IsDraft job Known draft → IsDraft job More draft
-  draft_more job draft d = record { p_is = d.p_is; r_is = d.r_is; order = d.order; rests = rests_more draft.p draft.r draft.means d.rests }
+  draft_more job draft d = record { p_is = d.p_is; r_is = d.r_is; order = d.order; known = rests_more draft.p draft.r draft.means d.known }
 
   pub drafts_more : (job : Job) (drafts : List Draft) → AllDrafts job Known drafts → AllDrafts job More drafts
   drafts_more job drafts all = λ k d low. draft_more job _ (all k d low)

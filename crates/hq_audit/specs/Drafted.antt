@@ -1,5 +1,7 @@
 -- What is known of pair lines before the lines that they cite have numbers.
-use Rattle.std.specs.Prelude.{◌≡◌, ℕ, ◌⊎◌, Bool, true, false, List, Some, All, slice_get}
+use Rattle.std.specs.Prelude.{◌≡◌, ℕ, ◌⊎◌, Bool, true, false, List, ◌++◌, Some, All, map, slice_get}
+use Rattle.std.specs.Global.{Vec}
+use Rattle.std.specs.List.{flat_map, list_any}
 use Rattle.hq_fence.specs.Judgement.{ReleasesBefore, ReleasesToAcquire, end_of, first_of}
 use Rattle.hq_fence.specs.declared.shown.Release.{Release}
 use Rattle.hq_fence.specs.declared.shown.Release.TheVariants as release
@@ -13,7 +15,9 @@ use Rattle.hq_derive.specs.Needed.{HasRoom, IsNeeded}
 use Rattle.hq_audit.specs.declared.draft.Draft.{Draft}
 use Rattle.hq_audit.specs.declared.draft.Means.{Means}
 use Rattle.hq_audit.specs.declared.draft.Means.TheVariants.{ReadWrite, WriteWrite, WriteRead}
+use Rattle.hq_audit.specs.declared.packed.Packed.{Packed}
 use Rattle.hq_audit.specs.declared.drafting.Drafts.{Drafts}
+use Rattle.hq_audit.specs.Packed.{unpacked}
 
 -- the kind of conflict that these are for
 abbrev pub kind_by : Means → Conflict
@@ -31,10 +35,10 @@ is_chained (WriteRead (release.Alone x) (acquire.Chained y2 y)) = true
 is_chained (WriteRead (release.Chained x x2) acquire) = true
 
 -- These order p and r.
-abbrev pub Order : Job → ℕ → ℕ → Means → Type 0
-Order job p r ReadWrite = Before job p r
-Order job p r (WriteWrite release) = ReleasesBefore job p r release
-Order job p r (WriteRead release acquire) = ReleasesToAcquire job p r (release, acquire)
+abbrev pub OrderedBy : Job → ℕ → ℕ → Means → Type 0
+OrderedBy job p r ReadWrite = Before job p r
+OrderedBy job p r (WriteWrite release) = ReleasesBefore job p r release
+OrderedBy job p r (WriteRead release acquire) = ReleasesToAcquire job p r (release, acquire)
 
 -- ---- the lines that are cited
 
@@ -43,21 +47,21 @@ abbrev pub Upto : (ℕ → ℕ → Type 0) → ℕ → ℕ → Type 0
 Upto Known p x = (p ≡ x) ⊎ Known p x
 
 -- what is to be known of a release of p
-abbrev pub ReleaseRests : (ℕ → ℕ → Type 0) → ℕ → Release → Type 0
-ReleaseRests Known p (release.Alone x) = Upto Known p x
-ReleaseRests Known p (release.Chained x x2) = Upto Known p x × Known x x2
+abbrev pub KnownForRelease : (ℕ → ℕ → Type 0) → ℕ → Release → Type 0
+KnownForRelease Known p (release.Alone x) = Upto Known p x
+KnownForRelease Known p (release.Chained x x2) = Upto Known p x × Known x x2
 
 -- and of an acquire for r
-abbrev pub AcquireRests : (ℕ → ℕ → Type 0) → ℕ → Acquire → Type 0
-AcquireRests Known r (acquire.Alone y) = Upto Known y r
-AcquireRests Known r (acquire.Chained y2 y) = Known y2 y × Upto Known y r
+abbrev pub KnownForAcquire : (ℕ → ℕ → Type 0) → ℕ → Acquire → Type 0
+KnownForAcquire Known r (acquire.Alone y) = Upto Known y r
+KnownForAcquire Known r (acquire.Chained y2 y) = Known y2 y × Upto Known y r
 
 -- What is to be known, of which packet is before which, where these order p and r.
-abbrev pub Rests : (ℕ → ℕ → Type 0) → ℕ → ℕ → Means → Type 0
-Rests Known p r ReadWrite = Known p r
-Rests Known p r (WriteWrite release) = ReleaseRests Known p release × Known (end_of release) r
-Rests Known p r (WriteRead release acquire) =
-    ReleaseRests Known p release × Known (end_of release) (first_of acquire) × AcquireRests Known r acquire
+abbrev pub KnownFor : (ℕ → ℕ → Type 0) → ℕ → ℕ → Means → Type 0
+KnownFor Known p r ReadWrite = Known p r
+KnownFor Known p r (WriteWrite release) = KnownForRelease Known p release × Known (end_of release) r
+KnownFor Known p r (WriteRead release acquire) =
+    KnownForRelease Known p release × Known (end_of release) (first_of acquire) × KnownForAcquire Known r acquire
 
 -- ---- drafts
 
@@ -65,22 +69,34 @@ Rests Known p r (WriteRead release acquire) =
 pub record IsDraft (job : Job) (Known : ℕ → ℕ → Type 0) (draft : Draft) : Type 0 where
   pub p_is : IsPacket job draft.p
   pub r_is : IsPacket job draft.r
-  pub order : Order job draft.p draft.r draft.means
-  pub rests : Rests Known draft.p draft.r draft.means
+  pub order : OrderedBy job draft.p draft.r draft.means
+  pub known : KnownFor Known draft.p draft.r draft.means
 
 -- so is each one
 abbrev pub AllDrafts : Job → (ℕ → ℕ → Type 0) → List Draft → Type 0
 AllDrafts job Known drafts = All (IsDraft job Known) drafts
 
--- None is chained.
-abbrev pub NoneChained : List Draft → Type 0
-NoneChained drafts = All (λ draft. is_chained draft.means ≡ false) drafts
+-- the drafts of a list, each of which stands in one number
+abbrev pub seen : Vec Packed → List Draft
+seen list = map unpacked list.items
 
--- Each draft is right, what it rests on is noted, and so it is where one is chained.
+-- those of lists that stand one behind another
+abbrev pub listed : List (Vec Packed) → List Draft
+listed lists = flat_map seen lists
+
+-- all drafts
+abbrev pub drafts_of : Drafts → List Draft
+drafts_of drafts = listed drafts.full.items ++ seen drafts.last
+
+-- whether one is chained
+abbrev pub any_chained : List Draft → Bool
+any_chained drafts = list_any (λ draft. is_chained draft.means) drafts
+
+-- Each draft is right and what it rests on is noted; and it is told whether one is chained.
 pub record AreDrafts (job : Job) (drafts : Drafts) : Type 0 where
   pub room : HasRoom job drafts.needs
-  pub each : AllDrafts job (IsNeeded drafts.needs) drafts.drafts.items
-  pub plain : drafts.chained ≡ false → NoneChained drafts.drafts.items
+  pub each : AllDrafts job (IsNeeded drafts.needs) (drafts_of drafts)
+  pub chained : drafts.chained ≡ any_chained (drafts_of drafts)
 
 -- No draft was lost.
 pub record Longer (old new : List Draft) : Type 0 where
@@ -89,4 +105,9 @@ pub record Longer (old new : List Draft) : Type 0 where
 -- what one more draft keeps
 pub record DraftsGo (job : Job) (old new : Drafts) : Type 0 where
   pub are : AreDrafts job new
-  pub longer : Longer old.drafts.items new.drafts.items
+  pub longer : Longer (drafts_of old) (drafts_of new)
+
+-- The drafts of others stand behind those that were there.
+pub record DraftsJoin (job : Job) (old others new : Drafts) : Type 0 where
+  pub are : AreDrafts job new
+  pub joined : drafts_of new ≡ drafts_of old ++ drafts_of others

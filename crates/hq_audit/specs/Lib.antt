@@ -1,3 +1,4 @@
+pub mod Packed
 pub mod Paired
 pub mod Drafted
 pub mod Audited

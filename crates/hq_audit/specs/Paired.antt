@@ -1,5 +1,5 @@
 -- Which pairs of packets have drafts of pair lines, and pair lines.
-use Rattle.std.specs.Prelude.{◌≡◌, ℕ, ◌<◌, ◌⊎◌, List, length, map, Some, slice_get, All}
+use Rattle.std.specs.Prelude.{◌≡◌, ℕ, ◌<◌, ◌⊎◌, List, ◌++◌, length, map, Some, slice_get, All}
 use Rattle.std.specs.Global.{Vec}
 use Rattle.std.specs.List.{AllZip}
 use Rattle.hq_cert.specs.declared.certificate.Pair.{Pair}
@@ -96,3 +96,8 @@ pub record IsPairOf (job : Job) (lines : List model.Line) (draft : Draft) (pair 
 -- so it is one by one
 abbrev pub ArePairsOf : Job → List model.Line → List Draft → List model.Pair → Type 0
 ArePairsOf job lines drafts pairs = AllZip (IsPairOf job lines) drafts pairs
+
+-- Behind the pair lines of other drafts, those of these were added.
+abbrev pub PairsGo : Job → List model.Line → List Draft → Vec Pair → Vec Pair → Type 0
+PairsGo job lines drafts old new = (others : List Draft) → ArePairsOf job lines others (pairs_of old)
+    → ArePairsOf job lines (others ++ drafts) (pairs_of new)

@@ -1,14 +1,12 @@
--- What is known of the drafts of some packets with those above them, and of their pair lines: part k has those of the
--- packets from 64 * k on, 64 of them.
+-- What is known of the drafts of some packets with those above them: part k has those of the packets from 64 * k on,
+-- 64 of them.
 use Rattle.std.specs.Prelude.{ℕ, ◌+◌, ◌*◌, ◌<◌, ◌≤◌, ◌⊎◌, List, IfSome, Option, length, slice_index_or}
-use Rattle.hq_cert.specs.declared.certificate.Pair.{Pair}
-use Rattle.std.specs.Global.{Vec}
 use Rattle.hq_model.specs.Job.{Job, IsPacket}
-use Rattle.hq_model.specs.Certificate as model
 use Rattle.hq_audit.specs.declared.draft.Draft.{Draft}
 use Rattle.hq_audit.specs.declared.drafting.Drafts.{Drafts}
-use Rattle.hq_audit.specs.Drafted.{AreDrafts}
-use Rattle.hq_audit.specs.Paired.{pairs_of, HasAll, ArePairsOf, RowsPaired}
+use Rattle.hq_audit.specs.Drafted.{drafts_of, AreDrafts}
+use Rattle.hq_audit.specs.Paired.{HasAll, RowsPaired, AllPaired}
+use Rattle.hq_audit.specs.Refused.{ShownOneWay, RowsShown, AllShown}
 
 -- there is a draft for each kind of conflict, in one direction, of all pairs whose lesser packet is one from a up to
 -- b
@@ -16,10 +14,15 @@ abbrev pub RowsBetween : Job → List Draft → ℕ → ℕ → Type 0
 RowsBetween job drafts a b = (q s : ℕ) → a ≤ q → q < b → q < s → IsPacket job s
     → HasAll job drafts q s ⊎ HasAll job drafts s q
 
+-- and all such pairs are ordered
+abbrev pub ShownBetween : Job → ℕ → ℕ → Type 0
+ShownBetween job a b = (q s : ℕ) → a ≤ q → q < b → q < s → IsPacket job s → ShownOneWay job q s
+
 -- the drafts of the packets from a up to b
 pub record DraftsRows (job : Job) (a b : ℕ) (drafts : Drafts) : Type 0 where
   pub are : AreDrafts job drafts
-  pub paired : RowsBetween job drafts.drafts.items a b
+  pub paired : RowsBetween job (drafts_of drafts) a b
+  pub shown : ShownBetween job a b
 
 -- so are those of each part, where it is there
 abbrev pub MayDraft : Job → ℕ → Option Drafts → Type 0
@@ -33,23 +36,14 @@ AllMayDraft job parts = (k : ℕ) (d : Option Drafts) → k < length parts → M
 abbrev pub IsWhole : Job → ℕ → Type 0
 IsWhole job count = length job.packets < count * 64
 
--- the pair lines of the packets from a up to b
-pub record CitesRows (job : Job) (lines : List model.Line) (a b : ℕ) (pairs : Vec Pair) : Type 0 where
-  pub drafts : List Draft
-  pub are : ArePairsOf job lines drafts (pairs_of pairs)
-  pub paired : RowsBetween job drafts a b
+-- the drafts of all packets up to one
+pub record DraftsUpto (job : Job) (a : ℕ) (drafts : Drafts) : Type 0 where
+  pub are : AreDrafts job drafts
+  pub paired : RowsPaired job (drafts_of drafts) a
+  pub shown : RowsShown job a
 
--- those of all packets up to one
-pub record CitesUpto (job : Job) (lines : List model.Line) (a : ℕ) (pairs : Vec Pair) : Type 0 where
-  pub drafts : List Draft
-  pub are : ArePairsOf job lines drafts (pairs_of pairs)
-  pub paired : RowsPaired job drafts a
-
--- those of each part, where it is there
-abbrev pub AllMayCite : Job → List model.Line → List (Option (Vec Pair)) → Type 0
-AllMayCite job lines parts = (k : ℕ) (d : Option (Vec Pair)) → k < length parts
-    → IfSome (slice_index_or parts k d) (CitesRows job lines (k * 64) (k * 64 + 64))
-
--- The pair lines are of the packets that the part's drafts are of, where they are there.
-abbrev pub CitesPart : Job → List model.Line → Option Drafts → Option (Vec Pair) → Type 0
-CitesPart job lines part cited = (a b : ℕ) → IfSome part (DraftsRows job a b) → IfSome cited (CitesRows job lines a b)
+-- the drafts of all packets
+pub record DraftsAll (job : Job) (drafts : Drafts) : Type 0 where
+  pub are : AreDrafts job drafts
+  pub paired : AllPaired job (drafts_of drafts)
+  pub shown : AllShown job

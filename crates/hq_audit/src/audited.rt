@@ -1,33 +1,36 @@
 //! What an audit finds of an ordered job.
 
-ghost use Rattle.std.specs.Prelude.{◌≡◌, ◌<◌, IfErr, IfOk, false, length, map};
+ghost use Rattle.std.specs.Prelude.{◌≡◌, ◌<◌, IfErr, IfOk, Some, false, length, slice_get};
 ghost use Rattle.hq_job.specs.Plan.{plan};
 ghost use Rattle.hq_model.specs.Certificate.{CertHolds};
 ghost use Rattle.hq_model.specs.Order.{OrderList};
-ghost use Rattle.hq_cert.specs.View.{line_of, pair_of};
+ghost use Rattle.hq_cert.specs.View.{pair_of};
+ghost use Rattle.hq_derive.specs.Short.{told};
 ghost use Rattle.hq_parts.specs.Parts.{AreParts};
-ghost use Rattle.hq_audit.specs.Audited.{order_in, lines_in, drafts_in, chained_in, IsAudited, IsPairAt};
+ghost use Rattle.hq_audit.specs.Audited.{order_in, lines_in, lists_in, list_in, chained_in, IsAudited, IsPairAt};
 ghost use Rattle.hq_audit.specs.Refused.{AllRefused, AllShown};
+ghost use Rattle.hq_audit.specs.Rowed.{DraftsAll};
 
 use crate::citing::{cite_all, plain_pair};
 use crate::draft::Draft;
-use crate::drafting::draft_all;
+use crate::drafting::{Drafts, draft_all};
 use crate::fault::AuditNo;
-use hq_cert::{Certificate, Line, Pair};
-use hq_derive::{Lines, lines_for};
+use crate::packed::Packed;
+use hq_cert::{Certificate, Pair};
+use hq_derive::{Lines, Told, lines_for};
 use hq_job::Job;
 use hq_order::Before;
 use hq_parts::Parts;
 use std::alloc::{AllocError, Global};
 
-/// All that the certificate of an ordered job says: the order, the lines, and the pair lines, whose fences have no
-/// numbers of lines yet and so take little memory. Whoever prints a certificate can ask for one pair line behind
+/// All that the certificate of an ordered job says: the order, the lines, and lists of pair lines, whose fences have
+/// no numbers of lines yet and so take little memory. Whoever prints a certificate can ask for one pair line behind
 /// another; `certificate` makes them all.
 #[derive(Drop)]
 pub struct Audited {
     order: Vec<u32>,
     lines: Lines,
-    drafts: Vec<Draft>,
+    lists: Vec<Vec<Packed>>,
     chained: bool,
 }
 
@@ -39,18 +42,37 @@ impl Audited {
         &self.order
     }
 
-    /// The lines, by number.
-    pub fn lines(&self) -> &[Line]
-        ensures { map line_of result.now ≡ lines_in self.now }
+    /// How many lines there are.
+    pub fn lines(&self) -> usize
+        ensures { result ≡ length (lines_in self.now) }
     {
-        self.lines.lines()
+        self.lines.len()
     }
 
-    /// How many pair lines there are.
-    pub fn count(&self) -> usize
-        ensures { result ≡ length (drafts_in self.now) }
+    /// Line k. It takes no memory.
+    #[inline(always)]
+    pub fn line(&self, k: usize) -> Told<'_>
+        requires { k < length (lines_in self.now) }
+        ensures { slice_get (lines_in self.now) k ≡ Some (told result) }
     {
-        self.drafts.len()
+        self.lines.line(k)
+    }
+
+    /// How many lists of pair lines there are. All of them, one behind another, are the pair lines.
+    pub fn lists(&self) -> usize
+        ensures { result ≡ length (lists_in self.now) }
+    {
+        self.lists.len()
+    }
+
+    /// How many pair lines a list has; none, where there is no such list.
+    pub fn count(&self, list: usize) -> usize
+        ensures { result ≡ length (list_in self.now list) }
+    {
+        match self.lists.get(list) {
+            Some(drafts) => drafts.len(),
+            None => 0,
+        }
     }
 
     /// Whether one of the pair lines has a fence that goes on from another.
@@ -60,15 +82,24 @@ impl Audited {
         self.chained
     }
 
-    /// Pair line k, where no fence goes on from another. It takes no memory.
+    /// Draft k of a list.
     #[inline(always)]
-    pub fn pair(&self, job: &Job, k: usize) -> Pair
+    fn draft(&self, list: usize, k: usize) -> Draft
+        requires { k < length (list_in self.now list) }
+        ensures { slice_get (list_in self.now list) k ≡ Some result }
+    {
+        self.lists[list][k].draft()
+    }
+
+    /// Pair line k of a list, where no fence goes on from another. It takes no memory.
+    #[inline(always)]
+    pub fn pair(&self, job: &Job, list: usize, k: usize) -> Pair
         requires audited { IsAudited (plan job.now) self.now }
         requires plain { chained_in self.now ≡ false }
-        requires within { k < length (drafts_in self.now) }
-        ensures { IsPairAt (plan job.now) self.now k (pair_of result) }
+        requires within { k < length (list_in self.now list) }
+        ensures { IsPairAt (plan job.now) self.now list k (pair_of result) }
     {
-        plain_pair(&self.lines, job, self.drafts[k])
+        plain_pair(&self.lines, job, self.draft(list, k))
     }
 
     /// The certificate.
@@ -80,13 +111,14 @@ impl Audited {
         requires { IsAudited (plan job.now) self }
         ensures { IfOk result (λ c. CertHolds (plan job.now) c) }
     {
-        let pairs = cite_all(alloc, &self.lines, job, &self.drafts)?;
-        Ok(Certificate::new(self.order, self.lines.into_lines(), pairs))
+        let pairs = cite_all(alloc, &self.lines, job, &self.lists)?;
+        let lines = self.lines.into_lines(alloc)?;
+        Ok(Certificate::new(self.order, lines, pairs))
     }
 }
 
 /// The numbers in 32 bits.
-pub fn widened(alloc: Global, numbers: &[u16]) -> Result<Vec<u32>, AllocError>
+fn widened(alloc: Global, numbers: &[u16]) -> Result<Vec<u32>, AllocError>
     ensures { IfOk result (λ wide. wide.items ≡ numbers.now) }
 {
     let mut wide = Vec::with_capacity(alloc, numbers.len())?;
@@ -94,6 +126,29 @@ pub fn widened(alloc: Global, numbers: &[u16]) -> Result<Vec<u32>, AllocError>
         wide.push(u32::from(*number))?;
     }
     Ok(wide)
+}
+
+/// What an audit finds of a job that has this order list, whose drafts these are.
+pub fn audited_of(
+    alloc: Global,
+    before: &Before,
+    drafts: Drafts,
+    order: &[u16],
+) -> Result<Audited, AllocError>
+    requires order { OrderList before.now order.now }
+    requires all { DraftsAll before.now drafts }
+    ensures { IfOk result (IsAudited before.now) }
+{
+    let lines = lines_for(alloc, before, &drafts.needs)?;
+    let order = widened(alloc, order)?;
+    let chained = drafts.chained;
+    let lists = drafts.into_lists()?;
+    Ok(Audited {
+        order,
+        lines,
+        lists,
+        chained,
+    })
 }
 
 /// What an audit finds of a job that has this order list, or the first two packets that aren't ordered.
@@ -110,12 +165,6 @@ pub fn audited_alone(
     ensures refused { IfErr result (AllRefused before.now) }
 {
     let drafts = draft_all(alloc, before, parts)?;
-    let lines = lines_for(alloc, before, &drafts.needs)?;
-    let order = widened(alloc, order)?;
-    Ok(Audited {
-        order,
-        lines,
-        drafts: drafts.drafts,
-        chained: drafts.chained,
-    })
+    let audited = audited_of(alloc, before, drafts, order)?;
+    Ok(audited)
 }

@@ -1,6 +1,6 @@
 //! Drafts of pair lines with the numbers of the lines that these cite.
 
-ghost use Rattle.std.specs.Prelude.{◌≡◌, IfOk, MatchOption, IsTrue, false, true, length};
+ghost use Rattle.std.specs.Prelude.{◌≡◌, IfOk, OnOk, MatchOption, IsTrue, false, true, length, map};
 ghost use Rattle.hq_job.specs.Plan.{plan};
 ghost use Rattle.hq_model.specs.Certificate.{Cites, FencesHold, kind_of};
 ghost use Rattle.hq_model.specs.Certificate.Fences.{ForWriteWriteChained, ForWriteReadChained};
@@ -10,10 +10,14 @@ ghost use Rattle.hq_fence.specs.declared.shown.Release.TheVariants as release;
 ghost use Rattle.hq_fence.specs.declared.shown.Acquire.TheVariants as acquire;
 ghost use Rattle.hq_derive.specs.Gathered.{lines_of, AllEntered};
 ghost use Rattle.hq_derive.specs.Needed.{HasLine};
-ghost use Rattle.hq_audit.specs.Drafted.{is_chained, Upto, ReleaseRests, AcquireRests, Rests, IsDraft, AllDrafts};
-ghost use Rattle.hq_audit.specs.Paired.{ReleaseCited, AcquireCited, IsPairOf, IsPlain, HoldFor, ArePairsOf, pairs_of};
+ghost use Rattle.hq_audit.specs.Drafted.{is_chained, listed, Upto, KnownForRelease, KnownForAcquire, KnownFor, IsDraft};
+ghost use Rattle.hq_audit.specs.Drafted.{AllDrafts};
+ghost use Rattle.hq_audit.specs.Paired.{ReleaseCited, AcquireCited, IsPairOf, IsPlain, HoldFor, ArePairsOf, PairsGo};
+ghost use Rattle.hq_audit.specs.Paired.{pairs_of};
+ghost use Rattle.hq_audit.specs.Packed.{unpacked};
 
 use crate::draft::{Draft, Means};
+use crate::packed::Packed;
 use hq_cert::{Citation, Fences, Pair, ReadChain, WriteChain};
 use hq_derive::Lines;
 use hq_fence::{Acquire, Release};
@@ -113,7 +117,7 @@ fn write_chain(lines: &Lines, job: &Job, p: usize, r: usize, x: u16, x2: u16) ->
 fn cite_release(lines: &Lines, job: &Job, p: usize, r: usize, release: Release) -> CitedRelease
     requires entered { AllEntered lines.now }
     requires release { IsRelease (plan job.now) p r release }
-    requires rests { ReleaseRests (HasLine (lines_of lines.now)) p release }
+    requires known { KnownForRelease (HasLine (lines_of lines.now)) p release }
     ensures { ReleaseCited (plan job.now) (lines_of lines.now) p r release result }
 {
     match release {
@@ -136,7 +140,7 @@ fn cite_release(lines: &Lines, job: &Job, p: usize, r: usize, release: Release) 
 fn cite_acquire(lines: &Lines, job: &Job, p: usize, r: usize, acquire: Acquire) -> CitedAcquire
     requires entered { AllEntered lines.now }
     requires acquire { IsAcquire (plan job.now) p r acquire }
-    requires rests { AcquireRests (HasLine (lines_of lines.now)) r acquire }
+    requires known { KnownForAcquire (HasLine (lines_of lines.now)) r acquire }
     ensures { AcquireCited (plan job.now) (lines_of lines.now) p r acquire result }
 {
     match acquire {
@@ -166,7 +170,7 @@ fn read_chain(
 ) -> ReadChain
     requires entered { AllEntered lines.now }
     requires fences { ReleasesToAcquire (plan job.now) p r (release, acquire) }
-    requires rests { Rests (HasLine (lines_of lines.now)) p r (Means.WriteRead release acquire) }
+    requires known { KnownFor (HasLine (lines_of lines.now)) p r (Means.WriteRead release acquire) }
     requires chained { is_chained (Means.WriteRead release acquire) ≡ true }
     ensures { FencesHold (plan job.now) (lines_of lines.now) p r
         (ForWriteReadChained result.x result.x2 result.y2 result.y (cited result.from) (cited result.link)
@@ -261,20 +265,40 @@ fn pair(alloc: Global, lines: &Lines, job: &Job, draft: Draft) -> Result<Pair, A
     })
 }
 
-/// The pair lines of all drafts.
+/// Adds the pair lines of drafts.
+fn cite_list(
+    pairs: &mut Vec<Pair>,
+    alloc: Global,
+    lines: &Lines,
+    job: &Job,
+    drafts: &[Packed],
+) -> Result<(), AllocError>
+    requires entered { AllEntered lines.now }
+    requires are { AllDrafts (plan job.now) (HasLine (lines_of lines.now)) (map unpacked drafts.now) }
+    ensures { OnOk result
+        (PairsGo (plan job.now) (lines_of lines.now) (map unpacked drafts.now) pairs.old pairs.new) }
+{
+    for packed in drafts {
+        pairs.push(pair(alloc, lines, job, packed.draft())?)?;
+    }
+    Ok(())
+}
+
+/// The pair lines of all lists of drafts.
 pub fn cite_all(
     alloc: Global,
     lines: &Lines,
     job: &Job,
-    drafts: &[Draft],
+    lists: &[Vec<Packed>],
 ) -> Result<Vec<Pair>, AllocError>
     requires entered { AllEntered lines.now }
-    requires are { AllDrafts (plan job.now) (HasLine (lines_of lines.now)) drafts.now }
-    ensures { IfOk result (λ pairs. ArePairsOf (plan job.now) (lines_of lines.now) drafts.now (pairs_of pairs)) }
+    requires are { AllDrafts (plan job.now) (HasLine (lines_of lines.now)) (listed lists.now) }
+    ensures { IfOk result
+        (λ pairs. ArePairsOf (plan job.now) (lines_of lines.now) (listed lists.now) (pairs_of pairs)) }
 {
-    let mut pairs = Vec::with_capacity(alloc, drafts.len())?;
-    for draft in drafts {
-        pairs.push(pair(alloc, lines, job, *draft)?)?;
+    let mut pairs = Vec::new(alloc);
+    for list in lists {
+        cite_list(&mut pairs, alloc, lines, job, list)?;
     }
     Ok(pairs)
 }

@@ -6,26 +6,39 @@ ghost use Rattle.hq_model.specs.Job.{IsPacket};
 ghost use Rattle.hq_model.specs.Order as order;
 ghost use Rattle.hq_model.specs.Fence as model;
 ghost use Rattle.hq_fence.specs.Judgement.{ReleasesBefore, ReleasesToAcquire, Shows};
-ghost use Rattle.hq_audit.specs.Drafted.{kind_by, Order, AreDrafts, DraftsGo};
-ghost use Rattle.hq_audit.specs.Paired.{HasDraft, HasAll, RowPaired, AllPaired};
+ghost use Rattle.hq_audit.specs.Drafted.{drafts_of, kind_by, listed, OrderedBy, AreDrafts, DraftsGo, DraftsJoin};
+ghost use Rattle.hq_audit.specs.Paired.{HasDraft, HasAll, RowPaired};
+ghost use Rattle.hq_audit.specs.Rowed.{DraftsAll};
 ghost use Rattle.hq_parts.specs.Parts.{AreParts};
-ghost use Rattle.hq_audit.specs.Refused.{ShownOneWay, RowShown, AllShown, PairRefused, RowRefused, AllRefused};
+ghost use Rattle.hq_audit.specs.Refused.{ShownOneWay, RowShown, PairRefused, RowRefused, AllRefused};
 
 use crate::directed::{Directed, direct_at_once, direct_kinds};
 use crate::draft::{Draft, Means};
 use crate::fault::AuditNo;
 use crate::marking::need_means;
+use crate::packed::Packed;
 use hq_derive::Needs;
 use hq_fence::{Acquire, Release, Shown};
 use hq_footprint::Kinds;
+use hq_model::PACKETS;
 use hq_order::Before;
 use hq_parts::Parts;
 use std::alloc::{AllocError, Global};
+use std::mem;
+
+/// How many drafts a list may have.
+const ROOM: usize = 16_384;
+
+/// A list is full where there may be no room in it for those of one more packet: three with each other packet.
+const FULL: usize = ROOM - 3 * PACKETS;
 
 /// Drafts of the pair lines of some packets, and which lines these need.
 #[derive(Drop)]
 pub struct Drafts {
-    pub drafts: Vec<Draft>,
+    /// Full lists, one behind another.
+    pub full: Vec<Vec<Packed>>,
+    /// The list behind them, to which drafts are added.
+    pub last: Vec<Packed>,
     pub needs: Needs,
     /// Whether one is chained.
     pub chained: bool,
@@ -35,11 +48,12 @@ impl Drafts {
     /// No drafts.
     pub fn new(alloc: Global, before: &Before) -> Result<Drafts, AllocError>
         ensures are { IfOk result (AreDrafts before.now) }
-        ensures empty { IfOk result (λ drafts. drafts.drafts.items ≡ []) }
+        ensures empty { IfOk result (λ drafts. drafts_of drafts ≡ []) }
     {
         let needs = Needs::new(alloc, before)?;
         Ok(Drafts {
-            drafts: Vec::new(alloc),
+            full: Vec::new(alloc),
+            last: Vec::new(alloc),
             needs,
             chained: false,
         })
@@ -51,9 +65,9 @@ impl Drafts {
         requires are { AreDrafts before.now self.old }
         requires p_is { IsPacket before.now p }
         requires r_is { IsPacket before.now r }
-        requires order { Order before.now p r means }
+        requires order { OrderedBy before.now p r means }
         ensures goes { OnOk result (DraftsGo before.now self.old self.new) }
-        ensures has { OnOk result (HasDraft self.new.drafts.items p r (kind_by means)) }
+        ensures has { OnOk result (HasDraft (drafts_of self.new) p r (kind_by means)) }
     {
         before.job().valid();
         need_means(&mut self.needs, before, p, r, means);
@@ -63,7 +77,7 @@ impl Drafts {
             r: r as u16,
             means,
         };
-        self.drafts.push(draft)?;
+        self.last.push(Packed::new(draft))?;
         Ok(())
     }
 
@@ -82,7 +96,7 @@ impl Drafts {
         requires fences { IfSome fences (ReleasesToAcquire before.now p r) }
         ensures goes { OnOk result (DraftsGo before.now self.old self.new) }
         ensures has { OnOk result
-            (IsSome fences → HasDraft self.new.drafts.items p r model.Conflict.WriteRead) }
+            (IsSome fences → HasDraft (drafts_of self.new) p r model.Conflict.WriteRead) }
     {
         if let Some((release, acquire)) = fences {
             self.push(before, p, r, Means::WriteRead(release, acquire))?;
@@ -105,7 +119,7 @@ impl Drafts {
         requires release { IfSome release (ReleasesBefore before.now p r) }
         ensures goes { OnOk result (DraftsGo before.now self.old self.new) }
         ensures has { OnOk result
-            (IsSome release → HasDraft self.new.drafts.items p r model.Conflict.WriteWrite) }
+            (IsSome release → HasDraft (drafts_of self.new) p r model.Conflict.WriteWrite) }
     {
         if let Some(release) = release {
             self.push(before, p, r, Means::WriteWrite(release))?;
@@ -128,7 +142,7 @@ impl Drafts {
         requires before { IsTrue there → order.Before before.now p r }
         ensures goes { OnOk result (DraftsGo before.now self.old self.new) }
         ensures has { OnOk result
-            (IsTrue there → HasDraft self.new.drafts.items p r model.Conflict.ReadWrite) }
+            (IsTrue there → HasDraft (drafts_of self.new) p r model.Conflict.ReadWrite) }
     {
         if there {
             self.push(before, p, r, Means::ReadWrite)?;
@@ -144,7 +158,7 @@ impl Drafts {
         requires r_is { IsPacket before.now direction.second }
         requires shows { Shows before.now direction.first direction.second direction.shown }
         ensures goes { OnOk result (DraftsGo before.now self.old self.new) }
-        ensures has { OnOk result (HasAll before.now self.new.drafts.items direction.first direction.second) }
+        ensures has { OnOk result (HasAll before.now (drafts_of self.new) direction.first direction.second) }
     {
         let (p, r, shown) = (direction.first, direction.second, direction.shown);
         self.add_write_read(before, p, r, shown.wr)?;
@@ -167,7 +181,7 @@ impl Drafts {
         requires kinds { HasConflicts before.now a b kinds }
         ensures goes { OnOk result (DraftsGo before.now self.old self.new) }
         ensures has { OnOk result
-            (HasAll before.now self.new.drafts.items a b ⊎ HasAll before.now self.new.drafts.items b a) }
+            (HasAll before.now (drafts_of self.new) a b ⊎ HasAll before.now (drafts_of self.new) b a) }
         ensures shown { OnOk result (ShownOneWay before.now a b) }
         ensures refused { IfErr result (PairRefused before.now a b) }
     {
@@ -184,7 +198,7 @@ impl Drafts {
         requires b_is { IsPacket before.now b }
         ensures goes { OnOk result (DraftsGo before.now self.old self.new) }
         ensures has { OnOk result
-            (HasAll before.now self.new.drafts.items a b ⊎ HasAll before.now self.new.drafts.items b a) }
+            (HasAll before.now (drafts_of self.new) a b ⊎ HasAll before.now (drafts_of self.new) b a) }
         ensures shown { OnOk result (ShownOneWay before.now a b) }
         ensures refused { IfErr result (PairRefused before.now a b) }
     {
@@ -196,13 +210,28 @@ impl Drafts {
         Ok(())
     }
 
-    /// Adds the drafts of a with the packets above it.
-    pub fn add_row(&mut self, before: &Before, parts: &Parts, a: usize) -> Result<(), AuditNo>
+    /// Has the next drafts go to a list of their own, where the last one is full.
+    fn turn(&mut self, alloc: Global, before: &Before) -> Result<(), AllocError>
+        requires { AreDrafts before.now self.old }
+        ensures { OnOk result (DraftsGo before.now self.old self.new) }
+    {
+        if self.last.len() < FULL {
+            return Ok(());
+        }
+        self.last.shrink_to_fit();
+        let next = Vec::with_capacity(alloc, ROOM)?;
+        let last = mem::replace(&mut self.last, next);
+        self.full.push(last)?;
+        Ok(())
+    }
+
+    /// Adds the drafts of a with the packets above it to the last list.
+    fn add_others(&mut self, before: &Before, parts: &Parts, a: usize) -> Result<(), AuditNo>
         requires are { AreDrafts before.now self.old }
         requires parts { AreParts before.now parts.now }
         requires a_is { IsPacket before.now a }
         ensures goes { OnOk result (DraftsGo before.now self.old self.new) }
-        ensures paired { OnOk result (RowPaired before.now self.new.drafts.items a (length before.now.packets)) }
+        ensures paired { OnOk result (RowPaired before.now (drafts_of self.new) a (length before.now.packets)) }
         ensures shown { OnOk result (RowShown before.now a (length before.now.packets)) }
         ensures refused { IfErr result (RowRefused before.now a) }
     {
@@ -216,19 +245,66 @@ impl Drafts {
         }
         Ok(())
     }
+
+    /// Adds the drafts of a with the packets above it.
+    pub fn add_row(
+        &mut self,
+        alloc: Global,
+        before: &Before,
+        parts: &Parts,
+        a: usize,
+    ) -> Result<(), AuditNo>
+        requires are { AreDrafts before.now self.old }
+        requires parts { AreParts before.now parts.now }
+        requires a_is { IsPacket before.now a }
+        ensures goes { OnOk result (DraftsGo before.now self.old self.new) }
+        ensures paired { OnOk result (RowPaired before.now (drafts_of self.new) a (length before.now.packets)) }
+        ensures shown { OnOk result (RowShown before.now a (length before.now.packets)) }
+        ensures refused { IfErr result (RowRefused before.now a) }
+    {
+        self.turn(alloc, before)?;
+        self.add_others(before, parts, a)
+    }
+
+    /// Takes over the drafts of others, and what these need; the drafts stand behind those that are there.
+    pub fn join(
+        &mut self,
+        alloc: Global,
+        before: &Before,
+        others: &mut Drafts,
+    ) -> Result<(), AllocError>
+        requires are { AreDrafts before.now self.old }
+        requires others { AreDrafts before.now others.old }
+        ensures { OnOk result (DraftsJoin before.now self.old others.old self.new) }
+    {
+        self.needs.take_in(before, &others.needs);
+        self.chained |= others.chained;
+        let next = mem::replace(&mut others.last, Vec::new(alloc));
+        let last = mem::replace(&mut self.last, next);
+        self.full.push(last)?;
+        self.full.append(&mut others.full)?;
+        Ok(())
+    }
+
+    /// The lists of drafts.
+    pub fn into_lists(self) -> Result<Vec<Vec<Packed>>, AllocError>
+        ensures { IfOk result (λ lists. listed lists.items ≡ drafts_of self) }
+    {
+        let Drafts { mut full, last, .. } = self;
+        full.push(last)?;
+        Ok(full)
+    }
 }
 
 /// The drafts of all packets. The error is the first two packets that aren't ordered, or that there is no memory.
 pub fn draft_all(alloc: Global, before: &Before, parts: &Parts) -> Result<Drafts, AuditNo>
     requires parts { AreParts before.now parts.now }
-    ensures are { IfOk result (AreDrafts before.now) }
-    ensures paired { IfOk result (λ drafts. AllPaired before.now drafts.drafts.items) }
-    ensures shown { IfOk result (λ _. AllShown before.now) }
+    ensures all { IfOk result (DraftsAll before.now) }
     ensures refused { IfErr result (AllRefused before.now) }
 {
     let mut drafts = Drafts::new(alloc, before)?;
     for a in 0..before.len() {
-        drafts.add_row(before, parts, a)?;
+        drafts.add_row(alloc, before, parts, a)?;
     }
     Ok(drafts)
 }

@@ -4,8 +4,8 @@
 //! fences, in one direction. `audit` gives such a job a certificate that says so, line by line, and so can be
 //! checked by itself; of any other job it says which packets can never complete, or which conflict of which packets
 //! isn't ordered, and why. `find` answers the same with an `Audited` in place of the certificate, which hands out one
-//! pair line behind another and takes less memory. `verdict` says whether there is a certificate, and `all_shown` says
-//! it of a job whose order is worked out.
+//! pair line behind another and takes less memory; `audit_wide` and `find_wide` judge pairs in many threads. `verdict`
+//! says whether there is a certificate, and `all_shown` says it of a job whose order is worked out.
 #![tactic(auto)]
 
 mod audited;
@@ -17,6 +17,7 @@ mod drafting;
 mod fault;
 pub mod laws;
 mod marking;
+mod packed;
 mod spreading;
 mod verdicts;
 mod wide;
@@ -26,4 +27,4 @@ pub use auditing::{audit, find};
 pub use directed::{Directed, Unshown, direct};
 pub use fault::AuditNo;
 pub use verdicts::{all_shown, verdict};
-pub use wide::audit_wide;
+pub use wide::{audit_wide, find_wide};

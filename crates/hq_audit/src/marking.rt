@@ -4,7 +4,7 @@ ghost use Rattle.std.specs.Prelude.{◌≡◌};
 ghost use Rattle.hq_model.specs.Job.{IsPacket};
 ghost use Rattle.hq_fence.specs.Judgement.{IsRelease, IsAcquire, end_of, first_of};
 ghost use Rattle.hq_derive.specs.Needed.{HasRoom, IsNeeded, Widens};
-ghost use Rattle.hq_audit.specs.Drafted.{Order, Upto, ReleaseRests, AcquireRests, Rests};
+ghost use Rattle.hq_audit.specs.Drafted.{OrderedBy, Upto, KnownForRelease, KnownForAcquire, KnownFor};
 
 use crate::draft::Means;
 use hq_derive::Needs;
@@ -31,7 +31,7 @@ fn need_release(needs: &mut Needs, before: &Before, p: usize, r: usize, release:
     requires room { HasRoom before.now needs.old }
     requires p_is { IsPacket before.now p }
     requires release { IsRelease before.now p r release }
-    ensures needed { ReleaseRests (IsNeeded needs.new) p release }
+    ensures needed { KnownForRelease (IsNeeded needs.new) p release }
     ensures widens { Widens before.now needs.old needs.new }
     ensures last { result ≡ end_of release }
     ensures last_is { IsPacket before.now result }
@@ -55,7 +55,7 @@ fn need_acquire(needs: &mut Needs, before: &Before, p: usize, r: usize, acquire:
     requires room { HasRoom before.now needs.old }
     requires r_is { IsPacket before.now r }
     requires acquire { IsAcquire before.now p r acquire }
-    ensures needed { AcquireRests (IsNeeded needs.new) r acquire }
+    ensures needed { KnownForAcquire (IsNeeded needs.new) r acquire }
     ensures widens { Widens before.now needs.old needs.new }
     ensures first { result ≡ first_of acquire }
     ensures first_is { IsPacket before.now result }
@@ -79,8 +79,8 @@ pub fn need_means(needs: &mut Needs, before: &Before, p: usize, r: usize, means:
     requires room { HasRoom before.now needs.old }
     requires p_is { IsPacket before.now p }
     requires r_is { IsPacket before.now r }
-    requires order { Order before.now p r means }
-    ensures needed { Rests (IsNeeded needs.new) p r means }
+    requires order { OrderedBy before.now p r means }
+    ensures needed { KnownFor (IsNeeded needs.new) p r means }
     ensures widens { Widens before.now needs.old needs.new }
 {
     match means {

@@ -1,18 +1,12 @@
-//! Drafts as pairs are judged in many threads, and their pair lines.
+//! Drafts as pairs are judged in many threads.
 
-ghost use Rattle.std.specs.Prelude.{◌≡◌, ◌+◌, ◌*◌, ◌<◌, IfOk, IfSome, length};
+ghost use Rattle.std.specs.Prelude.{◌≡◌, ◌+◌, ◌*◌, ◌<◌, IfOk, IfSome, IsTrue, length};
 ghost use Rattle.hq_parts.specs.Parts.{AreParts};
-ghost use Rattle.hq_derive.specs.Gathered.{lines_of, AreSound};
-ghost use Rattle.hq_derive.specs.Needed.{HasRoom};
 ghost use Rattle.hq_audit.specs.Drafted.{AreDrafts};
-ghost use Rattle.hq_audit.specs.Paired.{pairs_of, ArePairsOf};
-ghost use Rattle.hq_audit.specs.Rowed.{DraftsRows, MayDraft, AllMayDraft, IsWhole, AllMayCite, CitesPart};
+ghost use Rattle.hq_audit.specs.Rowed.{DraftsRows, DraftsUpto, DraftsAll, MayDraft, AllMayDraft, IsWhole};
 
-use crate::citing::cite_all;
 use crate::drafting::Drafts;
 use crate::fault::AuditNo;
-use hq_cert::Pair;
-use hq_derive::{Lines, Needs};
 use hq_model::PACKETS;
 use hq_order::Before;
 use hq_parts::Parts;
@@ -37,7 +31,7 @@ fn draft_rows(
 {
     let mut drafts = Drafts::new(alloc, before)?;
     for a in from..to.min(before.len()) {
-        drafts.add_row(before, parts, a)?;
+        drafts.add_row(alloc, before, parts, a)?;
     }
     Ok(drafts)
 }
@@ -82,97 +76,48 @@ fn draft_parts<R: Threads + Sync>(
     }
 }
 
-/// Takes in which lines all parts need.
-fn take_all(needs: &mut Needs, before: &Before, drafted: &[Option<Drafts>])
-    requires { HasRoom before.now needs.old }
-    ensures { HasRoom before.now needs.new }
+/// No drafts yet, if there is memory for them.
+fn no_drafts(alloc: Global, before: &Before) -> Option<Drafts>
+    ensures { IfSome result (AreDrafts before.now) }
 {
-    for part in drafted {
-        if let Some(drafts) = part {
-            needs.take_in(before, &drafts.needs);
-        }
+    match Drafts::new(alloc, before) {
+        Ok(drafts) => Some(drafts),
+        Err(_) => None,
     }
 }
 
-/// The drafts of all packets, part by part, unless a pair isn't ordered or there is no memory; notes which lines they
-/// need.
+/// Takes over the drafts of all parts, one part behind another; answers whether all are there.
+fn join(alloc: Global, all: &mut Drafts, before: &Before, parts: &mut [Option<Drafts>]) -> bool
+    requires parts { AllMayDraft before.now parts.old }
+    requires are { AreDrafts before.now all.old }
+    ensures { IsTrue result → DraftsUpto before.now (length parts.old * 64) all.new }
+{
+    for part in parts.iter_mut() {
+        let Some(drafts) = part else {
+            return false;
+        };
+        let Ok(()) = all.join(alloc, before, drafts) else {
+            return false;
+        };
+    }
+    true
+}
+
+/// The drafts of all packets, unless a pair isn't ordered or there is no memory.
 pub fn draft_wide<R: Threads + Sync>(
     rt: &R,
-    needs: &mut Needs,
     alloc: Global,
     before: &Before,
     parts: &Parts,
-) -> Option<Vec<Option<Drafts>>>
-    requires parts { AreParts before.now parts.now }
-    requires room { HasRoom before.now needs.old }
-    ensures room { HasRoom before.now needs.new }
-    ensures each { IfSome result (λ all. AllMayDraft before.now all.items) }
-    ensures whole { IfSome result (λ all. IsWhole before.now (length all.items)) }
+) -> Option<Drafts>
+    requires { AreParts before.now parts.now }
+    ensures { IfSome result (DraftsAll before.now) }
 {
-    let drafted = draft_parts(rt, alloc, before, parts)?;
-    if drafted.iter().any(|part| part.is_none()) {
-        return None;
-    }
-    take_all(needs, before, &drafted);
-    Some(drafted)
-}
-
-/// The pair lines of drafts, if there is memory for them.
-fn cite_drafts(alloc: Global, lines: &Lines, before: &Before, drafts: &Drafts) -> Option<Vec<Pair>>
-    requires sound { AreSound before.now lines.now }
-    requires are { AreDrafts before.now drafts.now }
-    ensures { IfSome result
-        (λ pairs. ArePairsOf before.now (lines_of lines.now) drafts.now.drafts.items (pairs_of pairs)) }
-{
-    if !lines.has_all(before, &drafts.needs) {
-        return None;
-    }
-    match cite_all(alloc, lines, before.job(), &drafts.drafts) {
-        Ok(pairs) => Some(pairs),
-        Err(_) => None,
-    }
-}
-
-/// Those of a part, if it is there.
-fn cite_part(
-    alloc: Global,
-    lines: &Lines,
-    before: &Before,
-    part: Option<Drafts>,
-) -> Option<Vec<Pair>>
-    requires sound { AreSound before.now lines.now }
-    requires drafts { IfSome part (AreDrafts before.now) }
-    ensures { CitesPart before.now (lines_of lines.now) part result }
-{
-    match part {
-        Some(drafts) => cite_drafts(alloc, lines, before, &drafts),
-        None => None,
-    }
-}
-
-/// Those of each part, which a thread of its own makes.
-pub fn cite_wide<R: Threads + Sync>(
-    rt: &R,
-    alloc: Global,
-    lines: &Lines,
-    before: &Before,
-    parts: Vec<Option<Drafts>>,
-) -> Option<Vec<Option<Vec<Pair>>>>
-    requires sound { AreSound before.now lines.now }
-    requires drafts { AllMayDraft before.now parts.items }
-    ensures each { IfSome result (λ all. AllMayCite before.now (lines_of lines.now) all.items) }
-    ensures count { IfSome result (λ all. length all.items ≡ length parts.items) }
-{
-    let cited = thread::map_vec(
-        rt,
-        parts,
-        &|part: Option<Drafts>| -> Option<Vec<Pair>>
-            requires { AreSound before.now lines.now × IfSome part (AreDrafts before.now) }
-            ensures { CitesPart before.entry.now (lines_of lines.entry.now) part result }
-        { cite_part(alloc, lines, before, part) },
-    );
-    match cited {
-        Ok(cited) => Some(cited),
-        Err(_) => None,
+    let mut drafted = draft_parts(rt, alloc, before, parts)?;
+    let mut all = no_drafts(alloc, before)?;
+    if join(alloc, &mut all, before, &mut drafted) {
+        Some(all)
+    } else {
+        None
     }
 }

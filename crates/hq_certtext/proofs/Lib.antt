@@ -2,4 +2,3 @@ pub mod Puts
 pub mod Split
 pub mod Holds
 pub mod Placed
-pub mod Parting

@@ -54,6 +54,11 @@ nothing_left None v t k = tt
 nothing_left (Some xs) None t k = absurd k
 nothing_left (Some xs) (Some ys) t k = sym (append-nil ys) ∙ k
 
+-- nothing was put
+pub nothing_put : (w : Option (List ℕ)) → Appends w (append_known w []) []
+nothing_put None = tt
+nothing_put (Some xs) = refl
+
 pub all_gone : (u v w : Option (List ℕ)) (a b s t : List ℕ) (i : ℕ) → Appends u (append_known v (take i a)) s → Gains v a i w b 0 t → Appends u w (s ++ t)
 all_gone u v w a b s t i h g = nothing_left u w (s ++ t) (appends_both u (append_known v (take i a)) (append_known w []) s t h g.gained)
 

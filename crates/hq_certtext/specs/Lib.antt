@@ -2,5 +2,4 @@ pub mod Grammar
 pub mod Printed
 pub mod Rows
 pub mod Gains
-pub mod Parted
 pub mod Printing

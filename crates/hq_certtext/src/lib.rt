@@ -1,7 +1,7 @@
 //! The texts of certificates: their grammar, and how they are printed.
 //!
 //! The grammar says which lines spell which certificate, and which certificates have a text. `print` writes it by
-//! way of a buffer, `print_wide` by parts that many threads get ready, and a `Printer` line by line.
+//! way of a buffer, and a `Printer` line by line.
 #![tactic(auto)]
 
 pub mod laws;
@@ -9,8 +9,6 @@ mod placing;
 mod printer;
 mod printing;
 mod rows;
-mod wide;
 
 pub use printer::Printer;
 pub use printing::{PrintFault, WriterFailed, print};
-pub use wide::print_wide;

@@ -1,11 +1,11 @@
 //! Certificates to texts.
 
-ghost use Rattle.std.specs.Prelude.{◌≡◌, ◌+◌, ◌^◌, ◌<◌, ◌≤◌, ◌∷◌, [], ◌++◌, map, IfOk, OnOk, Err, length, codes};
+ghost use Rattle.std.specs.Prelude.{◌≡◌, ◌+◌, ◌≤◌, ◌∷◌, [], ◌++◌, map, IfOk, OnOk, Err, length, codes};
 ghost use Rattle.std.specs.Fmt.{decimal};
 ghost use Rattle.std.specs.List.{list_any};
 ghost use Rattle.std.specs.Io.KnownBytes.{Appends};
 ghost use Rattle.hq_certtext.specs.Grammar.{CertText, CertificateFits, citation_word, rule_words, head_words};
-ghost use Rattle.hq_certtext.specs.Grammar.{order_words, lines_words, pair_words};
+ghost use Rattle.hq_certtext.specs.Grammar.{order_words, line_words, lines_words, pair_words};
 ghost use Rattle.hq_text.specs.Lines.{lines_of};
 ghost use Rattle.hq_text.specs.Printed.{spaced, line_text, lines_text};
 ghost use Rattle.hq_certtext.specs.Printed.{is_chain, has_chain, text_of};
@@ -37,7 +37,7 @@ fn is_chain(fences: &Fences) -> bool
 }
 
 /// Whether a chained pair line is there.
-pub fn has_chain(pairs: &[Pair]) -> bool
+fn has_chain(pairs: &[Pair]) -> bool
     ensures { result ≡ list_any (λ pair. is_chain (pair_of pair).fences) pairs.now }
 {
     pairs.iter().any(|pair| is_chain(&pair.fences))
@@ -51,7 +51,7 @@ pub struct WriterFailed;
 /// Writes what was put. Answers where the next text goes.
 #[cold]
 #[inline(never)]
-pub fn spill<W: Write>(bytes: &[u8], at: usize, writer: &mut W) -> Result<usize, WriterFailed>
+fn spill<W: Write>(bytes: &[u8], at: usize, writer: &mut W) -> Result<usize, WriterFailed>
     requires { at ≤ length bytes.now }
     ensures written { IfOk result
         (λ next. Gains (W.contents writer.old) bytes.now at (W.contents writer.new) bytes.now next []) }
@@ -172,29 +172,47 @@ fn write_rule<W: Write>(
     }
 }
 
-/// Lines, of which the first has this number.
-pub fn write_lines<W: Write>(
+/// Line k.
+#[inline(always)]
+pub fn write_line<W: Write>(
     bytes: &mut [u8],
     start: usize,
     rows: &Rows,
-    first: usize,
+    k: usize,
+    line: &Line,
+    writer: &mut W,
+) -> Result<usize, WriterFailed>
+    requires within { start ≤ length bytes.old }
+    requires long { 256 ≤ length bytes.old }
+    ensures written { IfOk result
+        (λ end. Gains (W.contents writer.old) bytes.old start (W.contents writer.new) bytes.new end
+        (line_text (line_words k (line_of line.now)))) }
+    ensures within { IfOk result (λ end. end ≤ length bytes.new) }
+{
+    let at = make_room(bytes, start, writer)?;
+    let at = put_line(bytes, at, rows, k, line);
+    let at = write_rule(bytes, at, rows, &line.rule, writer)?;
+    Ok(put(bytes, at, b"\n"))
+}
+
+/// Lines.
+fn write_lines<W: Write>(
+    bytes: &mut [u8],
+    start: usize,
+    rows: &Rows,
     lines: &[Line],
     writer: &mut W,
 ) -> Result<usize, WriterFailed>
     requires within { start ≤ length bytes.old }
     requires long { 256 ≤ length bytes.old }
-    requires few { first + length lines.now < 2 ^ 64 }
     ensures written { IfOk result
         (λ end. Gains (W.contents writer.old) bytes.old start (W.contents writer.new) bytes.new end
-        (lines_text (lines_words first (map line_of lines.now)))) }
+        (lines_text (lines_words 0 (map line_of lines.now)))) }
     ensures within { IfOk result (λ end. end ≤ length bytes.new) }
 {
     let mut at = start;
     for (k, line) in lines.iter().enumerate() {
-        at = make_room(bytes, at, writer)?;
-        at = put_line(bytes, at, rows, first + k, line);
-        at = write_rule(bytes, at, rows, &line.rule, writer)?;
-        at = put(bytes, at, b"\n");
+        at = write_line(bytes, at, rows, k, line, writer)?;
     }
     Ok(at)
 }
@@ -220,7 +238,7 @@ pub fn write_pair<W: Write>(
 }
 
 /// Pair lines.
-pub fn write_pairs<W: Write>(
+fn write_pairs<W: Write>(
     bytes: &mut [u8],
     start: usize,
     rows: &Rows,
@@ -244,18 +262,21 @@ pub fn write_pairs<W: Write>(
 /// The first line and the order.
 pub fn write_order<W: Write>(
     bytes: &mut [u8],
+    start: usize,
     rows: &Rows,
     chained: bool,
     order: &[u32],
     writer: &mut W,
 ) -> Result<usize, WriterFailed>
-    requires { 256 ≤ length bytes.old }
+    requires within { start ≤ length bytes.old }
+    requires long { 256 ≤ length bytes.old }
     ensures written { IfOk result
-        (λ end. Gains (W.contents writer.old) bytes.old 0 (W.contents writer.new) bytes.new end
+        (λ end. Gains (W.contents writer.old) bytes.old start (W.contents writer.new) bytes.new end
         (line_text (head_words chained) ++ line_text (order_words order.now))) }
     ensures within { IfOk result (λ end. end ≤ length bytes.new) }
 {
-    let at = put_head(bytes, 0, chained);
+    let at = make_room(bytes, start, writer)?;
+    let at = put_head(bytes, at, chained);
     let at = put(bytes, at, b"order");
     let at = write_numbers(bytes, at, rows, order, writer)?;
     let at = make_room(bytes, at, writer)?;
@@ -286,8 +307,8 @@ fn write_text<W: Write>(
     ensures { OnOk result (Appends (W.contents writer.old) (W.contents writer.new) (text_of certificate.now)) }
 {
     let chained = has_chain(certificate.pairs());
-    let at = write_order(bytes, rows, chained, certificate.order(), writer)?;
-    let at = write_lines(bytes, at, rows, 0, certificate.lines(), writer)?;
+    let at = write_order(bytes, 0, rows, chained, certificate.order(), writer)?;
+    let at = write_lines(bytes, at, rows, certificate.lines(), writer)?;
     let at = write_pairs(bytes, at, rows, certificate.pairs(), writer)?;
     write_end(bytes, at, writer)
 }
@@ -302,7 +323,7 @@ pub enum PrintFault {
 }
 
 /// A buffer for texts.
-pub fn buffer(alloc: Global) -> Result<Vec<u8>, AllocError>
+fn buffer(alloc: Global) -> Result<Vec<u8>, AllocError>
     ensures { IfOk result (λ bytes. length bytes.items ≡ 32768) }
 {
     vec![in alloc; 0; ROOM]

@@ -1,7 +1,7 @@
 //! The commands that judge, on files.
 
 use hq_front::{opened, opened_both};
-use hq_judging::{audit_engine, check_engine};
+use hq_judging::{audit_wide_engine, check_engine};
 use hq_showing::{pack_engine, show_engine};
 use hq_status::Status;
 use hq_words::Asked;
@@ -15,9 +15,14 @@ fn show<W: Write>(rt: &HostRuntime, job: &str, writer: &mut W) -> Status {
     }
 }
 
-fn audit<W: Write>(rt: &HostRuntime, job: &str, writer: &mut W) -> Status {
+fn audit<W: Write>(
+    rt: &HostRuntime,
+    threads: &(impl Threads + Sync),
+    job: &str,
+    writer: &mut W,
+) -> Status {
     match opened(rt, job, writer) {
-        Ok(mut input) => audit_engine(rt.alloc(), &mut input, writer),
+        Ok(mut input) => audit_wide_engine(threads, rt.alloc(), &mut input, writer),
         Err(status) => status,
     }
 }
@@ -47,7 +52,7 @@ pub fn judged<W: Write>(
     match asked {
         Asked::Show { job } => Some(show(rt, job, writer)),
         Asked::Pack { words } => Some(pack_engine(rt.alloc(), words, writer)),
-        Asked::Audit { job } => Some(audit(rt, job, writer)),
+        Asked::Audit { job } => Some(audit(rt, threads, job, writer)),
         Asked::Check { job, certificate } => Some(check(rt, threads, job, certificate, writer)),
         _ => None,
     }

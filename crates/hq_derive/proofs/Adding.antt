@@ -1,12 +1,10 @@
 -- A line is added.
-use Rattle.std.proofs.Common.{◌≡◌, ℕ, ◌+◌, ◌-◌, ◌^◌, ◌<◌, inl, inr, List, [], ◌∷◌, ◌++◌, length, refl, sym, ◌∙◌, ap, subst, arith, Some, map, slice_get, slice_index_or, length-append}
+use Rattle.std.proofs.Common.{◌≡◌, ℕ, ◌+◌, ◌-◌, ◌^◌, ◌<◌, inl, inr, List, [], ◌∷◌, ◌++◌, length, refl, sym, ◌∙◌, ap, subst, arith, Some, slice_get, slice_index_or, length-append}
 use Rattle.std.proofs.lemmas.Bool.{cases_lt}
-use Rattle.std.proofs.lemmas.List.{length-map, map-append}
 use Rattle.std.proofs.lemmas.Option.{slice_get_within, same_Some}
 use Rattle.hq_job.proofs.Grouped.{get_before, get_after}
-use Rattle.hq_cert.specs.declared.certificate.Line.{Line}
 use Rattle.hq_cert.specs.declared.certificate.Rule.{Rule}
-use Rattle.hq_cert.specs.View.{rule_of, line_of}
+use Rattle.hq_cert.specs.View.{rule_of}
 use Rattle.hq_model.specs.Job.{Job, IsPacket}
 use Rattle.hq_model.specs.Certificate as model
 use Rattle.hq_model.specs.Certificate.{Says, Follows}
@@ -86,23 +84,16 @@ numbered_added job old new p r rule k kept a b f added small = record {
 pub numbered_from : (job : Job) (a b c : Lines) (p r k : ℕ) → Goes job a b → Numbered job b c p r k → Numbered job a c p r k
 numbered_from job a b c p r k g n = record { goes = goes_more job a b c g n.goes; says = n.says; small = n.small }
 
--- ---- a line of the code's is pushed
+-- ---- a line is pushed
 
-lines_pushed : (old new : List Line) (x : Line) → new ≡ old ++ x ∷ [] → map line_of new ≡ map line_of old ++ line_of x ∷ []
-lines_pushed old new x e = ap (map line_of) e ∙ map-append line_of old (x ∷ [])
+pub says_pushed : (old new : List model.Line) (x : model.Line) (k : ℕ) → new ≡ old ++ x ∷ [] → k ≡ length old → Says new (length new) k x.p x.r
+says_pushed old new x k e at = record {
+  lower = omega (arith, ap length e, length-append old (x ∷ []), at);
+  line = x;
+  there = ap (λ ls. slice_get ls k) e ∙ ap (slice_get (old ++ x ∷ [])) at ∙ last_there old x;
+  first = refl;
+  second = refl;
+}
 
-pub says_pushed : (old new : List Line) (x : Line) (k : ℕ) → new ≡ old ++ x ∷ [] → k ≡ length old → Says (map line_of new) (length (map line_of new)) k x.p x.r
-says_pushed old new x k e n =
-    let lines = map line_of old in
-    let more = lines_pushed old new x e in
-    let at : k ≡ length lines = n ∙ sym (length-map old line_of) in
-    record {
-      lower = omega (arith, ap length more, length-append lines (line_of x ∷ []), at);
-      line = line_of x;
-      there = ap (λ ls. slice_get ls k) more ∙ ap (slice_get (lines ++ line_of x ∷ [])) at ∙ last_there lines (line_of x);
-      first = refl;
-      second = refl;
-    }
-
-pub entered_pushed : (old new : List Line) (x : Line) (entries : List Entry) → new ≡ old ++ x ∷ [] → All (EntrySays (map line_of old)) entries → All (EntrySays (map line_of new)) entries
-entered_pushed old new x entries e all = entered_more (map line_of old) (map line_of new) entries (subst (Grown (map line_of old)) (sym (lines_pushed old new x e)) (grown_by (map line_of old) (line_of x ∷ []))) all
+pub entered_pushed : (old new : List model.Line) (x : model.Line) (entries : List Entry) → new ≡ old ++ x ∷ [] → All (EntrySays old) entries → All (EntrySays new) entries
+entered_pushed old new x entries e all = entered_more old new entries (subst (Grown old) (sym e) (grown_by old (x ∷ []))) all

@@ -3,3 +3,4 @@ pub mod Growing
 pub mod Adding
 pub mod Branching
 pub mod Noting
+pub mod Storing

@@ -1,16 +1,15 @@
 -- Lines are noted as needed.
-use Rattle.std.proofs.Common.{◌≡◌, ℕ, ◌+◌, ◌*◌, ◌/◌, ◌%◌, ◌^◌, ◌<◌, inr, List, length, refl, sym, ◌∙◌, ap, subst, arith, IsTrue, ◌||◌, ◌&&◌, ◌==◌, slice_index, slice_index_or, slice_get, slice_set, bit_or, map, Some}
+use Rattle.std.proofs.Common.{◌≡◌, ℕ, ◌+◌, ◌*◌, ◌/◌, ◌%◌, ◌^◌, ◌<◌, inr, List, length, refl, sym, ◌∙◌, ap, subst, arith, IsTrue, Bool, true, false, not, ◌||◌, ◌&&◌, ◌==◌, slice_index, slice_get, slice_set, bit_or, Some, take, drop, ◌++◌, append-nil}
 use Rattle.std.specs.Int.{bit_at}
-use Rattle.std.specs.Option.{option_map}
-use Rattle.std.proofs.lemmas.List.{length-map}
-use Rattle.std.proofs.lemmas.Option.{same_Some, slice_get-map, slice_get-get_or}
+use Rattle.std.proofs.lemmas.Bool.{eq-eqb, eqb-true}
+use Rattle.std.proofs.lemmas.List.{take_all, drop_all}
+use Rattle.std.proofs.lemmas.Nat.Bits.{bit_at-zero}
+use Rattle.std.proofs.lemmas.Option.{same_Some}
 use Rattle.hq_bits.specs.Bits.{has}
 use Rattle.hq_bits.proofs.Sets.{has_insert, has_word}
 use Rattle.hq_bits.proofs.Words.{or_cases, eq_test}
 use Rattle.hq_model.specs.Certificate as model
 use Rattle.hq_model.specs.Certificate.{Says}
-use Rattle.hq_cert.specs.declared.certificate.Line.{Line}
-use Rattle.hq_cert.specs.View.{line_of}
 use Rattle.hq_derive.specs.declared.needs.Needs.{Needs}
 use Rattle.hq_derive.specs.Needed.{HasLine, AllThere}
 
@@ -38,21 +37,37 @@ all_there needs lines h = λ p r needed.
     let second : n % 1024 ≡ r = omega arith in
     subst (λ x. HasLine lines x r) first (subst (HasLine lines (n / 1024)) second (h n needed.1))
 
--- ---- a line of the code's, where it stands
+-- ---- a line, where it stands
 
-line_there : (items : List Line) (k : ℕ) (x : Line) → k < length items → x ≡ slice_index_or items k x → slice_get (map line_of items) k ≡ Some (line_of x)
-line_there items k x low is = slice_get-map line_of items k ∙ ap (option_map line_of) (slice_get-get_or items k x low) ∙ ap (λ y. Some (line_of y)) (sym is)
-
-pub said_here : (items : List Line) (k p r : ℕ) (x : Line) → k < length items → x ≡ slice_index_or items k x → Says (map line_of items) (length (map line_of items)) k p r → (x.p ≡ p) × (x.r ≡ r)
-said_here items k p r x low is s =
-    let same : line_of x ≡ s.line = same_Some (line_of x) s.line (sym (line_there items k x low is) ∙ s.there) in
+pub said_here : (lines : List model.Line) (k p r : ℕ) (x : model.Line) → slice_get lines k ≡ Some x → Says lines (length lines) k p r → (x.p ≡ p) × (x.r ≡ r)
+said_here lines k p r x is s =
+    let same : x ≡ s.line = same_Some x s.line (sym is ∙ s.there) in
     (ap (λ (l : model.Line). l.p) same ∙ s.first, ap (λ (l : model.Line). l.r) same ∙ s.second)
 
-pub says_here : (items : List Line) (k p r : ℕ) (x : Line) → k < length items → x ≡ slice_index_or items k x → x.p ≡ p → x.r ≡ r → Says (map line_of items) (length (map line_of items)) k p r
-says_here items k p r x low is first second = record {
-  lower = omega (arith, low, length-map items line_of);
-  line = line_of x;
-  there = line_there items k x low is;
+pub says_here : (lines : List model.Line) (k p r : ℕ) (x : model.Line) → k < length lines → slice_get lines k ≡ Some x → x.p ≡ p → x.r ≡ r → Says lines (length lines) k p r
+says_here lines k p r x low is first second = record {
+  lower = low;
+  line = x;
+  there = is;
   first = first;
   second = second;
 }
+
+-- ---- words
+
+-- where nothing of a word is left without another, its bits are the other's
+pub none_left : (word other rest bit : ℕ) → rest ≡ 0 → ((b : ℕ) → (bit_at rest b == 1) ≡ ((bit_at word b == 1) && not (bit_at other b == 1))) → bit_at word bit ≡ 1 → bit_at other bit ≡ 1
+none_left word other rest bit none is one =
+    let gone : (bit_at rest bit == 1) ≡ false = ap (λ r. bit_at r bit == 1) none ∙ ap (λ n. n == 1) (bit_at-zero bit) in
+    let there : (bit_at word bit == 1) ≡ true = eq-eqb (bit_at word bit) 1 one in
+    let both : not (bit_at other bit == 1) ≡ false = sym (ap (λ b. b && not (bit_at other bit == 1)) there) ∙ sym (is bit) ∙ gone in
+    eqb-true (bit_at other bit) 1 (kept (bit_at other bit == 1) both)
+  where
+    kept : (b : Bool) → not b ≡ false → b ≡ true
+    kept true e = refl
+    kept false e = absurd (let f : true ≡ false = e in cc)
+
+-- ---- a vector that was lent as a slice
+
+pub restored : (row items : List ℕ) (len : ℕ) → length row ≡ length items → len ≡ length items → take len (row ++ drop (length row) items) ≡ row
+restored row items len e f = ap (λ t. take len (row ++ t)) (drop_all (length row) items (omega (arith, e))) ∙ ap (take len) (append-nil row) ∙ take_all len row (omega (arith, e, f))

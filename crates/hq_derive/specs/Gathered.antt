@@ -1,10 +1,9 @@
 -- What is known of lines as they are gathered.
-use Rattle.std.specs.Prelude.{◌≡◌, ℕ, ◌+◌, ◌-◌, ◌^◌, ◌<◌, ◌≤◌, List, length, map, Some, slice_get, All}
+use Rattle.std.specs.Prelude.{◌≡◌, ℕ, ◌+◌, ◌-◌, ◌^◌, ◌<◌, ◌≤◌, List, length, Some, slice_get, All}
 use Rattle.std.specs.List.{AllZip}
-use Rattle.hq_cert.specs.declared.certificate.Line.{Line}
 use Rattle.hq_cert.specs.declared.certificate.Rule.{Rule}
 use Rattle.hq_cert.specs.declared.citation.Citation.{Citation}
-use Rattle.hq_cert.specs.View.{cited, rule_of, line_of}
+use Rattle.hq_cert.specs.View.{cited, rule_of}
 use Rattle.hq_model.specs.Job.{Job, Decrements}
 use Rattle.hq_model.specs.declared.limits.TheConstants.{PACKETS}
 use Rattle.hq_model.specs.Certificate as model
@@ -12,13 +11,9 @@ use Rattle.hq_model.specs.Certificate.{Says, Cites, Follows, signals}
 use Rattle.hq_derive.specs.declared.lines.Entry.{Entry}
 use Rattle.hq_derive.specs.declared.lines.Lines.{Lines}
 
--- the lines so far
-abbrev pub items_of : Lines → List Line
-items_of l = l.lines.items
-
--- and as the model has them
+-- the lines so far, as the model has them
 abbrev pub lines_of : Lines → List model.Line
-lines_of l = map line_of (items_of l)
+lines_of l = l.lines
 
 -- Each line follows by its rule from lines of lower number.
 abbrev pub AllFollow : Job → List model.Line → Type 0

@@ -1,3 +1,4 @@
+pub mod Short
 pub mod Rests
 pub mod Derived
 pub mod Gathered

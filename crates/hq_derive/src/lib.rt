@@ -11,9 +11,12 @@ mod grounds;
 mod lines;
 mod needs;
 mod resting;
+mod short;
 mod slots;
+mod store;
 mod there;
 
 pub use gathering::lines_for;
 pub use lines::Lines;
 pub use needs::Needs;
+pub use store::Told;

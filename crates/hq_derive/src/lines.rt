@@ -10,13 +10,15 @@ ghost use Rattle.hq_model.specs.Certificate.{Says, signals};
 ghost use Rattle.hq_model.specs.Order as order;
 ghost use Rattle.hq_order.specs.Rounds.{IsFirstWithin, Reaches, ByOr};
 ghost use Rattle.hq_derive.specs.Rests.{Below, ByMiddle, FollowsAlone};
-ghost use Rattle.hq_derive.specs.Gathered.{items_of, lines_of, AllEntered, AreSound, Numbered, Ruled};
+ghost use Rattle.hq_derive.specs.Gathered.{lines_of, AllEntered, AreSound, Numbered, Ruled};
+ghost use Rattle.hq_derive.specs.Short.{told};
 ghost use Rattle.hq_derive.specs.Gathered.{Branched, AllBranched};
 ghost use Rattle.hq_derive.specs.Needed.{AllThere, HasLine, HasRoom, IsNumber};
 
 use crate::grounds::{Ground, branch_of, ground_of};
 use crate::needs::Needs;
 use crate::slots::Slots;
+use crate::store::{Store, Told};
 use crate::there::are_there;
 use hq_bits::WIDTH;
 use hq_cert::{Branches, Citation, Line, Rule};
@@ -24,7 +26,7 @@ use hq_order::Before;
 use std::alloc::{AllocError, Global};
 
 /// More lines than there can be.
-const LIMIT: usize = 1_048_577;
+const LIMIT: usize = 1_048_576;
 
 /// What stands at the slot of a line: its number, beside what it says, that p is before r.
 #[derive(Clone, Copy, Debug)]
@@ -40,7 +42,7 @@ pub struct Entry {
 pub struct Lines {
     slots: Slots,
     entries: Vec<Entry>,
-    lines: Vec<Line>,
+    lines: Store,
 }
 
 /// What stands at a slot whose line isn't there yet.
@@ -55,9 +57,10 @@ fn no_entry() -> Entry
 }
 
 /// Whether a line says that p is before r.
-fn says(line: &Line, p: usize, r: usize) -> bool
-    ensures { IsTrue result ↔ ((line.now.p ≡ p) × (line.now.r ≡ r)) }
+fn says(one: &Told<'_>, p: usize, r: usize) -> bool
+    ensures { IsTrue result ↔ (((told one.now).p ≡ p) × ((told one.now).r ≡ r)) }
 {
+    let line = one.line();
     line.p as usize == p && line.r as usize == r
 }
 
@@ -92,7 +95,7 @@ impl Lines {
         let slots = Slots::new(alloc, needs)?;
         let room = slots.count();
         let entries = vec![in alloc; no_entry(); room]?;
-        let lines = Vec::with_capacity(alloc, room)?;
+        let lines = Store::new(alloc, room)?;
         Ok(Lines {
             slots,
             entries,
@@ -105,30 +108,56 @@ impl Lines {
         self.slots.word(place)
     }
 
-    /// The lines, by number.
-    pub fn lines(&self) -> &[Line]
-        ensures { map line_of result.now ≡ lines_of self.now }
+    /// How many lines there are.
+    pub fn len(&self) -> usize
+        ensures { result ≡ length (lines_of self.now) }
     {
-        &self.lines
+        self.lines.len()
     }
 
-    /// The same, and nothing else.
-    pub fn into_lines(self) -> Vec<Line>
-        ensures { result.items ≡ items_of self }
+    /// Line k.
+    #[inline(always)]
+    pub fn line(&self, k: usize) -> Told<'_>
+        requires { k < length (lines_of self.now) }
+        ensures { slice_get (lines_of self.now) k ≡ Some (told result) }
     {
-        self.lines
+        self.lines.line(k)
+    }
+
+    /// All lines, and nothing else.
+    ///
+    /// # Errors
+    ///
+    /// `AllocError` where there is no memory.
+    pub fn into_lines(self, alloc: Global) -> Result<Vec<Line>, AllocError>
+        ensures { IfOk result (λ lines. map line_of lines.items ≡ lines_of self) }
+    {
+        self.lines.into_lines(alloc)
+    }
+
+    /// The bits of the needed lines at a place, and the slot of the first of these.
+    pub(crate) fn row(&self, place: usize) -> (u64, usize) {
+        (self.slots.word(place), self.slots.start(place))
+    }
+
+    /// The number of the line at a slot, if it is there and says that p is before r.
+    #[inline(always)]
+    pub(crate) fn at(&self, slot: usize, p: usize, r: usize) -> Option<u32>
+        requires { AllEntered self.now }
+        ensures { MatchOption result (Unit {0}) (IsNumber (lines_of self.now) p r) }
+    {
+        let entry = *self.entries.get(slot)?;
+        entry.number_of(p, r)
     }
 
     /// The number of the line that p is before r, if there is one.
     #[inline(always)]
     pub fn known(&self, p: usize, r: usize) -> Option<u32>
         requires { AllEntered self.now }
-        ensures { MatchOption result (Unit {0})
-            (λ k. Says (lines_of self.now) (length (lines_of self.now)) k p r × (k + 1 < 2 ^ 32)) }
+        ensures { MatchOption result (Unit {0}) (IsNumber (lines_of self.now) p r) }
     {
         let slot = self.slots.slot(p, r)?;
-        let entry = *self.entries.get(slot)?;
-        entry.number_of(p, r)
+        self.at(slot, p, r)
     }
 
     /// Notes the number of the line that p is before r.
@@ -167,12 +196,7 @@ impl Lines {
         if number >= LIMIT {
             return Err(AllocError);
         }
-        let line = Line {
-            p: p as u32,
-            r: r as u32,
-            rule,
-        };
-        self.lines.push(line)?;
+        self.lines.push(p, r, rule)?;
         let number = number as u32;
         self.remember(p, r, number);
         Ok(number)
@@ -227,7 +251,7 @@ impl Lines {
         ensures { IsNumber (lines_of self.now) p r result }
     {
         let mut k = 0;
-        'lines: while !says(&self.lines[k], p, r) {
+        'lines: while !says(&self.lines.line(k), p, r) {
             k += 1;
         }
         k as u32

@@ -5,7 +5,7 @@ ghost use Rattle.hq_bits.specs.Bits.{has};
 ghost use Rattle.hq_model.specs.Job.{IsPacket};
 ghost use Rattle.hq_derive.specs.Needed.{IsNeeded, HasRoom, Widens};
 
-use hq_bits::{WIDTH, WORDS};
+use hq_bits::{WIDTH, WORDS, unite};
 use hq_order::Before;
 use std::alloc::{AllocError, Global};
 
@@ -57,16 +57,14 @@ impl Needs {
         &self.bits
     }
 
-    /// The lines are needed too that others note as needed.
+    /// What others note as needed is needed too.
     pub fn take_in(&mut self, before: &Before, others: &Needs)
-        requires { HasRoom before.now self.old }
-        ensures { HasRoom before.now self.new }
+        requires room { HasRoom before.now self.old }
+        requires others { HasRoom before.now others.now }
+        ensures widens { Widens before.now self.old self.new }
+        ensures taken { Widens before.now others.now self.new }
     {
-        for (place, word) in self.bits.iter_mut().enumerate() {
-            if let Some(more) = others.bits.get(place) {
-                *word |= *more;
-            }
-        }
+        unite(&mut self.bits, &others.bits);
     }
 
     /// The bits at a place, or none where there is no such place.

@@ -45,6 +45,15 @@ impl Slots {
         }
     }
 
+    /// The slot of the first of the needed lines at a place.
+    #[inline(always)]
+    pub fn start(&self, place: usize) -> usize {
+        match self.starts.get(place) {
+            Some(start) => *start as usize,
+            None => 0,
+        }
+    }
+
     /// The slot of the line that p is before r, if one is needed.
     #[inline(always)]
     pub fn slot(&self, p: usize, r: usize) -> Option<usize> {

@@ -1,36 +1,33 @@
--- Pair lines are printed, one behind another, and then they are a certificate's.
-use Rattle.std.proofs.Common.{◌≡◌, ℕ, ◌+◌, ◌<◌, List, [], ◌∷◌, ◌++◌, length, refl, sym, ◌∙◌, ap, subst, arith, Bool, true, false, ◌||◌, Option, slice_index_or, map, codes, append-nil, append_assoc}
-use Rattle.std.specs.List.{list_any}
+-- Lines and pair lines are printed, one behind another, and then they are a certificate's.
+use Rattle.std.proofs.Common.{◌≡◌, ℕ, zero, suc, add-one, ◌+◌, ◌<◌, ◌≤◌, List, [], ◌∷◌, ◌++◌, length, refl, sym, ◌∙◌, ap, subst, arith, Bool, false, ◌||◌, Option, Some, slice_get, slice_index_or, map, take, drop, codes, append-nil, append_assoc, ◌-◌}
+use Rattle.std.specs.List.{list_any, AllZip}
 use Rattle.std.specs.Io.KnownBytes.{Appends}
-use Rattle.std.proofs.lemmas.List.{map-append, take_all}
+use Rattle.std.proofs.lemmas.List.{map-append, take_all, take_more, length-take-le, length-drop, get_or-drop}
+use Rattle.std.proofs.lemmas.List.Folds.{list_any-append}
 use Rattle.std.proofs.lemmas.Grind.{flat_map-append}
-use Rattle.std.proofs.lemmas.Option.{slice_get-get_or}
+use Rattle.std.proofs.lemmas.Option.{slice_get-get_or, slice_get_within, get_or_from_slice_get}
 use Rattle.hq_text.specs.Printed.{line_text, lines_text}
 use Rattle.hq_model.specs.Job.{Job}
 use Rattle.hq_model.specs.Certificate as model
 use Rattle.hq_model.specs.Certificate.Fences.{ForReadWrite, ForWriteWrite, ForWriteRead, ForWriteWriteChained, ForWriteReadChained}
-use Rattle.hq_model.specs.Certificate.{Certificate, CertHolds}
 use Rattle.hq_audit.specs.declared.audited.Audited.{Audited}
+use Rattle.std.specs.Global.{Vec}
 use Rattle.hq_audit.specs.declared.draft.Draft.{Draft}
+use Rattle.hq_audit.specs.declared.packed.Packed.{Packed}
+use Rattle.hq_audit.specs.Drafted.{seen, listed}
 use Rattle.hq_audit.specs.declared.draft.Means.TheVariants.{ReadWrite}
-use Rattle.hq_audit.specs.Audited.{order_in, lines_in, drafts_in, IsAudited, IsPairAt}
-use Rattle.hq_audit.specs.Paired.{ArePairsOf, IsPlain}
+use Rattle.hq_audit.specs.Audited.{order_in, lines_in, list_in, drafts_in, if_there, IsAudited, IsPairAt}
+use Rattle.hq_audit.specs.Paired.{IsPairOf, IsPlain}
 use Rattle.hq_audit.proofs.Numbering.{cited_more}
 use Rattle.hq_audit.proofs.Certifying.{audited_certifies}
-use Rattle.hq_certtext.specs.Grammar.{lines_words, pair_words, head_words, order_words}
+use Rattle.hq_certtext.specs.Grammar.{line_words, lines_words, pair_words, head_words, order_words}
 use Rattle.hq_certtext.specs.Printed.{is_chain}
-use Rattle.hq_certtext.specs.Printing.{HasPrinted, Prints}
+use Rattle.hq_certtext.specs.Printing.{IsEmpty, HasPrinted, Prints}
 use Rattle.hq_certtext.specs.declared.printer.Printer.{Printer}
-use Rattle.hq_certtext.proofs.Puts.{plain_text}
-use Rattle.hq_judging.specs.Giving.{PrintsPairs, WritesCertificate}
+use Rattle.hq_certtext.proofs.Puts.{plain_text, lines_more as words_more}
+use Rattle.hq_judging.specs.Giving.{IsLinesText, IsPairsText, IsWholeText, PrintsSuch, WritesCertificate}
 
-pub pairs_none : (job : Job) (a : Audited) (u : Option (List ℕ)) (p : Printer) → PrintsPairs job a 0 u p u p
-pairs_none job a u p = record {
-  pairs = [];
-  are = tt;
-  plain = refl;
-  prints = λ w text h. subst (λ t. HasPrinted w t u p) (sym (append-nil text)) h;
-}
+-- ---- the text of pair lines
 
 not_chain : (f : model.Fences) → IsPlain f → is_chain f ≡ false
 not_chain (ForReadWrite line) h = refl
@@ -39,42 +36,120 @@ not_chain (ForWriteRead x y from between to) h = refl
 not_chain (ForWriteWriteChained x x2 from link on) h = absurd h
 not_chain (ForWriteReadChained x x2 y2 y from link between link2 to) h = absurd h
 
-any_push : (p : model.Pair → Bool) (xs : List model.Pair) (x : model.Pair) → list_any p xs ≡ false → p x ≡ false → list_any p (xs ++ x ∷ []) ≡ false
-any_push p [] x none last = ap (λ b. b || false) last
-any_push p (y ∷ ys) x none last = by (p y) refl none (λ n. any_push p ys x n last) where
-  by : (b : Bool) → p y ≡ b → (p y || list_any p ys) ≡ false → (list_any p ys ≡ false → list_any p (ys ++ x ∷ []) ≡ false) → (p y || list_any p (ys ++ x ∷ [])) ≡ false
-  by true e n more = absurd (let t : true ≡ false = sym (ap (λ c. c || list_any p ys) e) ∙ n in cc)
-  by false e n more = ap (λ c. c || list_any p (ys ++ x ∷ [])) e ∙ more (sym (ap (λ c. c || list_any p ys) e) ∙ n)
+none_of_both : (p : model.Pair → Bool) (xs ys : List model.Pair) → list_any p xs ≡ false → list_any p ys ≡ false → list_any p (xs ++ ys) ≡ false
+none_of_both p xs ys none more = list_any-append p xs ys ∙ ap (λ b. b || list_any p ys) none ∙ more
 
-text_more : (ps : List model.Pair) (x : model.Pair) → lines_text (map pair_words (ps ++ x ∷ [])) ≡ lines_text (map pair_words ps) ++ line_text (pair_words x)
-text_more ps x =
-    ap lines_text (map-append pair_words ps (x ∷ [])) ∙ flat_map-append line_text (map pair_words ps) (pair_words x ∷ []) ∙ ap (λ t. lines_text (map pair_words ps) ++ t) (append-nil (line_text (pair_words x)))
+text_both : (ps qs : List model.Pair) → lines_text (map pair_words (ps ++ qs)) ≡ lines_text (map pair_words ps) ++ lines_text (map pair_words qs)
+text_both ps qs = ap lines_text (map-append pair_words ps qs) ∙ flat_map-append line_text (map pair_words ps) (map pair_words qs)
 
--- one more
-pub pairs_next : (job : Job) (a : Audited) (k : ℕ) (u v w : Option (List ℕ)) (old mid new : Printer) (pair : model.Pair) → PrintsPairs job a k u old v mid → k < length (drafts_in a) → IsPairAt job a k pair
-    → Prints v mid w new (line_text (pair_words pair)) → PrintsPairs job a (k + 1) u old w new
-pairs_next job a k u v w old mid new pair h low is more =
+zip_both : {A B : Type 0} (R : A → B → Type 0) (xs us : List A) (ys vs : List B) → AllZip R xs ys → AllZip R us vs → AllZip R (xs ++ us) (ys ++ vs)
+zip_both R [] us [] vs h k = k
+zip_both R [] us (y ∷ ys) vs h k = absurd h
+zip_both R (x ∷ xs) us [] vs h k = absurd h
+zip_both R (x ∷ xs) us (y ∷ ys) vs h k = (h.0, zip_both R xs us ys vs h.1 k)
+
+pub pairs_none : (job : Job) (a : Audited) → IsPairsText job a [] []
+pairs_none job a = record { pairs = []; are = tt; plain = refl; is = refl }
+
+pub pairs_both : (job : Job) (a : Audited) (ds es : List Draft) (t u : List ℕ) → IsPairsText job a ds t → IsPairsText job a es u → IsPairsText job a (ds ++ es) (t ++ u)
+pairs_both job a ds es t u h k = record {
+  pairs = h.pairs ++ k.pairs;
+  are = zip_both (IsPairOf job (lines_in a)) ds es h.pairs k.pairs h.are k.are;
+  plain = none_of_both (λ pair. is_chain pair.fences) h.pairs k.pairs h.plain k.plain;
+  is = ap (λ s. s ++ u) h.is ∙ ap (λ s. lines_text (map pair_words h.pairs) ++ s) k.is ∙ sym (text_both h.pairs k.pairs);
+}
+
+-- one more pair line
+pub pairs_more : (job : Job) (a : Audited) (i k : ℕ) (pair : model.Pair) (t u : List ℕ) → k < length (list_in a i) → IsPairAt job a i k pair → IsPairsText job a (take k (list_in a i)) t → u ≡ line_text (pair_words pair)
+    → IsPairsText job a (take (k + 1) (list_in a i)) (t ++ u)
+pairs_more job a i k pair t u low at h e =
     let d : Draft = record { p = 0; r = 0; means = ReadWrite } in
+    let ds = list_in a i in
     record {
       pairs = h.pairs ++ pair ∷ [];
-      are = cited_more job (lines_in a) (drafts_in a) h.pairs k d pair low h.are (is.is (slice_index_or (drafts_in a) k d) (slice_get-get_or (drafts_in a) k d low));
-      plain = any_push (λ p. is_chain p.fences) h.pairs pair h.plain (not_chain pair.fences is.plain);
-      prints = λ x text g.
-          subst (λ t. HasPrinted x t w new) (append_assoc text (lines_text (map pair_words h.pairs)) (line_text (pair_words pair)) ∙ ap (λ t. text ++ t) (sym (text_more h.pairs pair)))
-          (more x (text ++ lines_text (map pair_words h.pairs)) (h.prints x text g));
+      are = cited_more job (lines_in a) ds h.pairs k d pair low h.are (at.is (slice_index_or ds k d) (slice_get-get_or ds k d low));
+      plain = none_of_both (λ p. is_chain p.fences) h.pairs (pair ∷ []) h.plain (ap (λ b. b || false) (not_chain pair.fences at.plain));
+      is = ap (λ s. s ++ u) h.is ∙ ap (λ s. lines_text (map pair_words h.pairs) ++ s) (e ∙ sym (append-nil (line_text (pair_words pair)))) ∙ sym (text_both h.pairs (pair ∷ []));
     }
 
--- the whole
-pub certificate_written : (job : Job) (a : Audited) (w0 u v s t : Option (List ℕ)) (p q r : Printer) → IsAudited job a → HasPrinted w0 (line_text (head_words false) ++ line_text (order_words (order_in a))) u p
-    → Prints u p v q (lines_text (lines_words 0 (lines_in a))) → PrintsPairs job a (length (drafts_in a)) v q s r
-    → ((w : Option (List ℕ)) (text : List ℕ) → HasPrinted w text s r → Appends w t (text ++ codes "end\n")) → WritesCertificate job w0 t
-certificate_written job a w0 u v s t p q r is begun lined paired ended =
+-- ---- lists
+
+pub listed_step : (lists : List (Vec Packed)) (i : ℕ) → listed (take i lists) ++ if_there (slice_get lists i) ≡ listed (take (i + 1) lists)
+listed_step lists i = rw add-one (step lists i)
+  where
+    step : (vs : List (Vec Packed)) (k : ℕ) → listed (take k vs) ++ if_there (slice_get vs k) ≡ listed (take (suc k) vs)
+    step [] zero = refl
+    step [] (suc k) = refl
+    step (v ∷ vs) zero = sym (append-nil (seen v))
+    step (v ∷ vs) (suc k) = append_assoc (seen v) (listed (take k vs)) (if_there (slice_get vs k)) ∙ ap (λ ds. seen v ++ ds) (step vs k)
+
+-- ---- the text of lines
+
+pub lines_none : (a : Audited) (from : ℕ) → IsLinesText a from from []
+lines_none a from = let none : from - from ≡ 0 = omega arith in ap (λ n. lines_text (lines_words from (take n (drop from (lines_in a))))) (sym none)
+
+-- one more line
+pub lines_more : (a : Audited) (from k : ℕ) (line : model.Line) (t u : List ℕ) → from ≤ k → slice_get (lines_in a) k ≡ Some line → IsLinesText a from k t → u ≡ line_text (line_words k line) → IsLinesText a from (k + 1) (t ++ u)
+lines_more a from k line t u order at h e =
+    let ls = lines_in a in
+    let rest = drop from ls in
+    let i = k - from in
+    let low : k < length ls = slice_get_within ls k line at in
+    let back : from + i ≡ k = omega (arith, order) in
+    let long : length rest ≡ length ls - from = length-drop from ls in
+    let within : i < length rest = omega (arith, low, order, long) in
+    let here : slice_index_or rest i line ≡ line = get_or-drop from ls i line ∙ ap (λ n. slice_index_or ls n line) back ∙ get_or_from_slice_get ls k line line at in
+    let next : i + 1 ≡ k + 1 - from = omega (arith, order) in
+    ap (λ x. x ++ u) h ∙ ap (λ x. lines_text (lines_words from (take i rest)) ++ x) e
+    ∙ lines_put from rest i line within here back ∙ ap (λ n. lines_text (lines_words from (take n rest))) next
+  where
+    lines_put : (n : ℕ) (xs : List model.Line) (j : ℕ) (x : model.Line) → j < length xs → slice_index_or xs j x ≡ x → n + j ≡ k → lines_text (lines_words n (take j xs)) ++ line_text (line_words k x) ≡ lines_text (lines_words n (take (j + 1) xs))
+    lines_put n xs j x within is back =
+        let front = take j xs in
+        let number : n + length front ≡ k = omega (arith, back, length-take-le j xs (omega (arith, within))) in
+        sym
+        (ap (λ l. lines_text (lines_words n l)) (take_more xs j x within ∙ ap (λ y. front ++ y ∷ []) is)
+        ∙ ap lines_text (words_more n front x ∙ ap (λ m. lines_words n front ++ line_words m x ∷ []) number)
+        ∙ flat_map-append line_text (lines_words n front) (line_words k x ∷ []) ∙ ap (λ t. lines_text (lines_words n front) ++ t) (append-nil (line_text (line_words k x))))
+
+-- ---- what is printed
+
+prints_both : (u v w : Option (List ℕ)) (a b c : Printer) (t s : List ℕ) → Prints u a v b t → Prints v b w c s → Prints u a w c (t ++ s)
+prints_both u v w a b c t s f g = λ x text h. subst (λ all. HasPrinted x all w c) (append_assoc text t s) (g x (text ++ t) (f x text h))
+
+pub such_none : (P : List ℕ → Type 0) (u : Option (List ℕ)) (a : Printer) → P [] → PrintsSuch P u a u a
+such_none P u a is = record { text = []; is = is; prints = λ w text h. subst (λ t. HasPrinted w t u a) (sym (append-nil text)) h }
+
+pub such_both : (P Q R : List ℕ → Type 0) {u v w : Option (List ℕ)} {a b c : Printer} → ((t s : List ℕ) → P t → Q s → R (t ++ s)) → PrintsSuch P u a v b → PrintsSuch Q v b w c → PrintsSuch R u a w c
+such_both P Q R {u} {v} {w} {a} {b} {c} f h k = record { text = h.text ++ k.text; is = f h.text k.text h.is k.is; prints = prints_both u v w a b c h.text k.text h.prints k.prints }
+
+pub such_as : (P Q : List ℕ → Type 0) {u v : Option (List ℕ)} {a b : Printer} → ((t : List ℕ) → P t → Q t) → PrintsSuch P u a v b → PrintsSuch Q u a v b
+such_as P Q f h = record { text = h.text; is = f h.text h.is; prints = h.prints }
+
+pub this_one : (t : List ℕ) {u v : Option (List ℕ)} {a b : Printer} → Prints u a v b t → PrintsSuch (λ s. s ≡ t) u a v b
+this_one t h = record { text = t; is = refl; prints = h }
+
+-- ---- all of it
+
+pub whole_text : (job : Job) (a : Audited) (count : ℕ) (t s : List ℕ) → count ≡ length (lines_in a) → IsLinesText a 0 count t → IsPairsText job a (drafts_in a) s → IsWholeText job a (t ++ s)
+whole_text job a count t s e f h = record {
+  behind = s;
+  pairs = h;
+  is = let all : count - 0 ≡ count = omega arith in ap (λ x. x ++ s) (f ∙ ap (λ n. lines_text (lines_words 0 (take n (lines_in a)))) (all ∙ e));
+}
+
+pub certificate_written : (job : Job) (a : Audited) (u v w x : Option (List ℕ)) (p q r : Printer) → IsAudited job a → IsEmpty p → Prints u p v q (line_text (head_words false) ++ line_text (order_words (order_in a)))
+    → PrintsSuch (IsWholeText job a) v q w r → ((y : Option (List ℕ)) (text : List ℕ) → HasPrinted y text w r → Appends y x (text ++ codes "end\n")) → WritesCertificate job u x
+certificate_written job a u v w x p q r is empty begun body ended =
     let front = line_text (head_words false) ++ line_text (order_words (order_in a)) in
-    let two = lined w0 front begun in
-    let three = paired.prints w0 (front ++ lines_text (lines_words 0 (lines_in a))) two in
-    let four = ended w0 ((front ++ lines_text (lines_words 0 (lines_in a))) ++ lines_text (map pair_words paired.pairs)) three in
+    let whole = body.is in
+    let pairs = whole.pairs in
+    let lines = lines_text (lines_words 0 (lines_in a)) in
+    let behind = lines_text (map pair_words pairs.pairs) in
+    let all : body.text ≡ lines ++ behind = whole.is ∙ ap (λ ls. lines_text (lines_words 0 ls) ++ whole.behind) (take_all (length (lines_in a)) (lines_in a) (omega arith)) ∙ ap (λ s. lines ++ s) pairs.is in
+    let printed : front ++ body.text ≡ (front ++ lines) ++ behind = ap (λ s. front ++ s) all ∙ sym (append_assoc front lines behind) in
     record {
-      certificate = record { order = order_in a; lines = lines_in a; pairs = paired.pairs };
-      holds = audited_certifies job a paired.pairs is (subst (λ ds. ArePairsOf job (lines_in a) ds paired.pairs) (take_all (length (drafts_in a)) (drafts_in a) (omega arith)) paired.are);
-      appends = subst (Appends w0 t) (plain_text (order_in a) (lines_in a) paired.pairs paired.plain) four;
+      certificate = record { order = order_in a; lines = lines_in a; pairs = pairs.pairs };
+      holds = audited_certifies job a pairs.pairs is pairs.are;
+      appends = subst (Appends u x) (ap (λ s. s ++ codes "end\n") printed ∙ plain_text (order_in a) (lines_in a) pairs.pairs pairs.plain) (ended u (front ++ body.text) (body.prints u front (begun u [] (empty u))));
     }

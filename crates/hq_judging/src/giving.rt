@@ -1,13 +1,11 @@
-//! The certificate of what an audit found, one pair line behind another.
+//! The certificate of what an audit found, one line behind another.
 
-ghost use Rattle.std.specs.Prelude.{◌≡◌, ◌++◌, Err, OnOk, false, length, ℕ, List, Option};
+ghost use Rattle.std.specs.Prelude.{◌≡◌, ◌≤◌, Err, OnOk, false, length};
 ghost use Rattle.hq_job.specs.Plan.{plan};
-ghost use Rattle.hq_text.specs.Printed.{line_text};
-ghost use Rattle.hq_audit.specs.Audited.{order_in, drafts_in, chained_in, IsAudited};
-ghost use Rattle.hq_certtext.specs.Grammar.{head_words, order_words};
-ghost use Rattle.hq_certtext.specs.Printing.{IsReady, HasPrinted};
+ghost use Rattle.hq_audit.specs.Audited.{lines_in, list_in, drafts_in, chained_in, IsAudited};
+ghost use Rattle.hq_certtext.specs.Printing.{IsReady, IsEmpty};
 ghost use Rattle.hq_judging.specs.Audit.{JobReport};
-ghost use Rattle.hq_judging.specs.Giving.{PrintsPairs, WritesCertificate};
+ghost use Rattle.hq_judging.specs.Giving.{IsLinesText, IsPairsText, IsWholeText, PrintsSuch, WritesCertificate};
 ghost use Rattle.hq_status.specs.Reports.{Reported};
 
 use crate::audit::say_certificate;
@@ -18,8 +16,52 @@ use hq_status::{Status, say_memory};
 use std::alloc::Global;
 use std::io::Write;
 
-/// Prints the pair lines, where none is chained: then they take no memory.
-fn print_pairs<W: Write>(
+/// Prints the lines from one on, up to another.
+fn print_lines<W: Write>(
+    printer: &mut Printer,
+    audited: &Audited,
+    from: usize,
+    to: usize,
+    writer: &mut W,
+) -> Result<(), WriterFailed>
+    requires ready { IsReady printer.old }
+    requires order { from ≤ to }
+    requires within { to ≤ length (lines_in audited.now) }
+    ensures ready { OnOk result (IsReady printer.new) }
+    ensures prints { OnOk result
+        (PrintsSuch (IsLinesText audited.now from to) (W.contents writer.old) printer.old (W.contents writer.new)
+        printer.new) }
+{
+    for k in from..to {
+        printer.line(k, audited.line(k).line(), writer)?;
+    }
+    Ok(())
+}
+
+/// Prints a list of pair lines, where none is chained: then they take no memory.
+fn print_list<W: Write>(
+    printer: &mut Printer,
+    job: &Job,
+    audited: &Audited,
+    list: usize,
+    writer: &mut W,
+) -> Result<(), WriterFailed>
+    requires ready { IsReady printer.old }
+    requires audited { IsAudited (plan job.now) audited.now }
+    requires plain { chained_in audited.now ≡ false }
+    ensures ready { OnOk result (IsReady printer.new) }
+    ensures prints { OnOk result
+        (PrintsSuch (IsPairsText (plan job.now) audited.now (list_in audited.now list)) (W.contents writer.old)
+        printer.old (W.contents writer.new) printer.new) }
+{
+    for k in 0..audited.count(list) {
+        printer.pair(&audited.pair(job, list, k), writer)?;
+    }
+    Ok(())
+}
+
+/// Prints all lists of pair lines.
+fn print_lists<W: Write>(
     printer: &mut Printer,
     job: &Job,
     audited: &Audited,
@@ -30,32 +72,49 @@ fn print_pairs<W: Write>(
     requires plain { chained_in audited.now ≡ false }
     ensures ready { OnOk result (IsReady printer.new) }
     ensures prints { OnOk result
-        (PrintsPairs (plan job.now) audited.now (length (drafts_in audited.now)) (W.contents writer.old) printer.old
-        (W.contents writer.new) printer.new) }
+        (PrintsSuch (IsPairsText (plan job.now) audited.now (drafts_in audited.now)) (W.contents writer.old)
+        printer.old (W.contents writer.new) printer.new) }
 {
-    for k in 0..audited.count() {
-        printer.pair(&audited.pair(job, k), writer)?;
+    for list in 0..audited.lists() {
+        print_list(printer, job, audited, list, writer)?;
     }
     Ok(())
 }
 
-/// Prints all that stands behind the order.
+/// Prints all lines and all pair lines.
 fn print_body<W: Write>(
+    printer: &mut Printer,
+    job: &Job,
+    audited: &Audited,
+    writer: &mut W,
+) -> Result<(), WriterFailed>
+    requires ready { IsReady printer.old }
+    requires audited { IsAudited (plan job.now) audited.now }
+    requires plain { chained_in audited.now ≡ false }
+    ensures ready { OnOk result (IsReady printer.new) }
+    ensures prints { OnOk result
+        (PrintsSuch (IsWholeText (plan job.now) audited.now) (W.contents writer.old) printer.old
+        (W.contents writer.new) printer.new) }
+{
+    print_lines(printer, audited, 0, audited.lines(), writer)?;
+    print_lists(printer, job, audited, writer)
+}
+
+/// Prints the certificate by a printer that has printed nothing yet.
+fn print_all<W: Write>(
     mut printer: Printer,
     job: &Job,
     audited: &Audited,
     writer: &mut W,
 ) -> Result<(), WriterFailed>
     requires ready { IsReady printer }
+    requires empty { IsEmpty printer }
     requires audited { IsAudited (plan job.now) audited.now }
     requires plain { chained_in audited.now ≡ false }
-    ensures { OnOk result
-        ((w : Option (List ℕ)) → HasPrinted w
-        (line_text (head_words false) ++ line_text (order_words (order_in audited.now))) (W.contents writer.old) printer
-        → WritesCertificate (plan job.now) w (W.contents writer.new)) }
+    ensures { OnOk result (WritesCertificate (plan job.now) (W.contents writer.old) (W.contents writer.new)) }
 {
-    printer.lines(audited.lines(), writer)?;
-    print_pairs(&mut printer, job, audited, writer)?;
+    printer.begin(false, audited.order(), writer)?;
+    print_body(&mut printer, job, audited, writer)?;
     printer.end(writer)
 }
 
@@ -72,24 +131,34 @@ fn print_audited<W: Write>(
         (WritesCertificate (plan job.now) (W.contents writer.old) (W.contents writer.new)) }
     ensures unwritten { result ≡ Err PrintFault.Memory → writer.new ≡ writer.old }
 {
-    let printer = Printer::begin(alloc, false, audited.order(), writer)?;
-    match print_body(printer, job, audited, writer) {
+    let Ok(printer) = Printer::new(alloc) else {
+        return Err(PrintFault::Memory);
+    };
+    match print_all(printer, job, audited, writer) {
         Ok(()) => Ok(()),
         Err(WriterFailed) => Err(PrintFault::Writer),
     }
 }
 
-/// Writes the certificate of what an audit found. Chained pair lines take memory of their own, so where there are such
-/// the whole certificate is made first.
+/// Writes the certificate of what an audit found, with all of it made first: chained pair lines take memory of their
+/// own.
+fn say_whole<W: Write>(alloc: Global, writer: &mut W, job: &Job, audited: Audited) -> Status
+    requires { IsAudited (plan job.now) audited }
+    ensures { Reported (JobReport (plan job.now)) (W.contents writer.old) (W.contents writer.new) result }
+{
+    match audited.certificate(alloc, job) {
+        Ok(certificate) => say_certificate(alloc, writer, &certificate),
+        Err(_) => say_memory(writer),
+    }
+}
+
+/// Writes the certificate of what an audit found.
 pub fn say_audited<W: Write>(alloc: Global, writer: &mut W, job: &Job, audited: Audited) -> Status
     requires { IsAudited (plan job.now) audited }
     ensures { Reported (JobReport (plan job.now)) (W.contents writer.old) (W.contents writer.new) result }
 {
     if audited.is_chained() {
-        return match audited.certificate(alloc, job) {
-            Ok(certificate) => say_certificate(alloc, writer, &certificate),
-            Err(_) => say_memory(writer),
-        };
+        return say_whole(alloc, writer, job, audited);
     }
     match print_audited(alloc, job, &audited, writer) {
         Ok(()) => Status::Done,

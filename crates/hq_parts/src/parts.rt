@@ -176,6 +176,15 @@ pub struct Others {
 }
 
 impl Others {
+    /// How many these are.
+    pub fn count(&self) -> u32 {
+        let mut count = 0u32;
+        for word in &self.bits {
+            count = count.wrapping_add(word.count_ones());
+        }
+        count
+    }
+
     /// The first of them from one on, or the number of packets where there is none.
     #[inline(always)]
     pub fn next(&self, job: &Job, from: usize) -> usize

@@ -1,14 +1,19 @@
 use crate::calls::good;
 use crate::upper::jobs::job_of;
-use hq_audit::{AuditNo, audit, find};
+use hq_audit::{AuditNo, audit, find, find_wide};
 use hq_cert::{Certificate, Fences, Pair, Rule};
 use hq_finding::{Kind, Why};
 use std::alloc::Global;
 use std::test::*;
+use std::thread::Threads;
 
 /// Two stores in one queue, the second with the barrier bit.
 const TWO_STORES: &[u8] =
     b"hsaq 1\nagent a\nbuffer b 16 16\nqueue q a 4\npacket 04150080000000001000000000000000000000000000000000000000000000000000000000000000000000000000000000000000000000000000000000000000\npacket 04150080000000001000000000000000000000000000000000000000000000000000000000000000000000000000000000000000000000000000000000000000\nend";
+
+/// Two stores in one queue, the second without the barrier bit.
+const NO_ORDER: &[u8] =
+    b"hsaq 1\nagent a\nbuffer b 16 16\nqueue q a 4\npacket 04140080000000001000000000000000000000000000000000000000000000000000000000000000000000000000000000000000000000000000000000000000\npacket 04140080000000001000000000000000000000000000000000000000000000000000000000000000000000000000000000000000000000000000000000000000\nend";
 
 // The audit of a text, without a contract, so that no test is proved over all that a certificate and a refusal promise.
 
@@ -30,10 +35,20 @@ fn pair_found(alloc: Global, text: &[u8]) -> Result<Pair, Fail> {
     let Ok(audited) = find(alloc, &job) else {
         return Err("an ordered job".into());
     };
-    if audited.is_chained() || audited.count() != 1 {
+    if audited.is_chained() || audited.lists() != 1 || audited.count(0) != 1 {
         return Err("one pair line".into());
     }
-    Ok(audited.pair(&job, 0))
+    Ok(audited.pair(&job, 0, 0))
+}
+
+/// Why a job's text has none, by an audit in many threads.
+fn refusal_by_threads<R: Threads + Sync>(
+    rt: &R,
+    alloc: Global,
+    text: &[u8],
+) -> Result<Option<AuditNo>, Fail> {
+    let job = job_of(alloc, text)?;
+    Ok(find_wide(rt, alloc, &job).err())
 }
 
 #[test]
@@ -71,13 +86,22 @@ fn two_stores_with_a_barrier_bit(rt: HostRuntime) -> Result<(), Fail> {
 
 #[test]
 fn two_stores_in_no_order(rt: HostRuntime) -> Result<(), Fail> {
-    let text =
-        b"hsaq 1\nagent a\nbuffer b 16 16\nqueue q a 4\npacket 04140080000000001000000000000000000000000000000000000000000000000000000000000000000000000000000000000000000000000000000000000000\npacket 04140080000000001000000000000000000000000000000000000000000000000000000000000000000000000000000000000000000000000000000000000000\nend";
-    let Some(AuditNo::Conflict { p, r, kind, why }) = refusal_of(rt.alloc(), text)? else {
+    let Some(AuditNo::Conflict { p, r, kind, why }) = refusal_of(rt.alloc(), NO_ORDER)? else {
         return Err("no conflict".into());
     };
     assert!(rt; p == 0 && r == 1);
     assert_eq!(rt; kind, Kind::WriteWrite);
     assert_eq!(rt; why, Why::Unordered);
+    Ok(())
+}
+
+#[test]
+fn two_stores_in_no_order_by_threads(rt: HostRuntime) -> Result<(), Fail> {
+    let Some(AuditNo::Conflict { p, r, kind, why }) = refusal_by_threads(&rt, rt.alloc(), NO_ORDER)?
+    else {
+        return Err("no conflict".into());
+    };
+    assert!(rt; p == 0 && r == 1);
+    assert!(rt; kind == Kind::WriteWrite && why == Why::Unordered);
     Ok(())
 }

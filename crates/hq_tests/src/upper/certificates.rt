@@ -40,17 +40,26 @@ fn printed(alloc: Global, certificate: &Certificate) -> Result<Vec<u8>, Fail> {
     Ok(text)
 }
 
-/// The same of a certificate with one pair line, part by part.
+/// The text of a certificate with one line and one pair line, part by part.
 fn printed_by_parts(alloc: Global, certificate: &Certificate) -> Result<Vec<u8>, Fail> {
     let mut text = Vec::new(alloc);
+    let [line] = certificate.lines() else {
+        return Err("one line".into());
+    };
     let [pair] = certificate.pairs() else {
         return Err("one pair line".into());
     };
-    let Ok(mut printer) = Printer::begin(alloc, false, certificate.order(), &mut text) else {
+    let Ok(mut printer) = Printer::new(alloc) else {
         return Err("a printer".into());
     };
-    if printer.lines(certificate.lines(), &mut text).is_err() {
-        return Err("lines".into());
+    if printer
+        .begin(false, certificate.order(), &mut text)
+        .is_err()
+    {
+        return Err("an order".into());
+    }
+    if printer.line(0, line, &mut text).is_err() {
+        return Err("a line".into());
     }
     if printer.pair(pair, &mut text).is_err() {
         return Err("a pair line".into());

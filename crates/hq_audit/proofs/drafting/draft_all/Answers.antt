@@ -1,8 +1,13 @@
 use Rattle.std.proofs.Common.{◌<◌, length, arith}
+use Rattle.hq_audit.specs.Drafted.{drafts_of}
 use Rattle.hq_audit.specs.Refused.{IsFirstOfRow, IsFirstUnshown}
 use Rattle.hq_audit.proofs.Pairing.{rows_paired_next}
+use Rattle.hq_audit.proofs.Rowing.{upto_none}
 use Rattle.hq_audit.proofs.Turning.{rows_next, whole_refused}
 use Rattle.hq_audit.proofs.drafting.draft_all.Goals as goal
+
+pub loop-a-init : goal.loop-a-init
+loop-a-init c = upto_none c.args.before.now c.in_ok-drafts.drafts c.in_ok-drafts.ensures.are
 
 pub loop-a-preserved : goal.loop-a-preserved
 loop-a-preserved c =
@@ -10,23 +15,19 @@ loop-a-preserved c =
     let row = c.in_ok-add_row.ensures in
     record {
       are = row.goes.are;
-      paired = rows_paired_next job c.loop-a.a c.loop-a.drafts.drafts.items c.add_row.new.self.drafts.items c.loop-a.invariant.paired row.goes.longer row.paired;
+      paired = rows_paired_next job c.loop-a.a (drafts_of c.loop-a.drafts) (drafts_of c.add_row.new.self) c.loop-a.invariant.paired row.goes.longer row.paired;
       shown = rows_next job c.loop-a.a c.loop-a.invariant.shown row.shown;
     }
 
-pub returns-clause-paired : goal.returns-clause-paired
-returns-clause-paired c = λ q s above is.
+pub returns-clause-all : goal.returns-clause-all
+returns-clause-all c =
     let over = c.loop-a-test.false in
     let count = c.len-a-end.ensures in
-    let low : s < length c.args.before.now.packets = is in
-    c.loop-a.invariant.paired q s (omega arith) above is
-
-pub returns-clause-shown : goal.returns-clause-shown
-returns-clause-shown c = λ q s above is.
-    let over = c.loop-a-test.false in
-    let count = c.len-a-end.ensures in
-    let low : s < length c.args.before.now.packets = is in
-    c.loop-a.invariant.shown q s (omega arith) above is
+    record {
+      are = c.loop-a.invariant.are;
+      paired = λ q s above is. let low : s < length c.args.before.now.packets = is in c.loop-a.invariant.paired q s (omega arith) above is;
+      shown = λ q s above is. let low : s < length c.args.before.now.packets = is in c.loop-a.invariant.shown q s (omega arith) above is;
+    }
 
 pub returns-in_err-add_row-clause-refused : goal.returns-in_err-add_row-clause-refused
 returns-in_err-add_row-clause-refused c =

@@ -8,6 +8,6 @@ use Rattle.hq_certtext.proofs.printing.write_lines.Given as goal
 
 abbrev pub invariant-loop-k : goal.invariant-loop-k
 invariant-loop-k g l = record {
-  written : Gains (g.W.Write.contents l.fn.writer) l.fn.bytes l.fn.start (g.W.Write.contents l.writer) l.bytes l.at (lines_text (lines_words l.first (map line_of (take l.k l.lines))));
+  written : Gains (g.W.Write.contents l.fn.writer) l.fn.bytes l.fn.start (g.W.Write.contents l.writer) l.bytes l.at (lines_text (lines_words 0 (map line_of (take l.k l.lines))));
   within : l.at ≤ length l.bytes;
 }

@@ -1,9 +1,6 @@
 use Rattle.hq_job.specs.Plan.{plan}
-use Rattle.hq_judging.proofs.Audits.{no_certificate, no_reported, certificate_reported}
+use Rattle.hq_judging.proofs.Audits.{no_certificate, no_reported}
 use Rattle.hq_judging.proofs.audit_wide.audit_found.Goals as goal
-
-pub returns-in-Ok : goal.returns-in-Ok
-returns-in-Ok g c = certificate_reported (plan c.args.job.now) c.in-Ok.certificate _ _ c.say_certificate.result c.in-Ok.ensures.holds c.say_certificate.ensures
 
 pub returns-in-Err : goal.returns-in-Err
 returns-in-Err g c =

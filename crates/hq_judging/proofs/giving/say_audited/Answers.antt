@@ -2,23 +2,17 @@ use Rattle.std.proofs.Common.{◌≡◌, ap, subst, rules, codes}
 use Rattle.hq_job.specs.Plan.{plan}
 use Rattle.hq_status.specs.Reports.{Said, with_feed}
 use Rattle.hq_status.specs.declared.status.Status.TheVariants.{Memory}
-use Rattle.hq_judging.proofs.Audits.{certificate_reported, memory_reported, written_reported, file_reported}
+use Rattle.hq_judging.proofs.Audits.{memory_reported, written_reported, file_reported}
 use Rattle.hq_judging.proofs.giving.say_audited.Goals as goal
 
 pub returns-in-Ok : goal.returns-in-Ok
-returns-in-Ok g c = certificate_reported (plan c.args.job.now) c.in-Ok.certificate _ _ c.say_certificate.result c.in-Ok.ensures c.say_certificate.ensures
-
-pub returns-in-Err : goal.returns-in-Err
-returns-in-Err g c = memory_reported (plan c.args.job.now) _ _ c.say_memory.result c.say_memory.ensures
-
-pub returns-in-Ok-print_audited : goal.returns-in-Ok-print_audited
-returns-in-Ok-print_audited g c = written_reported (plan c.args.job.now) _ _ c.in-Ok-print_audited.ensures.written
+returns-in-Ok g c = written_reported (plan c.args.job.now) _ _ c.in-Ok.ensures.written
 
 pub returns-in-Err-Memory : goal.returns-in-Err-Memory
 returns-in-Err-Memory g c =
     let contents = g.W.Write.contents in
     let same : c.print_audited.new.writer ≡ c.args.writer.now = search rules in
-    let said = c.say_memory-in-Err-Memory in
+    let said = c.say_memory in
     memory_reported (plan c.args.job.now) _ _ said.result (subst (λ w. Said w (contents said.new.writer) (with_feed (codes "out of memory")) Memory said.result) (ap contents same) said.ensures)
 
 pub returns : goal.returns

@@ -1,4 +1,5 @@
 use Rattle.hq_audit.proofs.Pairing.{go_more, shown_all}
+use Rattle.hq_audit.specs.Drafted.{drafts_of}
 use Rattle.hq_audit.proofs.drafting.Drafts.add_directed.Goals as goal
 
 pub returns-clause-goes : goal.returns-clause-goes
@@ -12,5 +13,5 @@ returns-clause-goes c =
 
 pub returns-clause-has : goal.returns-clause-has
 returns-clause-has c =
-    shown_all c.args.before.now c.add_write_read.new.self.drafts.items c.add_write_write.new.self.drafts.items c.add_read_write.new.self.drafts.items c.args.direction.first c.args.direction.second c.args.direction.shown
+    shown_all c.args.before.now (drafts_of c.add_write_read.new.self) (drafts_of c.add_write_write.new.self) (drafts_of c.add_read_write.new.self) c.args.direction.first c.args.direction.second c.args.direction.shown
     c.requires.shows c.in_ok-add_write_read.ensures.has c.in_ok-add_write_write.ensures.goes.longer c.in_ok-add_write_write.ensures.has c.in_ok-add_read_write.ensures.goes.longer c.in_ok-add_read_write.ensures.has

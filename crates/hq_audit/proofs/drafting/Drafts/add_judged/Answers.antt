@@ -1,10 +1,11 @@
 use Rattle.hq_audit.specs.Refused.{IsUnshown}
 use Rattle.hq_audit.proofs.Pairing.{one_of}
 use Rattle.hq_audit.proofs.Turning.{one_way, refused_on, memory_on}
+use Rattle.hq_audit.specs.Drafted.{drafts_of}
 use Rattle.hq_audit.proofs.drafting.Drafts.add_judged.Goals as goal
 
 pub returns-clause-has : goal.returns-clause-has
-returns-clause-has c = one_of c.args.before.now c.args.a c.args.b c.in_ok-direction.direction c.add_directed.new.self.drafts.items c.in_ok-direction.ensures c.in_ok-add_directed.ensures.has
+returns-clause-has c = one_of c.args.before.now c.args.a c.args.b c.in_ok-direction.direction (drafts_of c.add_directed.new.self) c.in_ok-direction.ensures c.in_ok-add_directed.ensures.has
 
 pub returns-clause-shown : goal.returns-clause-shown
 returns-clause-shown c = one_way c.args.before.now c.args.a c.args.b c.in_ok-direction.direction c.in_ok-direction.ensures

@@ -1,0 +1,65 @@
+-- Lines in one number each.
+use Rattle.std.specs.Prelude.{◌≡◌, ℕ, ◌/◌, ◌%◌, ◌<◌, List, [], ◌∷◌, ◌++◌, Option, None, Some, map, slice_get, zero, suc, length, All}
+use Rattle.hq_cert.specs.declared.certificate.Line.{Line}
+use Rattle.hq_cert.specs.View.{line_of}
+use Rattle.hq_model.specs.Certificate as model
+use Rattle.hq_model.specs.Certificate.Rule.{Bit, Queue, And, Through}
+use Rattle.hq_derive.specs.declared.short.Short.{Short}
+use Rattle.hq_derive.specs.declared.store.Told.{Told}
+use Rattle.hq_derive.specs.declared.store.Told.TheVariants.{Made, Kept}
+
+-- the parts of such a number
+abbrev pub form_of : Short → ℕ
+form_of s = s.word % 8
+
+abbrev pub p_of : Short → ℕ
+p_of s = s.word / 8 % 1024
+
+abbrev pub r_of : Short → ℕ
+r_of s = s.word / 8 / 1024 % 1024
+
+abbrev pub first_of : Short → ℕ
+first_of s = s.word / 8 / 1024 / 1024 % 1048576
+
+abbrev pub second_of : Short → ℕ
+second_of s = s.word / 8 / 1024 / 1024 / 1048576 % 1048576
+
+-- a line that is kept as a whole, where it is there
+abbrev pub if_kept : Option Line → model.Line
+if_kept None = record { p = 0; r = 0; rule = Queue }
+if_kept (Some line) = line_of line
+
+-- the line of this form: that of a barrier-OR is kept as a whole
+abbrev pub line_by : List Line → (form p r first second : ℕ) → model.Line
+line_by kept zero p r first second = record { p = p; r = r; rule = Bit first }
+line_by kept (suc zero) p r first second = record { p = p; r = r; rule = Queue }
+line_by kept (suc (suc zero)) p r first second = record { p = p; r = r; rule = And first }
+line_by kept (suc (suc (suc zero))) p r first second = record { p = p; r = r; rule = Through first second }
+line_by kept (suc (suc (suc (suc form)))) p r first second = if_kept (slice_get kept first)
+
+-- the line that the number is for
+abbrev pub line_in : List Line → Short → model.Line
+line_in kept s = line_by kept (form_of s) (p_of s) (r_of s) (first_of s) (second_of s)
+
+-- Where the line is kept as a whole, it is one of so many.
+abbrev pub IsPlaced : ℕ → Short → Type 0
+IsPlaced count s = 3 < form_of s → first_of s < count
+
+-- so is each of these
+abbrev pub ArePlaced : List Line → List Short → Type 0
+ArePlaced kept words = All (IsPlaced (length kept)) words
+
+-- Behind other lines this one was put, whatever is kept.
+abbrev pub PutsLine : (form p r first second : ℕ) → List Short → List Short → Type 0
+PutsLine form p r first second old new = (kept : List Line)
+    → map (line_in kept) new ≡ map (line_in kept) old ++ line_by kept form p r first second ∷ []
+
+-- Where they were placed they still are, if the line of this form is kept for which the new one may stand.
+abbrev pub StayPlaced : (form first : ℕ) → List Short → List Short → Type 0
+StayPlaced form first old new = (kept : List Line) → (3 < form → first < length kept) → ArePlaced kept old
+    → ArePlaced kept new
+
+-- the line that is told
+abbrev pub told : Told → model.Line
+told (Made line) = line_of line
+told (Kept line) = line_of line.now
