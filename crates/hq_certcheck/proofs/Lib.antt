@@ -7,3 +7,4 @@ pub mod Refusing
 pub mod Counting
 pub mod Leasts
 pub mod Possible
+pub mod Seeing

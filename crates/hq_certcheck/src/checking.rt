@@ -1,18 +1,20 @@
 //! Checks whole certificates.
 
-ghost use Rattle.std.specs.Prelude.{◌≡◌, ℕ, IfOk, IfErr, OnOk, MatchOption, All};
+ghost use Rattle.std.specs.Prelude.{◌≡◌, ℕ, List, length, IfOk, IfErr, OnOk, MatchOption};
 ghost use Rattle.hq_job.specs.Plan.{plan};
 ghost use Rattle.hq_model.specs.Order.{OrderList, Extends};
-ghost use Rattle.hq_model.specs.Certificate.{LineHolds, PairHolds, CertHolds};
+ghost use Rattle.hq_model.specs.Certificate as model;
+ghost use Rattle.hq_model.specs.Certificate.{LineHolds, CertHolds};
 ghost use Rattle.hq_model.specs.Fence.{Ordered};
 ghost use Rattle.hq_model.specs.Theorems.{Headline};
-ghost use Rattle.hq_certcheck.specs.Refusals.{IsRefused, IsBadLine, IsBadPair};
+ghost use Rattle.hq_certcheck.specs.Refusals.{IsRefused, IsBadLine};
+ghost use Rattle.hq_certcheck.specs.Seen.{HasSeen, IsChecked, with_pairs};
 
 use crate::accepted::Accepted;
 use crate::fault::CheckNo;
 use crate::lines::first_bad_line;
 use crate::missing::first_missing;
-use crate::pairs::first_bad_pair;
+use crate::seen::SeenPairs;
 use hq_cert::Certificate;
 use hq_job::Job;
 use hq_model::certificate::certificates_order;
@@ -25,7 +27,8 @@ use std::alloc::Global;
 pub fn order_of(alloc: Global, job: &Job, certificate: &Certificate) -> Result<Vec<u16>, CheckNo>
     ensures ok { IfOk result
         (λ order. OrderList (plan job.now) certificate.now.order × (order.items ≡ certificate.now.order)) }
-    ensures refused { IfErr result (IsRefused (plan job.now) certificate.now) }
+    ensures refused { IfErr result
+        (λ no. (pairs : List model.Pair) → IsRefused (plan job.now) (with_pairs certificate.now pairs) no) }
 {
     let Some(order) = numbers(alloc, job, certificate.order())? else {
         return Err(CheckNo::BadOrder);
@@ -36,49 +39,55 @@ pub fn order_of(alloc: Global, job: &Job, certificate: &Certificate) -> Result<V
     Ok(order)
 }
 
-/// The least line of the certificate that doesn't hold.
+/// The least line of the certificate that doesn't hold, whichever its pair lines are.
 fn bad_line(job: &Job, certificate: &Certificate) -> Option<usize>
-    ensures { MatchOption result ((k : ℕ) → LineHolds (plan job.now) certificate.now k)
-        (IsBadLine (plan job.now) certificate.now) }
+    ensures { (pairs : List model.Pair) → MatchOption result
+        ((k : ℕ) → LineHolds (plan job.now) (with_pairs certificate.now pairs) k)
+        (IsBadLine (plan job.now) (with_pairs certificate.now pairs)) }
 {
     first_bad_line(job, certificate.lines())
 }
 
-/// The packets of the first pair line of the certificate that doesn't hold.
-fn bad_pair(job: &Job, certificate: &Certificate) -> Option<(u32, u32)>
-    ensures { MatchOption result (All (PairHolds (plan job.now) certificate.now) certificate.now.pairs)
-        (λ pair. IsBadPair (plan job.now) certificate.now pair.0 pair.1) }
+/// Checks the pair lines that were seen of a certificate whose order and lines hold.
+fn check_pairs(alloc: Global, job: &Job, seen: &SeenPairs) -> Result<(), CheckNo>
+    requires count { seen.now.count ≡ length job.now.packets }
+    ensures ok { OnOk result
+        ((c : model.Certificate) → HasSeen (plan job.now) c.lines c.pairs seen.now → OrderList (plan job.now) c.order
+        → ((k : ℕ) → LineHolds (plan job.now) c k) → CertHolds (plan job.now) c) }
+    ensures refused { IfErr result
+        (λ no. (c : model.Certificate) → HasSeen (plan job.now) c.lines c.pairs seen.now
+        → OrderList (plan job.now) c.order → ((k : ℕ) → LineHolds (plan job.now) c k)
+        → IsRefused (plan job.now) c no) }
 {
-    first_bad_pair(job, certificate.lines(), certificate.pairs())
-}
-
-/// Checks the pair lines of a certificate whose order and lines hold.
-fn check_pairs(alloc: Global, job: &Job, certificate: &Certificate) -> Result<(), CheckNo>
-    requires order { OrderList (plan job.now) certificate.now.order }
-    requires lines { (k : ℕ) → LineHolds (plan job.now) certificate.now k }
-    ensures ok { OnOk result (CertHolds (plan job.now) certificate.now) }
-    ensures refused { IfErr result (IsRefused (plan job.now) certificate.now) }
-{
-    if let Some((p, r)) = first_missing(alloc, job, certificate)? {
+    if let Some((p, r)) = first_missing(alloc, job, seen)? {
         return Err(CheckNo::PairMissing(p, r));
     }
-    if let Some((p, r)) = bad_pair(job, certificate) {
+    if let Some((p, r)) = seen.bad() {
         return Err(CheckNo::BadPair(p, r));
     }
     Ok(())
 }
 
-/// The certificate's order, if the certificate holds.
-fn examine(alloc: Global, job: &Job, certificate: &Certificate) -> Result<Vec<u16>, CheckNo>
+/// The certificate's order, if the certificate holds with the pair lines that were seen.
+fn examine(
+    alloc: Global,
+    job: &Job,
+    certificate: &Certificate,
+    seen: &SeenPairs,
+) -> Result<Vec<u16>, CheckNo>
+    requires count { seen.now.count ≡ length job.now.packets }
     ensures ok { IfOk result
-        (λ order. CertHolds (plan job.now) certificate.now × (order.items ≡ certificate.now.order)) }
-    ensures refused { IfErr result (IsRefused (plan job.now) certificate.now) }
+        (λ order. (pairs : List model.Pair) → HasSeen (plan job.now) certificate.now.lines pairs seen.now
+        → CertHolds (plan job.now) (with_pairs certificate.now pairs) × (order.items ≡ certificate.now.order)) }
+    ensures refused { IfErr result
+        (λ no. (pairs : List model.Pair) → HasSeen (plan job.now) certificate.now.lines pairs seen.now
+        → IsRefused (plan job.now) (with_pairs certificate.now pairs) no) }
 {
     let order = order_of(alloc, job, certificate)?;
     if let Some(k) = bad_line(job, certificate) {
         return Err(CheckNo::BadLine(k));
     }
-    check_pairs(alloc, job, certificate)?;
+    check_pairs(alloc, job, seen)?;
     Ok(order)
 }
 
@@ -86,18 +95,18 @@ fn examine(alloc: Global, job: &Job, certificate: &Certificate) -> Result<Vec<u1
 pub fn conclude(
     job: Job,
     certificate: &Certificate,
+    seen: &SeenPairs,
     examined: Result<Vec<u16>, CheckNo>,
 ) -> Result<Accepted, (CheckNo, Job)>
+    requires seen { (pairs : List model.Pair) × HasSeen (plan job) certificate.now.lines pairs seen.now }
     requires ok { IfOk examined
-        (λ order. CertHolds (plan job) certificate.now × (order.items ≡ certificate.now.order)) }
-    requires refused { IfErr examined (IsRefused (plan job) certificate.now) }
-    ensures accepted { IfOk result
-        (λ a. CertHolds (plan job) certificate.now × (a.job ≡ job) × (a.order ≡ certificate.now.order)) }
-    ensures ordered { IfOk result (λ _. Ordered (plan job)) }
-    ensures extends { IfOk result (λ a. Extends (plan job) a.order) }
-    ensures headline { IfOk result (λ _. Headline (plan job)) }
-    ensures refused { IfErr result (λ e. (e.1 ≡ job) × IsRefused (plan job) certificate.now e.0) }
-    ensures only { CertHolds (plan job) certificate.now → IfErr result (λ e. e.0 ≡ CheckNo.Memory) }
+        (λ order. (pairs : List model.Pair) → HasSeen (plan job) certificate.now.lines pairs seen.now
+        → CertHolds (plan job) (with_pairs certificate.now pairs) × (order.items ≡ certificate.now.order)) }
+    requires refused { IfErr examined
+        (λ no. (pairs : List model.Pair) → HasSeen (plan job) certificate.now.lines pairs seen.now
+        → IsRefused (plan job) (with_pairs certificate.now pairs) no) }
+    ensures { (pairs : List model.Pair) → HasSeen (plan job) certificate.now.lines pairs seen.now
+        → IsChecked job (with_pairs certificate.now pairs) result }
 {
     job.valid();
     certificates_order();
@@ -107,6 +116,25 @@ pub fn conclude(
         Ok(order) => Ok(Accepted::of(job, order)),
         Err(no) => Err((no, job)),
     }
+}
+
+/// What `check` answers of the certificate, whose pair lines were seen one block behind another and needn't be there.
+///
+/// # Errors
+///
+/// Those of `check`.
+pub fn check_seen(
+    alloc: Global,
+    job: Job,
+    certificate: &Certificate,
+    seen: &SeenPairs,
+) -> Result<Accepted, (CheckNo, Job)>
+    requires seen { (pairs : List model.Pair) × HasSeen (plan job) certificate.now.lines pairs seen.now }
+    ensures { (pairs : List model.Pair) → HasSeen (plan job) certificate.now.lines pairs seen.now
+        → IsChecked job (with_pairs certificate.now pairs) result }
+{
+    let examined = examine(alloc, &job, certificate, seen);
+    conclude(job, certificate, seen, examined)
 }
 
 /// Accepts the job where the certificate holds. Then every run of the machine, however launches, reads, stores,
@@ -127,6 +155,8 @@ pub fn check(alloc: Global, job: Job, certificate: &Certificate) -> Result<Accep
     ensures refused { IfErr result (λ e. (e.1 ≡ job) × IsRefused (plan job) certificate.now e.0) }
     ensures only { CertHolds (plan job) certificate.now → IfErr result (λ e. e.0 ≡ CheckNo.Memory) }
 {
-    let examined = examine(alloc, &job, certificate);
-    conclude(job, certificate, examined)
+    match SeenPairs::of(alloc, &job, certificate) {
+        Ok(seen) => check_seen(alloc, job, certificate, &seen),
+        Err(_) => Err((CheckNo::Memory, job)),
+    }
 }

@@ -1,7 +1,7 @@
 //! Checks certificates of order.
 //!
 //! `check` says whether a certificate holds of a job. Where it does, every run of the job leaves the same memory,
-//! whoever made the certificate.
+//! whoever made the certificate. `check_seen` says so of a certificate whose pair lines came block by block.
 #![tactic(auto)]
 
 mod accepted;
@@ -12,12 +12,14 @@ pub mod laws;
 mod lines;
 mod missing;
 mod pairs;
+mod seen;
 mod steps;
 mod wide;
 mod wide_missing;
 mod wide_pairs;
 
 pub use accepted::Accepted;
-pub use checking::check;
+pub use checking::{check, check_seen};
 pub use fault::CheckNo;
-pub use wide::check_wide;
+pub use seen::SeenPairs;
+pub use wide::{check_seen_wide, check_wide};

@@ -1,17 +1,20 @@
 //! Conflicts that have no pair lines.
 
-ghost use Rattle.std.specs.Prelude.{◌≡◌, ℕ, ◌+◌, ◌*◌, ◌<◌, ◌≤◌, ◌↔◌, IsTrue, IfOk, MatchOption, All, false, map};
-ghost use Rattle.std.specs.Prelude.{length};
+ghost use Rattle.std.specs.Prelude.{◌≡◌, ℕ, ◌+◌, ◌*◌, ◌<◌, ◌≤◌, ◌↔◌, ◌++◌, List, IsTrue, IfOk, MatchOption, All};
+ghost use Rattle.std.specs.Prelude.{false, map, length};
 ghost use Rattle.hq_cert.specs.View.{pair_of, fences_of};
 ghost use Rattle.hq_job.specs.Plan.{plan};
 ghost use Rattle.hq_model.specs.Fence.{Conflict, Conflicts};
+ghost use Rattle.hq_model.specs.Certificate as model;
 ghost use Rattle.hq_model.specs.Certificate.{kind_of};
 ghost use Rattle.hq_certcheck.specs.Covering.{FirstMissing, has_kind, flag_of, kinds_in, AreListed, IsMarked};
 ghost use Rattle.hq_certcheck.specs.Covering.{AreFlagged, IsFlagged, AllFlagged};
 ghost use Rattle.hq_certcheck.specs.Covering.{FirstUnflaggedAfter, FirstUnflagged, NoneMissing};
+ghost use Rattle.hq_certcheck.specs.Seen.{HasSeen};
 ghost use Rattle.hq_parts.specs.Parts.{AreParts};
 
-use hq_cert::{Certificate, Fences, Pair};
+use crate::seen::SeenPairs;
+use hq_cert::{Fences, Pair};
 use hq_footprint::{Footprint, Kinds};
 use hq_job::Job;
 use hq_model::PACKETS;
@@ -65,26 +68,17 @@ fn mark(cells: &mut [u8], count: usize, pair: &Pair)
     }
 }
 
-/// Sets the flags of the pair lines.
-fn mark_all(cells: &mut [u8], count: usize, pairs: &[Pair])
+/// Sets the flags of pair lines, behind those that are there.
+pub fn mark_all(cells: &mut [u8], count: usize, pairs: &[Pair])
     requires few { count ≤ PACKETS }
-    requires empty { AreListed (map pair_of pairs.now) 0 count cells.old }
-    ensures { let found = map pair_of pairs.now in AreListed found (length found) count cells.new }
+    requires len { length cells.old ≡ count * count }
+    ensures len { length cells.new ≡ count * count }
+    ensures marked { (before : List model.Pair) → AreListed before (length before) count cells.old
+        → let all = before ++ map pair_of pairs.now in AreListed all (length all) count cells.new }
 {
     for pair in pairs {
         mark(cells, count, pair);
     }
-}
-
-/// The kinds that have pair lines, for each two packets: a byte of flags.
-pub fn listed(alloc: Global, count: usize, pairs: &[Pair]) -> Result<Vec<u8>, AllocError>
-    requires { count ≤ PACKETS }
-    ensures { let found = map pair_of pairs.now in IfOk result
-        (λ cells. AreListed found (length found) count cells.items) }
-{
-    let mut cells = vec![in alloc; 0; count * count]?;
-    mark_all(&mut cells, count, pairs);
-    Ok(cells)
 }
 
 /// Whether a kind that is found is listed.
@@ -234,33 +228,27 @@ fn first_unflagged(job: &Job, parts: &Parts, cells: &[u8]) -> Option<(u16, u16)>
 }
 
 /// The first packets in number order whose conflicts lack pair lines, by the table.
-fn missing_by(
-    job: &Job,
-    certificate: &Certificate,
-    parts: &Parts,
-    cells: &[u8],
-) -> Option<(u16, u16)>
+fn missing_by(job: &Job, parts: &Parts, cells: &[u8]) -> Option<(u16, u16)>
     requires parts { AreParts (plan job.now) parts.now }
-    requires listed { AreListed certificate.now.pairs (length certificate.now.pairs)
-        (length job.now.packets) cells.now }
-    ensures { MatchOption result (NoneMissing (plan job.now) certificate.now)
-        (λ pair. FirstMissing (plan job.now) certificate.now pair.0 pair.1) }
+    requires len { length cells.now ≡ length job.now.packets * length job.now.packets }
+    ensures { (c : model.Certificate) → AreListed c.pairs (length c.pairs) (length job.now.packets) cells.now
+        → MatchOption result (NoneMissing (plan job.now) c) (λ pair. FirstMissing (plan job.now) c pair.0 pair.1) }
 {
     first_unflagged(job, parts, cells)
 }
 
-/// The first packets in number order whose conflicts lack pair lines, in both directions.
+/// The first packets in number order whose conflicts lack pair lines, in both directions, among those that were seen.
 pub fn first_missing(
     alloc: Global,
     job: &Job,
-    certificate: &Certificate,
+    seen: &SeenPairs,
 ) -> Result<Option<(u16, u16)>, AllocError>
+    requires count { seen.now.count ≡ length job.now.packets }
     ensures { IfOk result
-        (λ found. MatchOption found (NoneMissing (plan job.now) certificate.now)
-        (λ pair. FirstMissing (plan job.now) certificate.now pair.0 pair.1)) }
+        (λ found. (c : model.Certificate) → HasSeen (plan job.now) c.lines c.pairs seen.now
+        → MatchOption found (NoneMissing (plan job.now) c) (λ pair. FirstMissing (plan job.now) c pair.0 pair.1)) }
 {
     job.valid();
     let parts = Parts::build(alloc, job)?;
-    let cells = listed(alloc, job.packets().len(), certificate.pairs())?;
-    Ok(missing_by(job, certificate, &parts, &cells))
+    Ok(missing_by(job, &parts, seen.cells()))
 }

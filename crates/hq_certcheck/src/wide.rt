@@ -1,21 +1,23 @@
 //! Checks whole certificates in many threads.
 
-ghost use Rattle.std.specs.Prelude.{◌≡◌, ℕ, ◌<◌, IfOk, IfErr, OnOk, IsTrue, MatchOption, All, false, map, length};
+ghost use Rattle.std.specs.Prelude.{◌≡◌, ℕ, ◌<◌, List, IfOk, IfErr, OnOk, IsTrue, MatchOption, false, map, length};
 ghost use Rattle.hq_cert.specs.View.{line_of};
 ghost use Rattle.hq_job.specs.Plan.{plan};
 ghost use Rattle.hq_model.specs.Order.{OrderList, Extends};
-ghost use Rattle.hq_model.specs.Certificate.{LineHolds, PairHolds, CertHolds};
+ghost use Rattle.hq_model.specs.Certificate as model;
+ghost use Rattle.hq_model.specs.Certificate.{LineHolds, CertHolds};
 ghost use Rattle.hq_model.specs.Fence.{Ordered};
 ghost use Rattle.hq_model.specs.Theorems.{Headline};
 ghost use Rattle.hq_certcheck.specs.Listed.{LineFollows, FirstBadLine};
-ghost use Rattle.hq_certcheck.specs.Refusals.{IsRefused, IsBadLine, IsBadPair};
+ghost use Rattle.hq_certcheck.specs.Refusals.{IsRefused, IsBadLine};
+ghost use Rattle.hq_certcheck.specs.Seen.{HasSeen, IsChecked, with_pairs};
 
 use crate::accepted::Accepted;
 use crate::checking::{conclude, order_of};
 use crate::fault::CheckNo;
 use crate::lines::line_holds;
+use crate::seen::SeenPairs;
 use crate::wide_missing::first_missing;
-use crate::wide_pairs::first_bad_pair;
 use hq_cert::{Certificate, Line};
 use hq_job::Job;
 use rayon::prelude::*;
@@ -50,60 +52,83 @@ fn first_bad_line(rt: &(impl Threads + Sync), job: &Job, lines: &[Line]) -> Opti
     )
 }
 
-/// The least line of the certificate that doesn't hold.
+/// The least line of the certificate that doesn't hold, whichever its pair lines are.
 fn bad_line(rt: &(impl Threads + Sync), job: &Job, certificate: &Certificate) -> Option<usize>
-    ensures { MatchOption result ((k : ℕ) → LineHolds (plan job.now) certificate.now k)
-        (IsBadLine (plan job.now) certificate.now) }
+    ensures { (pairs : List model.Pair) → MatchOption result
+        ((k : ℕ) → LineHolds (plan job.now) (with_pairs certificate.now pairs) k)
+        (IsBadLine (plan job.now) (with_pairs certificate.now pairs)) }
 {
     first_bad_line(rt, job, certificate.lines())
 }
 
-/// The packets of the first pair line of the certificate that doesn't hold.
-fn bad_pair(rt: &(impl Threads + Sync), job: &Job, certificate: &Certificate) -> Option<(u32, u32)>
-    ensures { MatchOption result (All (PairHolds (plan job.now) certificate.now) certificate.now.pairs)
-        (λ pair. IsBadPair (plan job.now) certificate.now pair.0 pair.1) }
-{
-    first_bad_pair(rt, job, certificate.lines(), certificate.pairs())
-}
-
-/// Checks the pair lines of a certificate whose order and lines hold.
+/// Checks the pair lines that were seen of a certificate whose order and lines hold.
 fn check_pairs(
     rt: &(impl Threads + Sync),
     alloc: Global,
     job: &Job,
-    certificate: &Certificate,
+    seen: &SeenPairs,
 ) -> Result<(), CheckNo>
-    requires order { OrderList (plan job.now) certificate.now.order }
-    requires lines { (k : ℕ) → LineHolds (plan job.now) certificate.now k }
-    ensures ok { OnOk result (CertHolds (plan job.now) certificate.now) }
-    ensures refused { IfErr result (IsRefused (plan job.now) certificate.now) }
+    requires count { seen.now.count ≡ length job.now.packets }
+    ensures ok { OnOk result
+        ((c : model.Certificate) → HasSeen (plan job.now) c.lines c.pairs seen.now → OrderList (plan job.now) c.order
+        → ((k : ℕ) → LineHolds (plan job.now) c k) → CertHolds (plan job.now) c) }
+    ensures refused { IfErr result
+        (λ no. (c : model.Certificate) → HasSeen (plan job.now) c.lines c.pairs seen.now
+        → OrderList (plan job.now) c.order → ((k : ℕ) → LineHolds (plan job.now) c k)
+        → IsRefused (plan job.now) c no) }
 {
-    if let Some((p, r)) = first_missing(rt, alloc, job, certificate)? {
+    if let Some((p, r)) = first_missing(rt, alloc, job, seen)? {
         return Err(CheckNo::PairMissing(p, r));
     }
-    if let Some((p, r)) = bad_pair(rt, job, certificate) {
+    if let Some((p, r)) = seen.bad() {
         return Err(CheckNo::BadPair(p, r));
     }
     Ok(())
 }
 
-/// The certificate's order, if the certificate holds.
+/// The certificate's order, if the certificate holds with the pair lines that were seen.
 fn examine(
     rt: &(impl Threads + Sync),
     alloc: Global,
     job: &Job,
     certificate: &Certificate,
+    seen: &SeenPairs,
 ) -> Result<Vec<u16>, CheckNo>
+    requires count { seen.now.count ≡ length job.now.packets }
     ensures ok { IfOk result
-        (λ order. CertHolds (plan job.now) certificate.now × (order.items ≡ certificate.now.order)) }
-    ensures refused { IfErr result (IsRefused (plan job.now) certificate.now) }
+        (λ order. (pairs : List model.Pair) → HasSeen (plan job.now) certificate.now.lines pairs seen.now
+        → CertHolds (plan job.now) (with_pairs certificate.now pairs) × (order.items ≡ certificate.now.order)) }
+    ensures refused { IfErr result
+        (λ no. (pairs : List model.Pair) → HasSeen (plan job.now) certificate.now.lines pairs seen.now
+        → IsRefused (plan job.now) (with_pairs certificate.now pairs) no) }
 {
     let order = order_of(alloc, job, certificate)?;
     if let Some(k) = bad_line(rt, job, certificate) {
         return Err(CheckNo::BadLine(k));
     }
-    check_pairs(rt, alloc, job, certificate)?;
+    check_pairs(rt, alloc, job, seen)?;
     Ok(order)
+}
+
+/// What `check` answers of the certificate, whose pair lines were seen one block behind another and needn't be there;
+/// its lines are checked, and pair lines that are missing sought, by as many threads as there are processors.
+///
+/// # Errors
+///
+/// Those of `check`.
+pub fn check_seen_wide(
+    rt: &(impl Threads + Sync),
+    alloc: Global,
+    job: Job,
+    certificate: &Certificate,
+    seen: &SeenPairs,
+) -> Result<Accepted, (CheckNo, Job)>
+    requires seen { (pairs : List model.Pair) × HasSeen (plan job) certificate.now.lines pairs seen.now }
+    ensures { (pairs : List model.Pair) → HasSeen (plan job) certificate.now.lines pairs seen.now
+        → IsChecked job (with_pairs certificate.now pairs) result }
+{
+    let examined = examine(rt, alloc, &job, certificate, seen);
+    conclude(job, certificate, seen, examined)
 }
 
 /// What `check` answers, with the lines and the pair lines checked, and those that are missing sought, by as many
@@ -127,6 +152,8 @@ pub fn check_wide(
     ensures refused { IfErr result (λ e. (e.1 ≡ job) × IsRefused (plan job) certificate.now e.0) }
     ensures only { CertHolds (plan job) certificate.now → IfErr result (λ e. e.0 ≡ CheckNo.Memory) }
 {
-    let examined = examine(rt, alloc, &job, certificate);
-    conclude(job, certificate, examined)
+    match SeenPairs::of_wide(rt, alloc, &job, certificate) {
+        Ok(seen) => check_seen_wide(rt, alloc, job, certificate, &seen),
+        Err(_) => Err((CheckNo::Memory, job)),
+    }
 }

@@ -4,10 +4,12 @@ ghost use Rattle.std.specs.Prelude.{◌≡◌, ℕ, ◌*◌, ◌<◌, IsTrue, If
 ghost use Rattle.hq_job.specs.Plan.{plan};
 ghost use Rattle.hq_certcheck.specs.Covering.{FirstMissing, AreListed, AllFlagged, FirstUnflaggedRow};
 ghost use Rattle.hq_certcheck.specs.Covering.{FirstUnflagged, NoneMissing};
+ghost use Rattle.hq_certcheck.specs.Seen.{HasSeen};
+ghost use Rattle.hq_model.specs.Certificate as model;
 ghost use Rattle.hq_parts.specs.Parts.{AreParts};
 
-use crate::missing::{first_unflagged_after, listed};
-use hq_cert::Certificate;
+use crate::missing::first_unflagged_after;
+use crate::seen::SeenPairs;
 use hq_job::Job;
 use hq_parts::Parts;
 use rayon::prelude::*;
@@ -83,32 +85,30 @@ fn first_unflagged(
 fn missing_by(
     rt: &(impl Threads + Sync),
     job: &Job,
-    certificate: &Certificate,
     parts: &Parts,
     cells: &[u8],
 ) -> Option<(u16, u16)>
     requires parts { AreParts (plan job.now) parts.now }
-    requires listed { AreListed certificate.now.pairs (length certificate.now.pairs)
-        (length job.now.packets) cells.now }
-    ensures { MatchOption result (NoneMissing (plan job.now) certificate.now)
-        (λ pair. FirstMissing (plan job.now) certificate.now pair.0 pair.1) }
+    requires len { length cells.now ≡ length job.now.packets * length job.now.packets }
+    ensures { (c : model.Certificate) → AreListed c.pairs (length c.pairs) (length job.now.packets) cells.now
+        → MatchOption result (NoneMissing (plan job.now) c) (λ pair. FirstMissing (plan job.now) c pair.0 pair.1) }
 {
     first_unflagged(rt, job, parts, cells)
 }
 
-/// The first packets in number order whose conflicts lack pair lines, in both directions.
+/// The first packets in number order whose conflicts lack pair lines, in both directions, among those that were seen.
 pub fn first_missing(
     rt: &(impl Threads + Sync),
     alloc: Global,
     job: &Job,
-    certificate: &Certificate,
+    seen: &SeenPairs,
 ) -> Result<Option<(u16, u16)>, AllocError>
+    requires count { seen.now.count ≡ length job.now.packets }
     ensures { IfOk result
-        (λ found. MatchOption found (NoneMissing (plan job.now) certificate.now)
-        (λ pair. FirstMissing (plan job.now) certificate.now pair.0 pair.1)) }
+        (λ found. (c : model.Certificate) → HasSeen (plan job.now) c.lines c.pairs seen.now
+        → MatchOption found (NoneMissing (plan job.now) c) (λ pair. FirstMissing (plan job.now) c pair.0 pair.1)) }
 {
     job.valid();
     let parts = Parts::build(alloc, job)?;
-    let cells = listed(alloc, job.packets().len(), certificate.pairs())?;
-    Ok(missing_by(rt, job, certificate, &parts, &cells))
+    Ok(missing_by(rt, job, &parts, seen.cells()))
 }

@@ -10,3 +10,4 @@ pub mod Spelled
 pub mod Nine
 pub mod OnePass
 pub mod Taking
+pub mod LetGo

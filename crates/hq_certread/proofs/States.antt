@@ -32,7 +32,7 @@ so_far stage.Pairs s = head_words s.chained ∷ order_words s.order ∷ (lines_w
 so_far stage.Ended s = certificate_words s.chained (read_of s)
 
 -- what is empty yet
-abbrev Shape : Stage → State → Type 0
+abbrev pub Shape : Stage → State → Type 0
 Shape stage.Head s = (s.lines ≡ []) × (s.pairs ≡ [])
 Shape stage.Order s = (s.lines ≡ []) × (s.pairs ≡ [])
 Shape stage.Lines s = s.pairs ≡ []

@@ -9,7 +9,9 @@ use Rattle.hq_certread.specs.declared.fault.CertReason.TheVariants as reason
 use Rattle.hq_certread.specs.declared.fault.CertFault.{CertFault}
 use Rattle.hq_certread.specs.declared.progress.Progress.{Progress}
 use Rattle.hq_certread.specs.DraftView.{state_of}
-use Rattle.hq_certread.specs.SoFar.{HasFault, HasTaken}
+use Rattle.hq_model.specs.Certificate as model
+use Rattle.hq_certread.specs.SoFar.{HasFault, HasTaken, behind}
+use Rattle.hq_certread.proofs.LetGo.{all_behind}
 use Rattle.hq_certread.specs.TextFaults.{State, start, added, at_line}
 use Rattle.hq_certread.specs.Gives.{Fails, no_memory, TakesAll}
 
@@ -28,11 +30,11 @@ none_more all rest more line before count next old s new why f t cut number fail
     inr (subst (λ (g : CertFault). FirstRefused added old all before g.line g.reason) (sym n.1) (next_refused added all rest more line before count next old s why t cut number (refused_by why s line fails n.0)))
 
 -- lines taken in behind those that were taken in
-pub lines_behind : (old new : Progress) (lines more : List (List ℕ)) → new.count ≡ old.count + length more → AdmitsAll added (state_of old.draft) more (state_of new.draft) → HasTaken lines old → HasTaken (lines ++ more) new
-lines_behind old new lines more counted admitted h =
+pub lines_behind : (old new : Progress) (lines more : List (List ℕ)) (gone : List model.Pair) → new.count ≡ old.count + length more → AdmitsAll added (state_of old.draft) more (state_of new.draft) → HasTaken lines gone old → HasTaken (lines ++ more) gone new
+lines_behind old new lines more gone counted admitted h =
     record {
       counted = counted ∙ ap (λ n. n + length more) h.counted ∙ sym (length-append lines more);
-      admitted = admits_both added lines more start (state_of old.draft) (state_of new.draft) h.admitted admitted;
+      admitted = admits_both added lines more start (behind gone (state_of old.draft)) (behind gone (state_of new.draft)) h.admitted (all_behind gone more (state_of old.draft) (state_of new.draft) admitted);
     }
 
 -- a line's fault is the text's, whatever follows it, behind lines that were taken in

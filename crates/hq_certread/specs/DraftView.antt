@@ -1,5 +1,5 @@
 -- What a draft means: what the lines so far leave.
-use Rattle.std.specs.Prelude.{map}
+use Rattle.std.specs.Prelude.{map, []}
 use Rattle.hq_certread.specs.declared.draft.Draft.{Draft}
 use Rattle.hq_certread.specs.TextFaults.{State}
 use Rattle.hq_cert.specs.View.{line_of, pair_of}
@@ -14,3 +14,7 @@ state_of d = record {
   pairs = map
       pair_of d.pairs.items;
 }
+
+-- the same without its pair lines
+abbrev pub without_pairs : State → State
+without_pairs s = record { stage = s.stage; chained = s.chained; order = s.order; lines = s.lines; pairs = [] }

@@ -4,7 +4,8 @@ ghost use Rattle.std.specs.Prelude.{◌≡◌, ◌&&◌, ◌<◌, true, false, m
 ghost use Rattle.hq_certread.specs.LineTests.{head_said, order_said};
 ghost use Rattle.hq_certread.specs.TextFaults.{start, add_head, add_order, add_line, add_pair, add_end, add_behind};
 ghost use Rattle.hq_certread.specs.TextFaults.{add_content, added, is_ended, read_of};
-ghost use Rattle.hq_certread.specs.DraftView.{state_of};
+ghost use Rattle.hq_cert.specs.View.{line_of, pair_of};
+ghost use Rattle.hq_certread.specs.DraftView.{state_of, without_pairs};
 ghost use Rattle.hq_certread.specs.Gives.{Gives};
 ghost use Rattle.hq_certread.specs.OnePass.{TakenFrom};
 ghost use Rattle.hq_certread.specs.declared.draft.Stage.{Stage};
@@ -277,6 +278,27 @@ impl Draft {
             Stage::Pairs => self.take_pairs(threes, text),
             _ => Ok((0, text)),
         }
+    }
+
+    /// The lines that were read.
+    pub fn lines(&self) -> &[Line]
+        ensures { map line_of result.now ≡ (state_of self.now).lines }
+    {
+        &self.lines
+    }
+
+    /// The pair lines that were read and weren't let go.
+    pub fn pairs(&self) -> &[Pair]
+        ensures { map pair_of result.now ≡ (state_of self.now).pairs }
+    {
+        &self.pairs
+    }
+
+    /// Lets the pair lines go that were read.
+    pub fn let_pairs_go(&mut self)
+        ensures { state_of self.new ≡ without_pairs (state_of self.old) }
+    {
+        self.pairs.clear();
     }
 
     /// Whether the end was read.

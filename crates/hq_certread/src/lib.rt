@@ -1,7 +1,8 @@
 //! Certificates from their texts.
 //!
 //! `parse` takes a text and `read` what a reader gives: each answers the certificate that the text spells, or the
-//! first faulty line and what is wrong with it. Whether the certificate holds is for a checker to say.
+//! first faulty line and what is wrong with it. `Progress` takes a text in piece by piece, and its pair lines can be
+//! let go meanwhile. Whether the certificate holds is for a checker to say.
 #![tactic(auto)]
 
 mod draft;
@@ -19,5 +20,6 @@ mod threes;
 
 pub use fault::{CertFault, CertReason};
 pub use hq_text::ReadFault;
+pub use progress::Progress;
 pub use reader::read;
 pub use reading::parse;

@@ -1,18 +1,22 @@
 //! A certificate as far as its lines were taken in.
 
-ghost use Rattle.std.specs.Prelude.{List, ℕ, []};
+ghost use Rattle.std.specs.Prelude.{◌≡◌, ℕ, List, [], ◌++◌, map, OnOk, IfOk, IfErr};
+ghost use Rattle.hq_cert.specs.View.{line_of, pair_of};
+ghost use Rattle.hq_model.specs.Certificate as model;
+ghost use Rattle.hq_text.specs.Lines.{lines_of};
 ghost use Rattle.hq_certread.specs.Gives.{ReadOf};
-ghost use Rattle.hq_certread.specs.SoFar.{HasFault, HasTaken};
+ghost use Rattle.hq_certread.specs.SoFar.{HasFault, HasTaken, LinesStand, ReadBehind, lines_in, pairs_in};
 
 use crate::draft::Draft;
 use crate::fault::CertFault;
 use crate::reading::{NO_MEMORY, finished, take_lines};
 use crate::threes::Threes;
-use hq_cert::Certificate;
+use hq_cert::{Certificate, Line, Pair};
 use hq_text::TakesLines;
 use std::alloc::Global;
 
-/// What the lines of a certificate left so far, how many they are, and what their numbers are read by.
+/// What the lines of a certificate left so far, how many they are, and what their numbers are read by. Its pair lines
+/// can be let go while it is read.
 #[derive(Drop)]
 pub struct Progress {
     draft: Draft,
@@ -23,7 +27,7 @@ pub struct Progress {
 impl Progress {
     /// Before the first line.
     pub fn new(alloc: Global) -> Progress
-        ensures { HasTaken [] result }
+        ensures { HasTaken [] [] result }
     {
         Progress {
             draft: Draft::new(alloc),
@@ -32,9 +36,60 @@ impl Progress {
         }
     }
 
-    /// The certificate of the lines, or that they have no end.
+    /// Takes in all lines of a text, behind those that were taken in. Behind a pair line no more lines come.
+    ///
+    /// # Errors
+    ///
+    /// `CertFault` with the first faulty line, or that there is no memory, at line 0.
+    pub fn take(&mut self, alloc: Global, text: &[u8]) -> Result<(), CertFault>
+        ensures taken { OnOk result
+            ((lines : List (List ℕ)) (gone : List model.Pair) → HasTaken lines gone self.old
+            → HasTaken (lines ++ lines_of text.now) gone self.new) }
+        ensures lines { OnOk result
+            ((lines : List (List ℕ)) (gone : List model.Pair) → HasTaken lines gone self.old
+            → LinesStand gone self.old self.new) }
+        ensures fault { IfErr result
+            (λ f. (lines more : List (List ℕ)) (gone : List model.Pair) → HasTaken lines gone self.old
+            → HasFault (lines ++ (lines_of text.now ++ more)) f) }
+    {
+        self.count = take_lines(&mut self.draft, alloc, &self.threes, self.count, text)?;
+        Ok(())
+    }
+
+    /// The lines that were read.
+    pub fn lines(&self) -> &[Line]
+        ensures { map line_of result.now ≡ lines_in self.now }
+    {
+        self.draft.lines()
+    }
+
+    /// The pair lines that were read and weren't let go.
+    pub fn pairs(&self) -> &[Pair]
+        ensures { map pair_of result.now ≡ pairs_in self.now }
+    {
+        self.draft.pairs()
+    }
+
+    /// Lets the pair lines go that were read.
+    pub fn let_pairs_go(&mut self)
+        ensures gone { (lines : List (List ℕ)) (gone : List model.Pair) → HasTaken lines gone self.old
+            → HasTaken lines (gone ++ pairs_in self.old) self.new }
+        ensures lines { lines_in self.new ≡ lines_in self.old }
+        ensures none { pairs_in self.new ≡ [] }
+    {
+        self.draft.let_pairs_go();
+    }
+
+    /// The certificate of the lines, without the pair lines that were let go; or that they have no end.
+    ///
+    /// # Errors
+    ///
+    /// `CertFault` with the line behind the last one.
     pub fn finish(self) -> Result<Certificate, CertFault>
-        ensures { (lines : List (List ℕ)) → HasTaken lines self → ReadOf result lines }
+        ensures whole { (lines : List (List ℕ)) → HasTaken lines [] self → ReadOf result lines }
+        ensures read { (lines : List (List ℕ)) (gone : List model.Pair) → HasTaken lines gone self
+            → ReadBehind gone result lines }
+        ensures parts { IfOk result (λ c. (c.lines ≡ lines_in self) × (c.pairs ≡ pairs_in self)) }
     {
         finished(self.draft, self.count)
     }
@@ -43,13 +98,12 @@ impl Progress {
 impl TakesLines for Progress {
     type Fault = CertFault;
 
-    ghost Took = { HasTaken };
+    ghost Took = { λ _ lines progress. HasTaken lines [] progress };
 
     ghost Refuses = { HasFault };
 
     fn take_lines(&mut self, alloc: Global, text: &[u8]) -> Result<(), CertFault> {
-        self.count = take_lines(&mut self.draft, alloc, &self.threes, self.count, text)?;
-        Ok(())
+        self.take(alloc, text)
     }
 
     fn no_memory() -> CertFault {

@@ -6,6 +6,7 @@ ghost use Rattle.hq_text.specs.Lines.{lines_of, words_of};
 ghost use Rattle.hq_model.specs.Certificate as model;
 ghost use Rattle.hq_certread.specs.DraftView.{state_of};
 ghost use Rattle.hq_certread.specs.Gives.{Gives, GivesCertificate, TakesAll, ReadOf, no_memory};
+ghost use Rattle.hq_certread.specs.SoFar.{ReadBehind, behind};
 ghost use Rattle.hq_certtext.specs.Grammar.{CertText};
 ghost use Rattle.hq_certread.specs.TextFaults.{FirstFault, added, at_line, start};
 
@@ -112,10 +113,14 @@ pub fn take_lines(
     take_split(draft, alloc, threes, &mut words, before, text)
 }
 
-/// The certificate of a text of so many lines, all of them taken in; or that it has no end.
+/// The certificate of a text of so many lines, all of them taken in, without the pair lines that were let go; or
+/// that it has no end.
 pub fn finished(draft: Draft, count: usize) -> Result<Certificate, CertFault>
-    ensures { (lines : List (List ℕ)) → count ≡ length lines → AdmitsAll added start lines (state_of draft)
+    ensures whole { (lines : List (List ℕ)) → count ≡ length lines → AdmitsAll added start lines (state_of draft)
         → ReadOf result lines }
+    ensures read { (lines : List (List ℕ)) (gone : List model.Pair) → count ≡ length lines
+        → AdmitsAll added start lines (behind gone (state_of draft)) → ReadBehind gone result lines }
+    ensures parts { IfOk result (λ c. (c.lines ≡ (state_of draft).lines) × (c.pairs ≡ (state_of draft).pairs)) }
 {
     if draft.is_ended() {
         return Ok(draft.certificate());

@@ -51,7 +51,7 @@ impl Progress {
 impl TakesLines for Progress {
     type Fault = JobFault;
 
-    ghost Took = { HasTaken };
+    ghost Took = { λ _ lines progress. HasTaken lines progress };
 
     ghost Refuses = { HasFault };
 

@@ -2,3 +2,4 @@ pub mod Audits
 pub mod Checks
 mod Numbers
 pub mod Audited
+pub mod WhileRead

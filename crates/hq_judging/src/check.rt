@@ -1,20 +1,20 @@
 //! `hsaq check`: whether a certificate holds for a job.
 
-ghost use Rattle.std.specs.Prelude.{◌≡◌, Some, IfOk, IfErr, OnOk, length};
-ghost use Rattle.hq_text.specs.Lines.{lines_of};
+ghost use Rattle.std.specs.Prelude.{Some, List, length};
 ghost use Rattle.hq_job.specs.Plan.{plan};
+ghost use Rattle.hq_model.specs.Certificate as model;
 ghost use Rattle.hq_model.specs.Machine.{bound};
-ghost use Rattle.hq_certtext.specs.Grammar.{CertText};
-ghost use Rattle.hq_judging.specs.Check.{NoCertificate, SaysNoCertificate, Checked, CheckedReport, CertReport};
+ghost use Rattle.hq_certcheck.specs.Seen.{HasSeen, with_pairs};
+ghost use Rattle.hq_judging.specs.Check.{SaysNoCertificate, Checked, CheckedReport, CertReport};
 ghost use Rattle.hq_judging.specs.Check.{NoSaid, accepted_text, cert_refusal, bad_line_text, pair_missing_text};
 ghost use Rattle.hq_judging.specs.Check.{bad_pair_text};
-ghost use Rattle.hq_status.specs.Reports.{JobTextReport, OfReader, ReaderReport, Reported, Said, with_feed};
+ghost use Rattle.hq_status.specs.Reports.{JobTextReport, ReaderReport, Reported, Said, with_feed};
 
-use hq_cert::Certificate;
-use hq_certcheck::{Accepted, CheckNo, check_wide};
-use hq_certread::{CertFault, CertReason, ReadFault, read};
+use crate::checking::{Known, take_certificate};
+use hq_certcheck::{Accepted, CheckNo, check_seen_wide};
+use hq_certread::{CertFault, CertReason};
 use hq_job::Job;
-use hq_status::{CheckFault, Status, let_go, say, say_file, say_memory, take_job};
+use hq_status::{CheckFault, Status, let_go, say, say_memory, take_job};
 use std::alloc::Global;
 use std::fmt;
 use std::io::{Read, Write};
@@ -91,7 +91,7 @@ impl fmt::Display for BadPair {
 }
 
 /// Writes why a text is no certificate's.
-fn say_no_certificate<W: Write>(writer: &mut W, fault: CertFault) -> Status
+pub fn say_no_certificate<W: Write>(writer: &mut W, fault: CertFault) -> Status
     ensures { SaysNoCertificate fault (W.contents writer.old) (W.contents writer.new) result }
 {
     match fault.reason {
@@ -101,26 +101,6 @@ fn say_no_certificate<W: Write>(writer: &mut W, fault: CertFault) -> Status
             CertRefusal(fault),
             Status::CertificateRefused(fault),
         ),
-    }
-}
-
-/// The certificate of a reader's text; or, where there is none, the status of the refusal, which is written.
-pub fn take_certificate<R: Read, W: Write>(
-    alloc: Global,
-    reader: &mut R,
-    writer: &mut W,
-) -> Result<Certificate, Status>
-    ensures found { IfOk result
-        (λ c. OfReader R R.remaining reader.old reader.new (λ text. CertText (lines_of text) c)) }
-    ensures unwritten { OnOk result (writer.new ≡ writer.old) }
-    ensures refused { IfErr result
-        (Reported (ReaderReport R R.remaining reader.old reader.new NoCertificate) (W.contents writer.old)
-        (W.contents writer.new)) }
-{
-    match read(alloc, reader) {
-        Ok(certificate) => Ok(certificate),
-        Err(ReadFault::Reader) => Err(say_file(writer)),
-        Err(ReadFault::Text(fault)) => Err(say_no_certificate(writer, fault)),
     }
 }
 
@@ -184,17 +164,24 @@ pub fn say_checked<W: Write>(writer: &mut W, checked: Result<Accepted, (CheckNo,
     }
 }
 
-/// Checks a certificate against a job, and writes the answer.
+/// Checks a certificate that was read for a job, and writes the answer.
 fn check_found<W: Write>(
     rt: &(impl Threads + Sync),
     alloc: Global,
     writer: &mut W,
-    job: Job,
-    certificate: &Certificate,
+    known: Known,
 ) -> Status
-    ensures { Reported (CheckedReport job certificate.now) (W.contents writer.old) (W.contents writer.new) result }
+    requires seen { (pairs : List model.Pair) × HasSeen (plan known.job) known.certificate.lines pairs known.seen }
+    ensures { (pairs : List model.Pair) → HasSeen (plan known.job) known.certificate.lines pairs known.seen
+        → Reported (CheckedReport known.job (with_pairs known.certificate pairs)) (W.contents writer.old)
+        (W.contents writer.new) result }
 {
-    let checked = check_wide(rt, alloc, job, certificate);
+    let Known {
+        job,
+        certificate,
+        seen,
+    } = known;
+    let checked = check_seen_wide(rt, alloc, job, &certificate, &seen);
     say_checked(writer, checked)
 }
 
@@ -209,17 +196,15 @@ fn check_read<S: Read, W: Write>(
     ensures { Reported (ReaderReport S S.remaining certificate.old certificate.new (CertReport job))
         (W.contents writer.old) (W.contents writer.new) result }
 {
-    match take_certificate(alloc, certificate, writer) {
-        Ok(certificate) => check_found(rt, alloc, writer, job, &certificate),
-        Err(status) => {
-            let_go(job);
-            status
-        }
+    match take_certificate(alloc, certificate, writer, job) {
+        Ok(known) => check_found(rt, alloc, writer, known),
+        Err(status) => status,
     }
 }
 
 /// Reads a job and then a certificate, and writes whether the certificate holds for the job, as `check_wide`
-/// answers it. A fault of the job is written first. Nothing is written before the last growth of memory.
+/// answers it. A fault of the job is written first. Nothing is written before the last growth of memory. Pair lines
+/// are checked as they come, and not kept.
 pub fn check_engine<R: Read, S: Read, W: Write>(
     rt: &(impl Threads + Sync),
     alloc: Global,

@@ -1,27 +1,33 @@
 //! `hsaq check` without threads, for callers that may start none.
 
-ghost use Rattle.std.specs.Prelude.{◌≡◌};
+ghost use Rattle.std.specs.Prelude.{List};
+ghost use Rattle.hq_job.specs.Plan.{plan};
+ghost use Rattle.hq_model.specs.Certificate as model;
+ghost use Rattle.hq_certcheck.specs.Seen.{HasSeen, with_pairs};
 ghost use Rattle.hq_judging.specs.Check.{CheckedReport, CertReport};
 ghost use Rattle.hq_status.specs.Reports.{JobTextReport, ReaderReport, Reported};
 
-use crate::check::{say_checked, take_certificate};
-use hq_cert::Certificate;
-use hq_certcheck::check;
+use crate::check::say_checked;
+use crate::checking::{Known, take_certificate};
+use hq_certcheck::check_seen;
 use hq_job::Job;
-use hq_status::{Status, let_go, take_job};
+use hq_status::{Status, take_job};
 use std::alloc::Global;
 use std::io::{Read, Write};
 
-/// Checks a certificate against a job, and writes the answer.
-fn check_found<W: Write>(
-    alloc: Global,
-    writer: &mut W,
-    job: Job,
-    certificate: &Certificate,
-) -> Status
-    ensures { Reported (CheckedReport job certificate.now) (W.contents writer.old) (W.contents writer.new) result }
+/// Checks a certificate that was read for a job, and writes the answer.
+fn check_found<W: Write>(alloc: Global, writer: &mut W, known: Known) -> Status
+    requires { (pairs : List model.Pair) × HasSeen (plan known.job) known.certificate.lines pairs known.seen }
+    ensures { (pairs : List model.Pair) → HasSeen (plan known.job) known.certificate.lines pairs known.seen
+        → Reported (CheckedReport known.job (with_pairs known.certificate pairs)) (W.contents writer.old)
+        (W.contents writer.new) result }
 {
-    let checked = check(alloc, job, certificate);
+    let Known {
+        job,
+        certificate,
+        seen,
+    } = known;
+    let checked = check_seen(alloc, job, &certificate, &seen);
     say_checked(writer, checked)
 }
 
@@ -35,12 +41,9 @@ fn check_read<S: Read, W: Write>(
     ensures { Reported (ReaderReport S S.remaining certificate.old certificate.new (CertReport job))
         (W.contents writer.old) (W.contents writer.new) result }
 {
-    match take_certificate(alloc, certificate, writer) {
-        Ok(certificate) => check_found(alloc, writer, job, &certificate),
-        Err(status) => {
-            let_go(job);
-            status
-        }
+    match take_certificate(alloc, certificate, writer, job) {
+        Ok(known) => check_found(alloc, writer, known),
+        Err(status) => status,
     }
 }
 

@@ -9,6 +9,7 @@ mod audit;
 mod audit_wide;
 mod check;
 mod check_alone;
+mod checking;
 mod giving;
 pub mod laws;
 mod stuck;

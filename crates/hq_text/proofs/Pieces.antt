@@ -94,6 +94,23 @@ pub whole_refused : {A F L : Type 0} (Took : Said L) (Refuses : Said F) (r : Res
 whole_refused Took Refuses (Ok a) p mid piece ends waits fault = tt
 whole_refused Took Refuses (Err f) p mid piece ends waits fault = λ text h. fault (text ++ piece) (ends_behind text piece ends) (waits text h)
 
+-- what is so of each start, where the answer is Ok, or Err
+pub on_ok_each : {A F L : Type 0} (P : L → Type 0) (r : Result A F) → ((from : L) → OnOk r (P from)) → OnOk r ((from : L) → P from)
+on_ok_each P (Ok a) h = h
+on_ok_each P (Err f) h = tt
+
+pub on_ok_at : {A F L : Type 0} (P : L → Type 0) (r : Result A F) (from : L) → OnOk r ((l : L) → P l) → OnOk r (P from)
+on_ok_at P (Ok a) from h = h from
+on_ok_at P (Err f) from h = tt
+
+pub if_err_each : {A F L : Type 0} (P : L → F → Type 0) (r : Result A F) → ((from : L) → IfErr r (P from)) → IfErr r (λ f. (from : L) → P from f)
+if_err_each P (Ok a) h = tt
+if_err_each P (Err f) h = h
+
+pub if_err_at : {A F L : Type 0} (P : L → F → Type 0) (r : Result A F) (from : L) → IfErr r (λ f. (l : L) → P l f) → IfErr r (P from)
+if_err_at P (Ok a) from h = tt
+if_err_at P (Err f) from h = h from
+
 -- ---- pieces in two parts
 
 stays_more : (P : List (List ℕ) → Type 0) (text piece : List ℕ) → Stays P text → Stays P (text ++ piece)

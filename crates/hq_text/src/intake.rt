@@ -38,8 +38,8 @@ pub trait TakesLines: Drop {
     /// What is wrong with a text, and where.
     type Fault: Drop;
 
-    // These lines were taken in, and leave this.
-    ghost Took: { List (List ℕ) → Self → Type 0 };
+    // Behind the first, which has taken in nothing yet, these lines were taken in, and leave the second.
+    ghost Took: { Self → List (List ℕ) → Self → Type 0 };
 
     // This is what is wrong with a text of these lines, unless memory ran out.
     ghost Refuses: { List (List ℕ) → Self.Fault → Type 0 };
@@ -48,9 +48,10 @@ pub trait TakesLines: Drop {
     /// follow.
     fn take_lines(&mut self, alloc: Global, text: &[u8]) -> Result<(), Self::Fault>
         ensures took { OnOk result
-            ((lines : List (List ℕ)) → Took lines self.old → Took (lines ++ lines_of text.now) self.new) }
+            ((from : Self) (lines : List (List ℕ)) → Took from lines self.old
+            → Took from (lines ++ lines_of text.now) self.new) }
         ensures fault { IfErr result
-            (λ f. (lines more : List (List ℕ)) → Took lines self.old
+            (λ f. (from : Self) (lines more : List (List ℕ)) → Took from lines self.old
             → Refuses (lines ++ (lines_of text.now ++ more)) f) };
 
     /// That there is no memory.
@@ -75,8 +76,8 @@ fn last_feed(piece: &[u8]) -> Option<usize>
 impl<L: TakesLines> Progress<L> {
     /// Before the first line.
     fn new(alloc: Global, taker: L) -> Progress<L>
-        requires { L.Took [] taker }
-        ensures { Holds L.Took result [] }
+        requires { L.Took taker [] taker }
+        ensures { Holds (L.Took taker) result [] }
     {
         Progress {
             taker,
@@ -87,7 +88,8 @@ impl<L: TakesLines> Progress<L> {
     /// Lets a piece wait.
     fn hold(&mut self, piece: &[u8]) -> Result<(), L::Fault>
         ensures held { OnOk result
-            ((text : List ℕ) → Holds L.Took self.old text → Holds L.Took self.new (text ++ piece.now)) }
+            ((from : L) (text : List ℕ) → Holds (L.Took from) self.old text
+            → Holds (L.Took from) self.new (text ++ piece.now)) }
         ensures memory { IfErr result (λ f. (lines : List (List ℕ)) → L.Refuses lines f) }
     {
         match self.waiting.extend_from_slice(piece) {
@@ -99,11 +101,13 @@ impl<L: TakesLines> Progress<L> {
     /// Takes in what waits.
     fn take_waiting(&mut self, alloc: Global) -> Result<(), L::Fault>
         ensures taken { OnOk result
-            ((text : List ℕ) → Holds L.Took self.old text → L.Took (lines_of text) self.new.taker) }
+            ((from : L) (text : List ℕ) → Holds (L.Took from) self.old text
+            → L.Took from (lines_of text) self.new.taker) }
         ensures none { OnOk result (self.new.waiting.items ≡ []) }
-        ensures fault { IfErr result (λ f. (text : List ℕ) → Holds L.Took self.old text → L.Refuses (lines_of text) f) }
+        ensures fault { IfErr result
+            (λ f. (from : L) (text : List ℕ) → Holds (L.Took from) self.old text → L.Refuses (lines_of text) f) }
         ensures stays { IfErr result
-            (λ f. (text : List ℕ) → EndsLine text → Holds L.Took self.old text
+            (λ f. (from : L) (text : List ℕ) → EndsLine text → Holds (L.Took from) self.old text
             → Stays (λ lines. L.Refuses lines f) text) }
     {
         self.taker.take_lines(alloc, &self.waiting)?;
@@ -115,9 +119,10 @@ impl<L: TakesLines> Progress<L> {
     fn take_whole(&mut self, alloc: Global, piece: &[u8]) -> Result<(), L::Fault>
         requires { EndsLine piece.now }
         ensures taken { OnOk result
-            ((text : List ℕ) → Holds L.Took self.old text → Holds L.Took self.new (text ++ piece.now)) }
+            ((from : L) (text : List ℕ) → Holds (L.Took from) self.old text
+            → Holds (L.Took from) self.new (text ++ piece.now)) }
         ensures fault { IfErr result
-            (λ f. (text : List ℕ) → Holds L.Took self.old text
+            (λ f. (from : L) (text : List ℕ) → Holds (L.Took from) self.old text
             → Stays (λ lines. L.Refuses lines f) (text ++ piece.now)) }
     {
         self.hold(piece)?;
@@ -129,9 +134,10 @@ impl<L: TakesLines> Progress<L> {
         requires within { whole ≤ length piece.now }
         requires ends { EndsLine (take whole piece.now) }
         ensures taken { OnOk result
-            ((text : List ℕ) → Holds L.Took self.old text → Holds L.Took self.new (text ++ piece.now)) }
+            ((from : L) (text : List ℕ) → Holds (L.Took from) self.old text
+            → Holds (L.Took from) self.new (text ++ piece.now)) }
         ensures fault { IfErr result
-            (λ f. (text : List ℕ) → Holds L.Took self.old text
+            (λ f. (from : L) (text : List ℕ) → Holds (L.Took from) self.old text
             → Stays (λ lines. L.Refuses lines f) (text ++ piece.now)) }
     {
         let (front, rest) = piece.split_at(whole);
@@ -142,9 +148,10 @@ impl<L: TakesLines> Progress<L> {
     /// Takes in the next piece of the text. Where enough waits, its whole lines are taken in.
     fn take(&mut self, alloc: Global, piece: &[u8]) -> Result<(), L::Fault>
         ensures taken { OnOk result
-            ((text : List ℕ) → Holds L.Took self.old text → Holds L.Took self.new (text ++ piece.now)) }
+            ((from : L) (text : List ℕ) → Holds (L.Took from) self.old text
+            → Holds (L.Took from) self.new (text ++ piece.now)) }
         ensures fault { IfErr result
-            (λ f. (text : List ℕ) → Holds L.Took self.old text
+            (λ f. (from : L) (text : List ℕ) → Holds (L.Took from) self.old text
             → Stays (λ lines. L.Refuses lines f) (text ++ piece.now)) }
     {
         if self.waiting.len() < ENOUGH {
@@ -158,7 +165,8 @@ impl<L: TakesLines> Progress<L> {
 
     /// What took in the text, which has come to its end.
     fn finish(mut self, alloc: Global) -> Result<L, L::Fault>
-        ensures { (text : List ℕ) → Holds L.Took self text → TakenOf L.Took L.Refuses result (lines_of text) }
+        ensures { (from : L) (text : List ℕ) → Holds (L.Took from) self text
+            → TakenOf (L.Took from) L.Refuses result (lines_of text) }
     {
         self.take_waiting(alloc)?;
         Ok(self.taker)
@@ -176,16 +184,16 @@ enum Reading<L, F> {
 impl<L: TakesLines> Reading<L, L::Fault> {
     /// Before the first byte.
     fn new(alloc: Global, taker: L) -> Reading<L, L::Fault>
-        requires { L.Took [] taker }
-        ensures { HasRead L.Took L.Refuses result [] }
+        requires { L.Took taker [] taker }
+        ensures { HasRead (L.Took taker) L.Refuses result [] }
     {
         Reading::Taking(Progress::new(alloc, taker))
     }
 
     /// Takes in the next piece of the text. Where it is faulty, what took in the lines before it is let go.
     fn take(&mut self, alloc: Global, piece: &[u8])
-        ensures { (text : List ℕ) → HasRead L.Took L.Refuses self.old text
-            → HasRead L.Took L.Refuses self.new (text ++ piece.now) }
+        ensures { (from : L) (text : List ℕ) → HasRead (L.Took from) L.Refuses self.old text
+            → HasRead (L.Took from) L.Refuses self.new (text ++ piece.now) }
     {
         let Reading::Taking(progress) = self else {
             return;
@@ -197,8 +205,8 @@ impl<L: TakesLines> Reading<L, L::Fault> {
 
     /// What took in the text, which has come to its end, or what is wrong with the text.
     fn finish(self, alloc: Global) -> Result<L, L::Fault>
-        ensures { (text : List ℕ) → HasRead L.Took L.Refuses self text
-            → TakenOf L.Took L.Refuses result (lines_of text) }
+        ensures { (from : L) (text : List ℕ) → HasRead (L.Took from) L.Refuses self text
+            → TakenOf (L.Took from) L.Refuses result (lines_of text) }
     {
         match self {
             Reading::Taking(progress) => progress.finish(alloc),
@@ -219,9 +227,9 @@ pub fn read_lines<S: Source, L: TakesLines>(
     source: &mut S,
     taker: L,
 ) -> Result<L, ReadFault<L::Fault>>
-    requires { L.Took [] taker }
+    requires { L.Took taker [] taker }
     ensures taken { IfOk result
-        (λ l. OfText S S.Turned TURNS source.old source.new (λ text. L.Took (lines_of text) l)) }
+        (λ l. OfText S S.Turned TURNS source.old source.new (λ text. L.Took taker (lines_of text) l)) }
     ensures fault { IfErr result
         (λ e. FaultOf e (λ f. OfText S S.Turned TURNS source.old source.new (λ text. L.Refuses (lines_of text) f))
         (Fails S S.Turned TURNS source.old source.new ⊎ Passes S S.Turned TURNS source.old source.new)) }

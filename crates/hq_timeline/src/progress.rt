@@ -40,7 +40,7 @@ impl Progress {
 impl TakesLines for Progress {
     type Fault = TimeFault;
 
-    ghost Took = { HasTaken };
+    ghost Took = { λ _ lines progress. HasTaken lines progress };
 
     ghost Refuses = { HasFault };
 

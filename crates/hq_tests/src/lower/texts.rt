@@ -102,7 +102,7 @@ enum CounterFault {
 impl TakesLines for Counter {
     type Fault = CounterFault;
 
-    ghost Took = { λ lines counter. counter.count ≡ length lines };
+    ghost Took = { λ _ lines counter. counter.count ≡ length lines };
 
     ghost Refuses = { λ lines fault. Unit {0} };
 

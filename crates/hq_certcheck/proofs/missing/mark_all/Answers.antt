@@ -1,14 +1,34 @@
-use Rattle.std.proofs.lemmas.Grind.{common_steps}
-use Rattle.std.proofs.Common.{map, arith}
+use Rattle.std.proofs.Common.{◌≡◌, ◌+◌, ◌++◌, List, map, length, arith, sym, ◌∙◌, subst, ap, length-append}
+use Rattle.std.proofs.lemmas.List.{length-map}
 use Rattle.hq_cert.specs.View.{pair_of}
+use Rattle.hq_certcheck.specs.Covering.{AreListed}
 use Rattle.hq_certcheck.proofs.Saying.{meant_at}
 use Rattle.hq_certcheck.proofs.Flags.{listed_next}
+use Rattle.hq_certcheck.proofs.Seeing.{listed_longer, got_right}
 use Rattle.hq_certcheck.proofs.missing.mark_all.Goals as goal
+
+pub loop-pair-init : goal.loop-pair-init
+loop-pair-init c = record {
+  len = c.requires.len;
+  marked = λ before h.
+      let none : length before ≡ length before + 0 = omega arith in
+      subst (λ n. AreListed (before ++ map pair_of c.args.pairs.now) n c.args.count c.args.cells.now) none (listed_longer before (map pair_of c.args.pairs.now) c.args.count c.args.cells.now h);
+}
 
 pub loop-pair-preserved : goal.loop-pair-preserved
 loop-pair-preserved c =
-    listed_next (map pair_of c.args.pairs.now) c.loop-pair.pair-index c.args.count c.loop-pair.cells c.mark.new.cells (pair_of c.pair-item.result) c.loop-pair.invariant c.mark.ensures
-    (meant_at pair_of c.args.pairs.now c.loop-pair.pair-index c.pair-item.result c.loop-pair-test.true c.pair-item.is)
+    let found = map pair_of c.args.pairs.now in
+    let i = c.loop-pair.pair-index in record {
+      len = c.mark.ensures.len ∙ c.loop-pair.invariant.len;
+      marked = λ before h.
+          let next : length before + i + 1 ≡ length before + (i + 1) = omega arith in
+          subst (λ n. AreListed (before ++ found) n c.args.count c.mark.new.cells) next
+          (listed_next (before ++ found) (length before + i) c.args.count c.loop-pair.cells c.mark.new.cells (pair_of c.pair-item.result) (c.loop-pair.invariant.marked before h) c.mark.ensures
+          (got_right before found i ∙ meant_at pair_of c.args.pairs.now i c.pair-item.result c.loop-pair-test.true c.pair-item.is));
+    }
 
-pub returns : goal.returns
-returns c = grind (arith, common_steps)
+pub returns-clause-marked : goal.returns-clause-marked
+returns-clause-marked c before h =
+    let found = map pair_of c.args.pairs.now in
+    let all : length before + c.loop-pair.pair-index ≡ length (before ++ found) = omega (arith, c.loop-pair-test.false, length-append before found, length-map c.args.pairs.now pair_of) in
+    subst (λ n. AreListed (before ++ found) n c.args.count c.loop-pair.cells) all (c.loop-pair.invariant.marked before h)

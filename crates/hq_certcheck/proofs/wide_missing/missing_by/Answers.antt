@@ -6,12 +6,11 @@ use Rattle.hq_certcheck.proofs.Flags.{match_change, none_missing, first_missing}
 use Rattle.hq_certcheck.proofs.wide_missing.missing_by.Goals as goal
 
 pub returns : goal.returns
-returns g c =
+returns g c cert given =
     let job = plan c.args.job.now in
-    let cert = c.args.certificate.now in
     let cells = c.args.cells.now in
     let n = sym (packets_count c.args.job.now) in
-    let listed : AreListed cert.pairs (length cert.pairs) (length job.packets) cells = subst (λ k. AreListed cert.pairs (length cert.pairs) k cells) n c.requires.listed in
+    let listed : AreListed cert.pairs (length cert.pairs) (length job.packets) cells = subst (λ k. AreListed cert.pairs (length cert.pairs) k cells) n given in
     let found = subst (λ k. MatchOption c.first_unflagged.result ((p : ℕ) → p < k → AllFlagged job cells k p k) (λ f. FirstUnflagged job cells k f.0 f.1)) n c.first_unflagged.ensures in
     match_change c.first_unflagged.result ((p : ℕ) → p < length job.packets → AllFlagged job cells (length job.packets) p (length job.packets)) (NoneMissing job cert)
     (λ f. FirstUnflagged job cells (length job.packets) f.0 f.1) (λ f. FirstMissing job cert f.0 f.1)

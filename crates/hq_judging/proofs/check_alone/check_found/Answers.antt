@@ -1,5 +1,8 @@
+use Rattle.hq_certcheck.specs.Seen.{with_pairs}
 use Rattle.hq_judging.proofs.Checks.{checked_reported}
 use Rattle.hq_judging.proofs.check_alone.check_found.Goals as goal
 
 pub returns : goal.returns
-returns g c = checked_reported c.args.job c.args.certificate.now c.check-checked.result _ _ c.say_checked.result c.check-checked.ensures.accepted c.check-checked.ensures.headline c.check-checked.ensures.refused c.say_checked.ensures
+returns g c pairs seen =
+    let h = c.check_seen-checked.ensures pairs seen in
+    checked_reported c.args.known.job (with_pairs c.args.known.certificate pairs) c.check_seen-checked.result _ _ c.say_checked.result h.accepted h.headline h.refused c.say_checked.ensures

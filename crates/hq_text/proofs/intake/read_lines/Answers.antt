@@ -22,7 +22,7 @@ loop-turn-preserved g c =
     record {
       text = so.text ++ take c.in-Some.count c.turn.new.buffer;
       given = gives_more _ g.S.Source.Turned c.args.source.now c.loop-turn.source c.turn.new.self c.loop-turn._turn c.in-Some.count so.text c.turn.new.buffer (so.text ++ take c.in-Some.count c.turn.new.buffer) so.given (omega arith) c.in-Some.ensures.turned refl;
-      so = c.take.ensures so.text so.so;
+      so = c.take.ensures c.args.taker so.text so.so;
     }
 
 pub returns-clause-fault : goal.returns-clause-fault

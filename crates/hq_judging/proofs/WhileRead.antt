@@ -1,0 +1,53 @@
+-- A certificate that is checked while it is read.
+use Rattle.std.proofs.Common.{◌≡◌, ℕ, List, [], ◌++◌, Option, Result, Ok, Err, IfOk, IfErr, sym, ap, subst, ◌∙◌, append-nil}
+use Rattle.std.specs.Prelude.{map}
+use Rattle.hq_cert.specs.declared.certificate.Line.{Line}
+use Rattle.hq_cert.specs.declared.certificate.Pair.{Pair}
+use Rattle.hq_cert.specs.View.{line_of, pair_of}
+use Rattle.hq_text.specs.Intake.{OfText}
+use Rattle.hq_text.specs.Lines.{lines_of}
+use Rattle.hq_text.specs.Turns.{ReadTurn}
+use Rattle.hq_job.specs.Plan.{plan}
+use Rattle.hq_job.specs.Value.{JobValue}
+use Rattle.hq_model.specs.Job.{Job}
+use Rattle.hq_model.specs.Certificate as model
+use Rattle.hq_certtext.specs.Grammar.{CertText}
+use Rattle.hq_certread.specs.declared.fault.CertFault.{CertFault}
+use Rattle.hq_certread.specs.SoFar.{HasTaken, ReadBehind, lines_in, pairs_in}
+use Rattle.hq_certcheck.specs.Seen.{Seen, HasSeen, with_pairs}
+use Rattle.hq_judging.specs.Check.{CheckedReport, CertReport}
+use Rattle.hq_judging.specs.Checking.{HasChecked, WasRead, WasReadFor}
+use Rattle.hq_judging.specs.declared.checking.Checking.{Checking}
+use Rattle.hq_judging.specs.declared.checking.Known.{Known}
+use Rattle.hq_judging.proofs.Checks.{certificate_found}
+use Rattle.hq_status.specs.Reports.{OfReader, ReaderReport, Reported}
+use Rattle.hq_status.specs.declared.status.Status.{Status}
+use Rattle.hq_status.proofs.ReadTexts.{of_reader}
+
+-- the certificate of the lines, with the pair lines that were let go
+pub known_of : (from c : Checking) (lines : List (List ℕ)) (k : Known) (h : HasChecked from lines c) → k.job ≡ c.job → k.seen ≡ c.seen → (k.certificate.lines ≡ lines_in c.progress) × (k.certificate.pairs ≡ pairs_in c.progress)
+    → ReadBehind h.gone (Ok k.certificate) lines → WasReadFor from lines k
+known_of from c lines k h job seen parts read =
+    let none : h.gone ++ k.certificate.pairs ≡ h.gone = ap (λ ps. h.gone ++ ps) (parts.1 ∙ h.none) ∙ append-nil h.gone in record {
+      same = job ∙ h.same;
+      read = record {
+        pairs = h.gone;
+        text = subst (λ (ps : List model.Pair). CertText lines (with_pairs k.certificate ps)) none read;
+        seen = subst (λ (j : JobValue). HasSeen (plan j) k.certificate.lines h.gone k.seen) (sym job)
+            (subst (λ (s : Seen). HasSeen (plan c.job) k.certificate.lines h.gone s) (sym seen) (subst (λ (ls : List model.Line). HasSeen (plan c.job) ls h.gone c.seen) (sym parts.0) h.seen));
+      };
+    }
+
+-- a reader's text, of which the job is the same
+pub read_for : (S : Type 0) (left : S → Option (List ℕ)) (old new : S) (from : Checking) (k : Known) → OfText S (ReadTurn left) 2000000 old new (λ text. WasReadFor from (lines_of text) k) → (k.job ≡ from.job) × OfReader S left old new (λ text. WasRead (lines_of text) k)
+read_for S left old new from k h = (h.so.same, of_reader S left old new (λ text. WasRead (lines_of text) k) (record { text = h.text; ended = h.ended; so = h.so.read }))
+
+-- what is written of a certificate that was read
+pub known_found : (S : Type 0) (left : S → Option (List ℕ)) (old new : S) (job : JobValue) (k : Known) (was mid is : Option (List ℕ)) (answered : Status)
+    → k.job ≡ job → OfReader S left old new (λ text. WasRead (lines_of text) k) → mid ≡ was
+    → ((pairs : List model.Pair) → HasSeen (plan k.job) k.certificate.lines pairs k.seen → Reported (CheckedReport k.job (with_pairs k.certificate pairs)) mid is answered)
+    → Reported (ReaderReport S left old new (CertReport job)) was is answered
+known_found S left old new job k was mid is answered e h same said =
+    certificate_found S left old new job (with_pairs k.certificate h.so.pairs) was mid is answered
+    (record { text = h.text; ended = h.ended; known = h.known; so = h.so.text }) same
+    (subst (λ (j : JobValue). Reported (CheckedReport j (with_pairs k.certificate h.so.pairs)) mid is answered) e (said h.so.pairs h.so.seen))

@@ -1,0 +1,159 @@
+//! Certificates that are checked while they are read.
+
+ghost use Rattle.std.specs.Prelude.{◌≡◌, ℕ, ◌⊎◌, [], List, IfOk, IfErr, OnOk};
+ghost use Rattle.hq_text.specs.Intake.{FaultOf, OfText};
+ghost use Rattle.hq_text.specs.Lines.{lines_of};
+ghost use Rattle.hq_text.specs.Turns.{Fails, Passes};
+ghost use Rattle.hq_certread.specs.SoFar.{HasFault};
+ghost use Rattle.hq_judging.specs.Check.{NoCertificate};
+ghost use Rattle.hq_judging.specs.Checking.{FinishedOf, HasChecked, WasRead, WasReadFor};
+ghost use Rattle.hq_status.specs.Reports.{OfReader, ReaderReport, Reported};
+
+use crate::check::say_no_certificate;
+use hq_cert::Certificate;
+use hq_certcheck::SeenPairs;
+use hq_certread::{CertFault, Progress, ReadFault};
+use hq_job::Job;
+use hq_status::{Status, let_go, say_file, say_memory};
+use hq_text::{Source, TURNS, TakesLines, read_lines};
+use std::alloc::Global;
+use std::io::{Read, Write};
+
+/// A job, and what the lines of its certificate left so far. Of pair lines no more is kept than a check asks for.
+#[derive(Drop)]
+struct Checking {
+    job: Job,
+    progress: Progress,
+    seen: SeenPairs,
+}
+
+/// A certificate that was read for a job, without its pair lines, and what is known of those.
+#[derive(Drop)]
+pub struct Known {
+    pub job: Job,
+    pub certificate: Certificate,
+    pub seen: SeenPairs,
+}
+
+impl Checking {
+    /// Before the first line of a certificate for this job; or the job, where there is no memory.
+    fn new(alloc: Global, job: Job) -> Result<Checking, Job>
+        ensures { IfOk result (λ checking. HasChecked checking [] checking × (checking.job ≡ job)) }
+    {
+        match SeenPairs::new(alloc, &job) {
+            Ok(seen) => Ok(Checking {
+                job,
+                progress: Progress::new(alloc),
+                seen,
+            }),
+            Err(_) => Err(job),
+        }
+    }
+
+    /// The certificate of the lines, or that they have no end.
+    fn finish(self) -> Result<Known, CertFault>
+        ensures { (from : Checking) (lines : List (List ℕ)) → HasChecked from lines self
+            → FinishedOf from result lines }
+    {
+        let Checking {
+            job,
+            progress,
+            seen,
+        } = self;
+        let certificate = progress.finish()?;
+        Ok(Known {
+            job,
+            certificate,
+            seen,
+        })
+    }
+}
+
+impl TakesLines for Checking {
+    type Fault = CertFault;
+
+    ghost Took = { HasChecked };
+
+    ghost Refuses = { HasFault };
+
+    fn take_lines(&mut self, alloc: Global, text: &[u8]) -> Result<(), CertFault> {
+        self.progress.take(alloc, text)?;
+        self.seen
+            .take_in(&self.job, self.progress.lines(), self.progress.pairs());
+        self.progress.let_pairs_go();
+        Ok(())
+    }
+
+    fn no_memory() -> CertFault {
+        Progress::no_memory()
+    }
+}
+
+/// The certificate that a source gives up to its end, checked as far as that can be while it comes.
+fn read_source<S: Source>(
+    alloc: Global,
+    source: &mut S,
+    checking: Checking,
+) -> Result<Known, ReadFault<CertFault>>
+    requires { HasChecked checking [] checking }
+    ensures found { IfOk result
+        (λ known. OfText S S.Turned TURNS source.old source.new
+        (λ text. WasReadFor checking (lines_of text) known)) }
+    ensures fault { IfErr result
+        (λ e. FaultOf e (λ f. OfText S S.Turned TURNS source.old source.new (λ text. HasFault (lines_of text) f))
+        (Fails S S.Turned TURNS source.old source.new ⊎ Passes S S.Turned TURNS source.old source.new)) }
+{
+    let checking = read_lines(alloc, source, checking)?;
+    match checking.finish() {
+        Ok(known) => Ok(known),
+        Err(fault) => Err(ReadFault::Text(fault)),
+    }
+}
+
+/// The same of a reader's text; or, where there is no certificate, the status of the refusal, which is written.
+fn read_certificate<R: Read, W: Write>(
+    alloc: Global,
+    reader: &mut R,
+    writer: &mut W,
+    checking: Checking,
+) -> Result<Known, Status>
+    requires { HasChecked checking [] checking }
+    ensures found { IfOk result
+        (λ known. (known.job ≡ checking.job)
+        × OfReader R R.remaining reader.old reader.new (λ text. WasRead (lines_of text) known)) }
+    ensures unwritten { OnOk result (writer.new ≡ writer.old) }
+    ensures refused { IfErr result
+        (Reported (ReaderReport R R.remaining reader.old reader.new NoCertificate) (W.contents writer.old)
+        (W.contents writer.new)) }
+{
+    match read_source(alloc, reader, checking) {
+        Ok(known) => Ok(known),
+        Err(ReadFault::Reader) => Err(say_file(writer)),
+        Err(ReadFault::Text(fault)) => Err(say_no_certificate(writer, fault)),
+    }
+}
+
+/// The certificate of a reader's text for a job, whose pair lines were checked as they came; or, where there is none,
+/// the status of the refusal, which is written.
+pub fn take_certificate<R: Read, W: Write>(
+    alloc: Global,
+    reader: &mut R,
+    writer: &mut W,
+    job: Job,
+) -> Result<Known, Status>
+    ensures found { IfOk result
+        (λ known. (known.job ≡ job)
+        × OfReader R R.remaining reader.old reader.new (λ text. WasRead (lines_of text) known)) }
+    ensures unwritten { OnOk result (writer.new ≡ writer.old) }
+    ensures refused { IfErr result
+        (Reported (ReaderReport R R.remaining reader.old reader.new NoCertificate) (W.contents writer.old)
+        (W.contents writer.new)) }
+{
+    match Checking::new(alloc, job) {
+        Ok(checking) => read_certificate(alloc, reader, writer, checking),
+        Err(job) => {
+            let_go(job);
+            Err(say_memory(writer))
+        }
+    }
+}
