@@ -36,7 +36,8 @@ impl Progress {
         }
     }
 
-    /// Takes in all lines of a text, behind those that were taken in. Behind a pair line no more lines come.
+    /// Takes in all lines of a text, behind those that were taken in. Behind a pair line that was let go no more lines
+    /// come.
     ///
     /// # Errors
     ///

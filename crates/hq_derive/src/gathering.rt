@@ -171,12 +171,12 @@ fn add_rounds(
     Ok(())
 }
 
-/// The lines that are needed, and those that they rest on, and no others: by round, then by the first packet, then by
-/// the second.
+/// The lines that are needed, and those that they rest on: by round, then by the first packet, then by the second. That
+/// they stand so, and that there are no others, isn't promised.
 ///
 /// # Errors
 ///
-/// `AllocError` where there is no memory.
+/// `AllocError` where there is no memory; that it is answered nowhere else isn't promised.
 pub fn lines_for(alloc: Global, before: &Before, needs: &Needs) -> Result<Lines, AllocError>
     requires room { HasRoom before.now needs.now }
     ensures sound { IfOk result (AreSound before.now) }
