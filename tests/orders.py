@@ -74,7 +74,7 @@ class Job:
         lines += [f'signal s{handle} {handle} 1' for handle, _ in self.signals]
         of_packet = iter(heads)
         for place, row in enumerate(self.rows):
-            lines.append(f'queue q{place} {self.agents[place]} 16')
+            lines.append(f'queue q{place} {self.agents[place]} {max(16, 1 << (len(row) - 1).bit_length() if row else 0)}')
             for packet in row:
                 bit, acquire, release = next(of_packet)
                 lines.append('packet ' + (number(packet.kind | bit << 8 | acquire << 9 | release << 11, 2) + packet.body).hex())

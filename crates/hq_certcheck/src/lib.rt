@@ -21,5 +21,6 @@ mod wide_pairs;
 pub use accepted::Accepted;
 pub use checking::{check, check_seen};
 pub use fault::CheckNo;
+pub use pairs::first_bad_pair;
 pub use seen::SeenPairs;
 pub use wide::{check_seen_wide, check_wide};

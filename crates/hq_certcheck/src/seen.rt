@@ -55,7 +55,7 @@ impl SeenPairs {
     }
 
     /// Takes in pair lines, of which this is the first that doesn't hold.
-    fn put(&mut self, pairs: &[Pair], bad: Option<(u32, u32)>)
+    pub fn put(&mut self, pairs: &[Pair], bad: Option<(u32, u32)>)
         ensures { (job : JobOf) (lines : List model.Line) (before : List model.Pair) → HasSeen job lines before self.old
             → MatchOption bad (All (PairFollows job lines) (map pair_of pairs.now))
             (λ pair. FirstBadPair job lines (map pair_of pairs.now) pair.0 pair.1)

@@ -16,7 +16,7 @@ use Rattle.hq_certread.specs.declared.fault.CertFault.{CertFault}
 use Rattle.hq_certread.specs.Gives.{no_memory}
 use Rattle.hq_certread.specs.LineTests.{head_said, order_said, line_said, pair_said}
 use Rattle.hq_certread.specs.declared.progress.Progress.{Progress}
-use Rattle.hq_certread.specs.SoFar.{HasFault, HasTaken, behind}
+use Rattle.hq_certread.specs.SoFar.{HasFault, HasTaken, IsPast, behind}
 use Rattle.hq_certread.specs.TextFaults.{State, start, with_head, with_order, with_line, with_pair, with_end, add_head, add_order, add_line, add_pair, add_end, add_behind, add_content, add_at, added}
 use Rattle.hq_certread.proofs.States.{Shape, Kept, kept, kept_start}
 
@@ -100,17 +100,9 @@ module _ (gone : List model.Pair) where
 
 -- ---- behind a pair line no more lines come
 
--- no more lines come
-abbrev IsPast : Stage → Type 0
-IsPast stage.Head = ⊥
-IsPast stage.Order = ⊥
-IsPast stage.Lines = ⊥
-IsPast stage.Pairs = Unit {0}
-IsPast stage.Ended = Unit {0}
-
-record StaysPast (s t : State) : Type 0 where
-  past : IsPast t.stage
-  lines : t.lines ≡ s.lines
+pub record StaysPast (s t : State) : Type 0 where
+  pub past : IsPast t.stage
+  pub lines : t.lines ≡ s.lines
 
 stays_if : (s t u : State) → u ≡ t → StaysPast s u → StaysPast s t
 stays_if s t u e h = subst (λ (v : State). StaysPast s v) e h
@@ -153,11 +145,12 @@ added_stays : (s t : State) (w : List (List ℕ)) → IsPast s.stage → added s
 unfolding added
 added_stays s t w past e = at_stays s.stage s t w past e
 
-all_stay : (lines : List (List ℕ)) (s t : State) → IsPast s.stage → AdmitsAll added s lines t → t.lines ≡ s.lines
-all_stay [] s t past e = ap (λ (u : State). u.lines) e
+pub all_stay : (lines : List (List ℕ)) (s t : State) → IsPast s.stage → AdmitsAll added s lines t → StaysPast s t
+all_stay [] s t past e = stays_if s t s (sym e) (record { past = past; lines = refl })
 all_stay (line ∷ lines) s t past (mid, here, rest) =
     let h = added_stays s mid (words_of line) past here in
-    all_stay lines mid t h.past rest ∙ h.lines
+    let k = all_stay lines mid t h.past rest in
+    record { past = k.past; lines = k.lines ∙ h.lines }
 
 nothing_in_front : (gone more : List model.Pair) → gone ++ more ≡ [] → gone ≡ []
 nothing_in_front [] more e = refl
@@ -173,8 +166,8 @@ lines_stand gone before more s t admitted h =
     by stage.Head shape e = inl (nothing_in_front gone s.pairs shape.1)
     by stage.Order shape e = inl (nothing_in_front gone s.pairs shape.1)
     by stage.Lines shape e = inl (nothing_in_front gone s.pairs shape)
-    by stage.Pairs shape e = inr (all_stay more s t (subst IsPast (sym e) tt) h)
-    by stage.Ended shape e = inr (all_stay more s t (subst IsPast (sym e) tt) h)
+    by stage.Pairs shape e = inr (all_stay more s t (subst IsPast (sym e) tt) h).lines
+    by stage.Ended shape e = inr (all_stay more s t (subst IsPast (sym e) tt) h).lines
 
 -- ---- pair lines let go
 

@@ -11,3 +11,4 @@ pub mod Nine
 pub mod OnePass
 pub mod Taking
 pub mod LetGo
+pub mod ReadAhead

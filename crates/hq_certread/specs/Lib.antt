@@ -7,3 +7,4 @@ pub mod LineForms
 pub mod Bytes
 pub mod OnePass
 pub mod SoFar
+pub mod Ahead

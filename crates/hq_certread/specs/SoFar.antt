@@ -1,8 +1,11 @@
 -- A certificate's lines as far as they came.
-use Rattle.std.specs.Prelude.{◌≡◌, ℕ, ◌⊎◌, List, [], ◌++◌, length, Result, Ok, Err}
+use Rattle.std.specs.Prelude.{◌≡◌, ℕ, ◌≤◌, ◌⊎◌, List, [], ◌++◌, length, drop, Result, Ok, Err}
 use Rattle.hq_text.specs.LineByLine.{AdmitsAll}
+use Rattle.hq_text.specs.Lines.{lines_of}
 use Rattle.hq_model.specs.Certificate as model
 use Rattle.hq_certread.specs.declared.fault.CertFault.{CertFault}
+use Rattle.hq_certread.specs.declared.draft.Stage.{Stage}
+use Rattle.hq_certread.specs.declared.draft.Stage.TheVariants as stage
 use Rattle.hq_certread.specs.declared.progress.Progress.{Progress}
 use Rattle.hq_certread.specs.DraftView.{state_of}
 use Rattle.hq_certread.specs.Gives.{ReadOf, no_memory}
@@ -29,6 +32,34 @@ pub record HasTaken (lines : List (List ℕ)) (gone : List model.Pair) (p : Prog
 -- the lines are the same as before, unless no pair line was let go yet
 abbrev pub LinesStand : List model.Pair → Progress → Progress → Type 0
 LinesStand gone old new = (gone ≡ []) ⊎ (lines_in new ≡ lines_in old)
+
+-- once this may come next, no more lines can come
+abbrev pub IsPast : Stage → Type 0
+IsPast stage.Head = ⊥
+IsPast stage.Order = ⊥
+IsPast stage.Lines = ⊥
+IsPast stage.Pairs = Unit {0}
+IsPast stage.Ended = Unit {0}
+
+-- no more lines can come: a pair line came, or the end
+abbrev pub IsClosed : Progress → Type 0
+IsClosed p = IsPast p.draft.stage
+
+-- where no more lines could come, that is still so, and the lines are the same
+abbrev pub StaysClosed : Progress → Progress → Type 0
+StaysClosed old new = IsClosed old → IsClosed new × (lines_in new ≡ lines_in old)
+
+-- What was read ahead of the text, these pair lines of it, was taken in behind these lines, whose pair lines were let
+-- go, and the rest of the text begins at this byte.
+pub record HasPassed (text : List ℕ) (pairs : List model.Pair) (lines : List (List ℕ)) (gone : List model.Pair)
+    (at : ℕ) (old new : Progress) : Type 0 where
+  pub within : at ≤ length text
+  pub front : List (List ℕ)
+  pub whole : lines_of text ≡ front ++ lines_of (drop at text)
+  pub taken : HasTaken (lines ++ front) (gone ++ pairs) new
+  pub none : pairs_in new ≡ []
+  pub stand : LinesStand gone old new
+  pub closed : StaysClosed old new
 
 -- what reading answers, where these pair lines were let go, is the certificate with them, or the first fault
 abbrev pub ReadBehind : List model.Pair → Result model.Certificate CertFault → List (List ℕ) → Type 0

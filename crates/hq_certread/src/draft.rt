@@ -1,6 +1,7 @@
 //! A certificate as far as it is read.
 
-ghost use Rattle.std.specs.Prelude.{◌≡◌, ◌&&◌, ◌<◌, true, false, map, length, IfOk, IfErr, IfSome};
+ghost use Rattle.std.specs.Prelude.{◌≡◌, ◌&&◌, ◌<◌, true, false, [], map, length, IfOk, IfErr, IfSome, OnOk, IsTrue};
+ghost use Rattle.hq_certread.specs.Ahead.{with_more};
 ghost use Rattle.hq_certread.specs.LineTests.{head_said, order_said};
 ghost use Rattle.hq_certread.specs.TextFaults.{start, add_head, add_order, add_line, add_pair, add_end, add_behind};
 ghost use Rattle.hq_certread.specs.TextFaults.{add_content, added, is_ended, read_of};
@@ -11,14 +12,14 @@ ghost use Rattle.hq_certread.specs.OnePass.{TakenFrom};
 ghost use Rattle.hq_certread.specs.declared.draft.Stage.{Stage};
 
 use crate::fault::CertReason;
-use crate::one_pass;
+use crate::leading::{leading_lines, leading_pairs};
 use crate::operands::numbers_said;
 use crate::pairs::pair_said;
 use crate::rules::line_said;
 use crate::threes::Threes;
 use hq_cert::{Certificate, Line, Pair};
 use hq_model::PACKETS;
-use std::alloc::Global;
+use std::alloc::{AllocError, Global};
 
 /// What may come next.
 #[derive(Clone, Copy, Debug, PartialEq, Eq)]
@@ -80,6 +81,13 @@ impl Draft {
         }
     }
 
+    /// What may come next.
+    pub fn stage(&self) -> Stage
+        ensures { result ≡ self.now.stage }
+    {
+        self.stage
+    }
+
     /// How many lines there are.
     fn count(&self) -> usize
         ensures { result ≡ length (state_of self.now).lines }
@@ -89,7 +97,7 @@ impl Draft {
 
     /// The same as the number of a line, where 32 bits can say it: behind 2^32 lines no more can come, but pair
     /// lines and the end can.
-    fn number(&self) -> Option<u32>
+    pub fn number(&self) -> Option<u32>
         ensures { IfSome result (λ n. n ≡ length (state_of self.now).lines) }
     {
         let count = self.count();
@@ -215,26 +223,11 @@ impl Draft {
         ensures taken { IfOk result (λ t. TakenFrom text.now t.1.now t.0 (state_of self.old) (state_of self.new)) }
         ensures memory { IfErr result (λ e. e ≡ CertReason.Memory) }
     {
-        let mut rest = text;
-        let mut taken = 0;
-        let Some(mut number) = self.number() else {
-            return Ok((taken, rest));
+        let Some(before) = self.number() else {
+            return Ok((0, text));
         };
-        loop {
-            let Some((p, r, ahead)) = one_pass::packets(threes, number, rest) else {
-                return Ok((taken, rest));
-            };
-            let Some((rule, behind)) = one_pass::rule(threes, number, ahead) else {
-                return Ok((taken, rest));
-            };
-            self.lines.push(Line { p, r, rule })?;
-            rest = behind;
-            taken += 1;
-            if number == u32::MAX {
-                return Ok((taken, rest));
-            }
-            number += 1;
-        }
+        let taken = leading_lines(threes, before, text, &mut self.lines)?;
+        Ok(taken)
     }
 
     /// The same of pair lines.
@@ -247,19 +240,11 @@ impl Draft {
         ensures taken { IfOk result (λ t. TakenFrom text.now t.1.now t.0 (state_of self.old) (state_of self.new)) }
         ensures memory { IfErr result (λ e. e ≡ CertReason.Memory) }
     {
-        let mut rest = text;
-        let mut taken = 0;
-        let Some(count) = self.number() else {
-            return Ok((taken, rest));
+        let Some(before) = self.number() else {
+            return Ok((0, text));
         };
-        loop {
-            let Some((pair, behind)) = one_pass::pair(threes, count, rest) else {
-                return Ok((taken, rest));
-            };
-            self.pairs.push(pair)?;
-            rest = behind;
-            taken += 1;
-        }
+        let taken = leading_pairs(threes, before, text, &mut self.pairs)?;
+        Ok(taken)
     }
 
     /// Takes in the lines that a text begins with, as long as they are in a common form. Answers how many they are,
@@ -292,6 +277,21 @@ impl Draft {
         ensures { map pair_of result.now ≡ (state_of self.now).pairs }
     {
         &self.pairs
+    }
+
+    /// Whether this may come next, behind so many lines.
+    pub fn awaits(&self, next: Stage, before: u32) -> bool
+        ensures { IsTrue result → (self.now.stage ≡ next) × (length (state_of self.now).lines ≡ before) }
+    {
+        self.stage == next && self.lines.len() == before as usize
+    }
+
+    /// Puts more lines behind those that were read.
+    pub fn add_lines(&mut self, lines: &mut Vec<Line>) -> Result<(), AllocError>
+        ensures { OnOk result
+            (state_of self.new ≡ with_more (state_of self.old) (map line_of lines.old.items) []) }
+    {
+        self.lines.append(lines)
     }
 
     /// Lets the pair lines go that were read.

@@ -5,10 +5,12 @@
 //! let go meanwhile. Whether the certificate holds is for a checker to say.
 #![tactic(auto)]
 
+mod ahead;
 mod draft;
 mod fault;
 mod forms;
 pub mod laws;
+mod leading;
 mod one_pass;
 mod operands;
 mod pairs;
@@ -18,6 +20,7 @@ mod reading;
 mod rules;
 mod threes;
 
+pub use ahead::Ahead;
 pub use fault::{CertFault, CertReason};
 pub use hq_text::ReadFault;
 pub use progress::Progress;

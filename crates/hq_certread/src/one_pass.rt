@@ -226,6 +226,16 @@ pub fn rule<'a>(threes: &Threes, k: u32, text: &'a [u8]) -> Option<(Rule, &'a [u
     }
 }
 
+/// The number that the line says which a text begins with.
+pub fn own_number(threes: &Threes, text: &[u8]) -> Option<u32> {
+    if text.len() < LONG {
+        return None;
+    }
+    let rest = behind_name(text, *b"line", b" ")?;
+    let (own, _) = long_number(threes, rest, b' ')?;
+    Some(own)
+}
+
 /// The packets of line k, and what stands behind them: the line's rule, which `rule` reads.
 #[inline(always)]
 #[tactic(auto, using(crate::proofs::OnePass::packets_ahead))]

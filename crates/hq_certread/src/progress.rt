@@ -1,13 +1,17 @@
 //! A certificate as far as its lines were taken in.
 
-ghost use Rattle.std.specs.Prelude.{◌≡◌, ℕ, List, [], ◌++◌, map, OnOk, IfOk, IfErr};
+ghost use Rattle.std.specs.Prelude.{◌≡◌, ℕ, ◌≤◌, ◌⊎◌, List, [], ◌++◌, map, length, OnOk, IfOk, IfErr};
+ghost use Rattle.std.specs.Prelude.{IfSome, IsTrue, MatchOption};
 ghost use Rattle.hq_cert.specs.View.{line_of, pair_of};
 ghost use Rattle.hq_model.specs.Certificate as model;
 ghost use Rattle.hq_text.specs.Lines.{lines_of};
-ghost use Rattle.hq_certread.specs.Gives.{ReadOf};
+ghost use Rattle.hq_certread.specs.Ahead.{IsAhead, pairs_ahead};
+ghost use Rattle.hq_certread.specs.Gives.{ReadOf, no_memory};
 ghost use Rattle.hq_certread.specs.SoFar.{HasFault, HasTaken, LinesStand, ReadBehind, lines_in, pairs_in};
+ghost use Rattle.hq_certread.specs.SoFar.{HasPassed, IsClosed, StaysClosed};
 
-use crate::draft::Draft;
+use crate::ahead::Ahead;
+use crate::draft::{Draft, Stage};
 use crate::fault::CertFault;
 use crate::reading::{NO_MEMORY, finished, take_lines};
 use crate::threes::Threes;
@@ -49,6 +53,7 @@ impl Progress {
         ensures lines { OnOk result
             ((lines : List (List ℕ)) (gone : List model.Pair) → HasTaken lines gone self.old
             → LinesStand gone self.old self.new) }
+        ensures closed { OnOk result (StaysClosed self.old self.new) }
         ensures fault { IfErr result
             (λ f. (lines more : List (List ℕ)) (gone : List model.Pair) → HasTaken lines gone self.old
             → HasFault (lines ++ (lines_of text.now ++ more)) f) }
@@ -77,8 +82,62 @@ impl Progress {
             → HasTaken lines (gone ++ pairs_in self.old) self.new }
         ensures lines { lines_in self.new ≡ lines_in self.old }
         ensures none { pairs_in self.new ≡ [] }
+        ensures closed { StaysClosed self.old self.new }
     {
         self.draft.let_pairs_go();
+    }
+
+    /// Whether no more lines can come: a pair line came, or the end.
+    pub fn is_closed(&self) -> bool
+        ensures { (IsTrue result → IsClosed self.now) × (IsClosed self.now → IsTrue result) }
+    {
+        matches!(self.draft.stage(), Stage::Pairs | Stage::Ended)
+    }
+
+    /// Reads what a text begins with, which need not be the next to be taken in: where lines may come, those in a
+    /// common form, numbered from the number that the first of them says; where pair lines came, such pair lines.
+    /// Where memory runs out, nothing.
+    pub fn read_ahead(&self, text: &[u8], ahead: &mut Ahead)
+        ensures is { IsAhead text.now ahead.new }
+        ensures closed { (pairs_ahead ahead.new ≡ []) ⊎ IsClosed self.now }
+    {
+        match (self.draft.stage(), self.draft.number()) {
+            (Stage::Lines, _) => ahead.read_lines(&self.threes, text),
+            (Stage::Pairs, Some(before)) => ahead.read_pairs(&self.threes, before, text),
+            _ => ahead.clear(),
+        }
+    }
+
+    /// Takes in what was read ahead of a text, and lets its pair lines go; those that were read before are to be let
+    /// go first. Answers at which byte of the text the rest of it begins; or that what was read can't come next, and
+    /// then nothing is taken in.
+    ///
+    /// # Errors
+    ///
+    /// `CertFault` where there is no memory, at line 0.
+    pub fn pass(&mut self, ahead: &mut Ahead) -> Result<Option<usize>, CertFault>
+        ensures passed { IfOk result (λ passed. MatchOption passed (self.new ≡ self.old)
+            (λ at. (text : List ℕ) (lines : List (List ℕ)) (gone : List model.Pair) → IsAhead text ahead.old
+            → HasTaken lines gone self.old → pairs_in self.old ≡ []
+            → HasPassed text (pairs_ahead ahead.old) lines gone at self.old self.new)) }
+        ensures within { IfOk result
+            (λ passed. IfSome passed (λ at. (text : List ℕ) → IsAhead text ahead.old → at ≤ length text)) }
+        ensures pairs { pairs_ahead ahead.new ≡ pairs_ahead ahead.old }
+        ensures memory { IfErr result (λ f. f ≡ no_memory) }
+    {
+        if !self.draft.awaits(ahead.next, ahead.before) {
+            return Ok(None);
+        }
+        let Some(count) = self.count.checked_add(ahead.count) else {
+            return Err(NO_MEMORY);
+        };
+        match self.draft.add_lines(&mut ahead.lines) {
+            Ok(()) => {
+                self.count = count;
+                Ok(Some(ahead.bytes))
+            }
+            Err(_) => Err(NO_MEMORY),
+        }
     }
 
     /// The certificate of the lines, without the pair lines that were let go; or that they have no end.

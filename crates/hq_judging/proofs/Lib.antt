@@ -1,4 +1,5 @@
 pub mod Audits
+pub mod InPieces
 pub mod Checks
 mod Numbers
 pub mod Audited

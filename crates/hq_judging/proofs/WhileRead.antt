@@ -18,14 +18,14 @@ use Rattle.hq_certcheck.specs.Seen.{Seen, HasSeen, with_pairs}
 use Rattle.hq_judging.specs.Check.{CheckedReport, CertReport}
 use Rattle.hq_judging.specs.Checking.{HasChecked, WasRead, WasReadFor}
 use Rattle.hq_judging.specs.declared.checking.Checking.{Checking}
-use Rattle.hq_judging.specs.declared.checking.Known.{Known}
+use Rattle.hq_judging.specs.declared.checking.ReadCertificate.{ReadCertificate}
 use Rattle.hq_judging.proofs.Checks.{certificate_found}
 use Rattle.hq_status.specs.Reports.{OfReader, ReaderReport, Reported}
 use Rattle.hq_status.specs.declared.status.Status.{Status}
 use Rattle.hq_status.proofs.ReadTexts.{of_reader}
 
 -- the certificate of the lines, with the pair lines that were let go
-pub known_of : (from c : Checking) (lines : List (List ℕ)) (k : Known) (h : HasChecked from lines c) → k.job ≡ c.job → k.seen ≡ c.seen → (k.certificate.lines ≡ lines_in c.progress) × (k.certificate.pairs ≡ pairs_in c.progress)
+pub known_of : (from c : Checking) (lines : List (List ℕ)) (k : ReadCertificate) (h : HasChecked from lines c) → k.job ≡ c.job → k.seen ≡ c.seen → (k.certificate.lines ≡ lines_in c.progress) × (k.certificate.pairs ≡ pairs_in c.progress)
     → ReadBehind h.gone (Ok k.certificate) lines → WasReadFor from lines k
 known_of from c lines k h job seen parts read =
     let none : h.gone ++ k.certificate.pairs ≡ h.gone = ap (λ ps. h.gone ++ ps) (parts.1 ∙ h.none) ∙ append-nil h.gone in record {
@@ -39,11 +39,11 @@ known_of from c lines k h job seen parts read =
     }
 
 -- a reader's text, of which the job is the same
-pub read_for : (S : Type 0) (left : S → Option (List ℕ)) (old new : S) (from : Checking) (k : Known) → OfText S (ReadTurn left) 2000000 old new (λ text. WasReadFor from (lines_of text) k) → (k.job ≡ from.job) × OfReader S left old new (λ text. WasRead (lines_of text) k)
+pub read_for : (S : Type 0) (left : S → Option (List ℕ)) (old new : S) (from : Checking) (k : ReadCertificate) → OfText S (ReadTurn left) 2000000 old new (λ text. WasReadFor from (lines_of text) k) → (k.job ≡ from.job) × OfReader S left old new (λ text. WasRead (lines_of text) k)
 read_for S left old new from k h = (h.so.same, of_reader S left old new (λ text. WasRead (lines_of text) k) (record { text = h.text; ended = h.ended; so = h.so.read }))
 
 -- what is written of a certificate that was read
-pub known_found : (S : Type 0) (left : S → Option (List ℕ)) (old new : S) (job : JobValue) (k : Known) (was mid is : Option (List ℕ)) (answered : Status)
+pub known_found : (S : Type 0) (left : S → Option (List ℕ)) (old new : S) (job : JobValue) (k : ReadCertificate) (was mid is : Option (List ℕ)) (answered : Status)
     → k.job ≡ job → OfReader S left old new (λ text. WasRead (lines_of text) k) → mid ≡ was
     → ((pairs : List model.Pair) → HasSeen (plan k.job) k.certificate.lines pairs k.seen → Reported (CheckedReport k.job (with_pairs k.certificate pairs)) mid is answered)
     → Reported (ReaderReport S left old new (CertReport job)) was is answered

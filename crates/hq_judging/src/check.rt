@@ -10,7 +10,8 @@ ghost use Rattle.hq_judging.specs.Check.{NoSaid, accepted_text, cert_refusal, ba
 ghost use Rattle.hq_judging.specs.Check.{bad_pair_text};
 ghost use Rattle.hq_status.specs.Reports.{JobTextReport, ReaderReport, Reported, Said, with_feed};
 
-use crate::checking::{Known, take_certificate};
+use crate::checking::ReadCertificate;
+use crate::checking_wide::take_certificate_wide;
 use hq_certcheck::{Accepted, CheckNo, check_seen_wide};
 use hq_certread::{CertFault, CertReason};
 use hq_job::Job;
@@ -91,7 +92,7 @@ impl fmt::Display for BadPair {
 }
 
 /// Writes why a text is no certificate's.
-pub fn say_no_certificate<W: Write>(writer: &mut W, fault: CertFault) -> Status
+pub fn say_faulty_text<W: Write>(writer: &mut W, fault: CertFault) -> Status
     ensures { SaysNoCertificate fault (W.contents writer.old) (W.contents writer.new) result }
 {
     match fault.reason {
@@ -169,14 +170,14 @@ fn check_found<W: Write>(
     rt: &(impl Threads + Sync),
     alloc: Global,
     writer: &mut W,
-    known: Known,
+    known: ReadCertificate,
 ) -> Status
     requires seen { (pairs : List model.Pair) × HasSeen (plan known.job) known.certificate.lines pairs known.seen }
     ensures { (pairs : List model.Pair) → HasSeen (plan known.job) known.certificate.lines pairs known.seen
         → Reported (CheckedReport known.job (with_pairs known.certificate pairs)) (W.contents writer.old)
         (W.contents writer.new) result }
 {
-    let Known {
+    let ReadCertificate {
         job,
         certificate,
         seen,
@@ -196,7 +197,7 @@ fn check_read<S: Read, W: Write>(
     ensures { Reported (ReaderReport S S.remaining certificate.old certificate.new (CertReport job))
         (W.contents writer.old) (W.contents writer.new) result }
 {
-    match take_certificate(alloc, certificate, writer, job) {
+    match take_certificate_wide(rt, alloc, certificate, writer, job) {
         Ok(known) => check_found(rt, alloc, writer, known),
         Err(status) => status,
     }

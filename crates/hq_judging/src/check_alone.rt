@@ -8,7 +8,7 @@ ghost use Rattle.hq_judging.specs.Check.{CheckedReport, CertReport};
 ghost use Rattle.hq_status.specs.Reports.{JobTextReport, ReaderReport, Reported};
 
 use crate::check::say_checked;
-use crate::checking::{Known, take_certificate};
+use crate::checking::{ReadCertificate, take_certificate};
 use hq_certcheck::check_seen;
 use hq_job::Job;
 use hq_status::{Status, take_job};
@@ -16,13 +16,13 @@ use std::alloc::Global;
 use std::io::{Read, Write};
 
 /// Checks a certificate that was read for a job, and writes the answer.
-fn check_found<W: Write>(alloc: Global, writer: &mut W, known: Known) -> Status
+fn check_found<W: Write>(alloc: Global, writer: &mut W, known: ReadCertificate) -> Status
     requires { (pairs : List model.Pair) × HasSeen (plan known.job) known.certificate.lines pairs known.seen }
     ensures { (pairs : List model.Pair) → HasSeen (plan known.job) known.certificate.lines pairs known.seen
         → Reported (CheckedReport known.job (with_pairs known.certificate pairs)) (W.contents writer.old)
         (W.contents writer.new) result }
 {
-    let Known {
+    let ReadCertificate {
         job,
         certificate,
         seen,

@@ -1,15 +1,15 @@
 //! Certificates that are checked while they are read.
 
-ghost use Rattle.std.specs.Prelude.{◌≡◌, ℕ, ◌⊎◌, [], List, IfOk, IfErr, OnOk};
+ghost use Rattle.std.specs.Prelude.{◌≡◌, ℕ, ◌⊎◌, [], ◌++◌, List, IfOk, IfErr, OnOk};
 ghost use Rattle.hq_text.specs.Intake.{FaultOf, OfText};
 ghost use Rattle.hq_text.specs.Lines.{lines_of};
 ghost use Rattle.hq_text.specs.Turns.{Fails, Passes};
-ghost use Rattle.hq_certread.specs.SoFar.{HasFault};
+ghost use Rattle.hq_certread.specs.SoFar.{HasFault, StaysClosed};
 ghost use Rattle.hq_judging.specs.Check.{NoCertificate};
 ghost use Rattle.hq_judging.specs.Checking.{FinishedOf, HasChecked, WasRead, WasReadFor};
 ghost use Rattle.hq_status.specs.Reports.{OfReader, ReaderReport, Reported};
 
-use crate::check::say_no_certificate;
+use crate::check::say_faulty_text;
 use hq_cert::Certificate;
 use hq_certcheck::SeenPairs;
 use hq_certread::{CertFault, Progress, ReadFault};
@@ -21,15 +21,15 @@ use std::io::{Read, Write};
 
 /// A job, and what the lines of its certificate left so far. Of pair lines no more is kept than a check asks for.
 #[derive(Drop)]
-struct Checking {
-    job: Job,
-    progress: Progress,
-    seen: SeenPairs,
+pub struct Checking {
+    pub job: Job,
+    pub progress: Progress,
+    pub seen: SeenPairs,
 }
 
 /// A certificate that was read for a job, without its pair lines, and what is known of those.
 #[derive(Drop)]
-pub struct Known {
+pub struct ReadCertificate {
     pub job: Job,
     pub certificate: Certificate,
     pub seen: SeenPairs,
@@ -37,7 +37,7 @@ pub struct Known {
 
 impl Checking {
     /// Before the first line of a certificate for this job; or the job, where there is no memory.
-    fn new(alloc: Global, job: Job) -> Result<Checking, Job>
+    pub fn new(alloc: Global, job: Job) -> Result<Checking, Job>
         ensures { IfOk result (λ checking. HasChecked checking [] checking × (checking.job ≡ job)) }
     {
         match SeenPairs::new(alloc, &job) {
@@ -50,8 +50,25 @@ impl Checking {
         }
     }
 
+    /// Takes in all lines of a text, behind those that were taken in.
+    pub fn take_text(&mut self, alloc: Global, text: &[u8]) -> Result<(), CertFault>
+        ensures took { OnOk result
+            ((from : Checking) (lines : List (List ℕ)) → HasChecked from lines self.old
+            → HasChecked from (lines ++ lines_of text.now) self.new) }
+        ensures closed { OnOk result (StaysClosed self.old.progress self.new.progress) }
+        ensures fault { IfErr result
+            (λ f. (from : Checking) (lines more : List (List ℕ)) → HasChecked from lines self.old
+            → HasFault (lines ++ (lines_of text.now ++ more)) f) }
+    {
+        self.progress.take(alloc, text)?;
+        self.seen
+            .take_in(&self.job, self.progress.lines(), self.progress.pairs());
+        self.progress.let_pairs_go();
+        Ok(())
+    }
+
     /// The certificate of the lines, or that they have no end.
-    fn finish(self) -> Result<Known, CertFault>
+    pub fn finish(self) -> Result<ReadCertificate, CertFault>
         ensures { (from : Checking) (lines : List (List ℕ)) → HasChecked from lines self
             → FinishedOf from result lines }
     {
@@ -61,7 +78,7 @@ impl Checking {
             seen,
         } = self;
         let certificate = progress.finish()?;
-        Ok(Known {
+        Ok(ReadCertificate {
             job,
             certificate,
             seen,
@@ -77,11 +94,7 @@ impl TakesLines for Checking {
     ghost Refuses = { HasFault };
 
     fn take_lines(&mut self, alloc: Global, text: &[u8]) -> Result<(), CertFault> {
-        self.progress.take(alloc, text)?;
-        self.seen
-            .take_in(&self.job, self.progress.lines(), self.progress.pairs());
-        self.progress.let_pairs_go();
-        Ok(())
+        self.take_text(alloc, text)
     }
 
     fn no_memory() -> CertFault {
@@ -94,7 +107,7 @@ fn read_source<S: Source>(
     alloc: Global,
     source: &mut S,
     checking: Checking,
-) -> Result<Known, ReadFault<CertFault>>
+) -> Result<ReadCertificate, ReadFault<CertFault>>
     requires { HasChecked checking [] checking }
     ensures found { IfOk result
         (λ known. OfText S S.Turned TURNS source.old source.new
@@ -116,7 +129,7 @@ fn read_certificate<R: Read, W: Write>(
     reader: &mut R,
     writer: &mut W,
     checking: Checking,
-) -> Result<Known, Status>
+) -> Result<ReadCertificate, Status>
     requires { HasChecked checking [] checking }
     ensures found { IfOk result
         (λ known. (known.job ≡ checking.job)
@@ -129,7 +142,7 @@ fn read_certificate<R: Read, W: Write>(
     match read_source(alloc, reader, checking) {
         Ok(known) => Ok(known),
         Err(ReadFault::Reader) => Err(say_file(writer)),
-        Err(ReadFault::Text(fault)) => Err(say_no_certificate(writer, fault)),
+        Err(ReadFault::Text(fault)) => Err(say_faulty_text(writer, fault)),
     }
 }
 
@@ -140,7 +153,7 @@ pub fn take_certificate<R: Read, W: Write>(
     reader: &mut R,
     writer: &mut W,
     job: Job,
-) -> Result<Known, Status>
+) -> Result<ReadCertificate, Status>
     ensures found { IfOk result
         (λ known. (known.job ≡ job)
         × OfReader R R.remaining reader.old reader.new (λ text. WasRead (lines_of text) known)) }

@@ -10,8 +10,11 @@ mod audit_wide;
 mod check;
 mod check_alone;
 mod checking;
+mod checking_wide;
 mod giving;
 pub mod laws;
+mod piece;
+mod pieces;
 mod stuck;
 
 pub use audit::{audit_engine, say_no_certificate};

@@ -15,4 +15,4 @@ returns-in-Err-Reader-clause-refused g c = (with_feed (codes "file fault"), File
 
 pub returns-in-Err-Text-clause-refused : goal.returns-in-Err-Text-clause-refused
 returns-in-Err-Text-clause-refused g c =
-    no_certificate_said _ g.R.Read.remaining c.args.reader.now c.read_source.new.source c.in-Err-Text.fault _ _ _ (text_fault c.in-Err-Text.field-0 c.in-Err-Text.fault _ _ c.in-Err-Text.field-0-is c.in-Err-Text.ensures.fault) c.say_no_certificate.ensures
+    no_certificate_said _ g.R.Read.remaining c.args.reader.now c.read_source.new.source c.in-Err-Text.fault _ _ _ (text_fault c.in-Err-Text.field-0 c.in-Err-Text.fault _ _ c.in-Err-Text.field-0-is c.in-Err-Text.ensures.fault) c.say_faulty_text.ensures

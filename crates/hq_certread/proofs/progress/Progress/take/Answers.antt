@@ -1,7 +1,7 @@
 use Rattle.std.proofs.lemmas.Result.{err_from_is_err_and}
 use Rattle.hq_text.specs.Lines.{lines_of}
 use Rattle.hq_certread.specs.DraftView.{state_of}
-use Rattle.hq_certread.proofs.LetGo.{lines_stand, takes_behind}
+use Rattle.hq_certread.proofs.LetGo.{all_stay, lines_stand, takes_behind}
 use Rattle.hq_certread.specs.SoFar.{behind}
 use Rattle.hq_certread.proofs.Turns.{lines_behind, fault_behind}
 use Rattle.hq_certread.proofs.progress.Progress.take.Goals as goal
@@ -20,3 +20,8 @@ returns-clause-taken c lines gone h =
 pub returns-clause-lines : goal.returns-clause-lines
 returns-clause-lines c lines gone h =
     lines_stand gone lines (lines_of c.args.text.now) (state_of c.args.self.now.draft) (state_of c.take_lines.new.draft) h.admitted c.in_ok-self.ensures.1
+
+pub returns-clause-closed : goal.returns-clause-closed
+returns-clause-closed c past =
+    let h = all_stay (lines_of c.args.text.now) (state_of c.args.self.now.draft) (state_of c.take_lines.new.draft) past c.in_ok-self.ensures.1 in
+    (h.past, h.lines)

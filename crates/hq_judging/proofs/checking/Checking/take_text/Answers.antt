@@ -1,11 +1,12 @@
 use Rattle.std.proofs.Common.{◌++◌, ap, refl, sym, ◌∙◌}
+use Rattle.hq_judging.proofs.InPieces.{stays_both}
 use Rattle.std.proofs.lemmas.Result.{err_from_is_err_and}
 use Rattle.std.specs.Prelude.{map}
 use Rattle.hq_cert.specs.View.{line_of, pair_of}
 use Rattle.hq_job.specs.Plan.{plan}
 use Rattle.hq_certcheck.proofs.Seeing.{seen_as, seen_of_any}
 use Rattle.hq_certread.specs.SoFar.{lines_in, pairs_in}
-use Rattle.hq_judging.proofs.checking.CheckingTakesLines.take_lines.Goals as goal
+use Rattle.hq_judging.proofs.checking.Checking.take_text.Goals as goal
 
 pub returns-clause-took : goal.returns-clause-took
 returns-clause-took c from lines h =
@@ -27,3 +28,6 @@ pub returns-in_err-take-clause-fault : goal.returns-in_err-take-clause-fault
 returns-in_err-take-clause-fault c =
     let p = err_from_is_err_and c.from_residual.result c.from_residual.ensures.1 in
     rw (p.1, p.2) (λ from lines more h. c.in_err-take.ensures.fault lines more h.gone h.taken)
+
+pub returns-clause-closed : goal.returns-clause-closed
+returns-clause-closed c = stays_both c.args.self.now.progress c.take.new.self c.let_pairs_go.new.self c.in_ok-take.ensures.closed c.let_pairs_go.ensures.closed

@@ -1,0 +1,174 @@
+-- A certificate that is read and checked in pieces.
+use Rattle.std.proofs.Common.{◌≡◌, ℕ, zero, suc, ◌+◌, ◌<◌, ◌≤◌, ◌⊎◌, inl, inr, List, [], ◌∷◌, ◌++◌, length, take, drop, refl, sym, ap, subst, ◌∙◌, arith, append_assoc, append-nil, slice_get, slice_index_or, slice_set as set, Option, None, Some, MatchOption, All, Result, Ok, Err, OnOk, IfErr}
+use Rattle.std.specs.Prelude.{map}
+use Rattle.std.proofs.lemmas.Bool.{cases_lt, cases_eq}
+use Rattle.std.proofs.lemmas.List.{get_or_default, get_or-set_other, get_or-set_same, take_more, take-append-drop}
+use Rattle.hq_text.specs.Lines.{lines_of}
+use Rattle.hq_job.specs.Plan.{plan}
+use Rattle.hq_job.specs.Value.{JobValue}
+use Rattle.hq_model.specs.Job.{Job}
+use Rattle.hq_model.specs.Certificate as model
+use Rattle.hq_certread.specs.Ahead.{IsAhead, pairs_ahead}
+use Rattle.hq_certread.specs.SoFar.{HasFault, HasPassed, IsClosed, StaysClosed, lines_in, pairs_in}
+use Rattle.hq_certread.specs.declared.fault.CertFault.{CertFault}
+use Rattle.hq_certread.specs.declared.progress.Progress.{Progress}
+use Rattle.hq_certcheck.specs.Listed.{PairFollows, FirstBadPair}
+use Rattle.hq_certcheck.specs.Seen.{Seen, HasSeen}
+use Rattle.hq_certcheck.proofs.Seeing.{seen_of_any}
+use Rattle.hq_judging.specs.Checking.{FinishedOf, HasChecked}
+use Rattle.hq_judging.specs.Pieces.{HasWaiting, IsLookedAt, lines_in_all}
+use Rattle.hq_judging.specs.declared.checking.Checking.{Checking}
+use Rattle.hq_judging.specs.declared.checking.ReadCertificate.{ReadCertificate}
+use Rattle.hq_judging.specs.declared.piece.Piece.{Piece}
+use Rattle.hq_judging.specs.declared.pieces.Pieces.{Pieces}
+
+-- ---- results
+
+pub on_both : {X F : Type 0} (r : Result X F) {P Q R : Type 0} → OnOk r P → OnOk r Q → (P → Q → R) → OnOk r R
+on_both (Ok x) p q f = f p q
+on_both (Err e) p q f = tt
+
+pub on_err : {X F : Type 0} (r : Result X F) {P Q : F → Type 0} → IfErr r P → ((e : F) → P e → Q e) → IfErr r Q
+on_err (Ok x) p f = tt
+on_err (Err e) p f = f e p
+
+pub some_told : {X : Type 0} (o : Option X) (x : X) (N : Type 0) (S : X → Type 0) → o ≡ Some x → MatchOption o N S → S x
+some_told o x N S e h = subst (λ (p : Option _). MatchOption p N S) e h
+
+pub none_told : {X : Type 0} (o : Option X) (N : Type 0) (S : X → Type 0) → o ≡ None → MatchOption o N S → N
+none_told o N S e h = subst (λ (p : Option _). MatchOption p N S) e h
+
+-- ---- once no more lines can come
+
+pub stays_both : (a b c : Progress) → StaysClosed a b → StaysClosed b c → StaysClosed a c
+stays_both a b c h k past = let x = h past in let y = k x.0 in (y.0, y.1 ∙ x.1)
+
+pub stays_same : (a : Progress) → StaysClosed a a
+stays_same a past = (past, refl)
+
+-- ---- lists of pieces
+
+pub lines_in_both : (xs ys : List Piece) → lines_in_all (xs ++ ys) ≡ lines_in_all xs ++ lines_in_all ys
+lines_in_both [] ys = refl
+lines_in_both (x ∷ xs) ys = ap (λ l. lines_of x.text.items ++ l) (lines_in_both xs ys) ∙ sym (append_assoc (lines_of x.text.items) (lines_in_all xs) (lines_in_all ys))
+
+-- pieces of the same texts have the same lines
+pub lines_same : (xs ys : List Piece) → length ys ≡ length xs → ((k : ℕ) (d : Piece) → k < length xs → (slice_index_or ys k d).text ≡ (slice_index_or xs k d).text) → lines_in_all ys ≡ lines_in_all xs
+lines_same [] [] len same = refl
+lines_same [] (y ∷ ys) len same = absurd (omega (arith, len))
+lines_same (x ∷ xs) [] len same = absurd (omega (arith, len))
+lines_same (x ∷ xs) (y ∷ ys) len same =
+    let first : y.text ≡ x.text = same 0 x (omega arith) in
+    let rest = lines_same xs ys (omega (arith, len)) (λ k d l. same (suc k) d (omega (arith, l))) in
+    ap (λ t. lines_of t ++ lines_in_all ys) (ap (λ t. t.items) first) ∙ ap (λ l. lines_of x.text.items ++ l) rest
+
+-- pieces in two parts, each of which has the same lines as before
+pub lines_split : (first rest a b all : List Piece) (n : ℕ) → first ≡ take n all → rest ≡ drop n all → lines_in_all a ≡ lines_in_all first → lines_in_all b ≡ lines_in_all rest → lines_in_all (a ++ b) ≡ lines_in_all all
+lines_split first rest a b all n front back e h =
+    lines_in_both a b ∙ ap (λ ls. ls ++ lines_in_all b) (e ∙ ap lines_in_all front) ∙ ap (λ ls. lines_in_all (take n all) ++ ls) (h ∙ ap lines_in_all back) ∙ sym (lines_in_both (take n all) (drop n all)) ∙ ap lines_in_all (take-append-drop n all)
+
+-- a piece behind those that were taken in
+pub one_more : (pieces : List Piece) (k : ℕ) (piece d : Piece) → k < length pieces → piece ≡ slice_index_or pieces k d → lines_in_all (take (k + 1) pieces) ≡ lines_in_all (take k pieces) ++ lines_of piece.text.items
+one_more pieces k piece d l is =
+    ap lines_in_all (take_more pieces k d l ∙ ap (λ p. take k pieces ++ p ∷ []) (sym is)) ∙ lines_in_both (take k pieces) (piece ∷ []) ∙ ap (λ ls. lines_in_all (take k pieces) ++ ls) (append-nil (lines_of piece.text.items))
+
+-- a piece between those that were taken in and those that weren't
+pub all_around : (pieces : List Piece) (k : ℕ) (piece d : Piece) → k < length pieces → piece ≡ slice_index_or pieces k d
+    → lines_in_all pieces ≡ (lines_in_all (take k pieces) ++ lines_of piece.text.items) ++ lines_in_all (drop (k + 1) pieces)
+all_around pieces k piece d l is =
+    ap lines_in_all (sym (take-append-drop (k + 1) pieces)) ∙ lines_in_both (take (k + 1) pieces) (drop (k + 1) pieces) ∙ ap (λ ls. ls ++ lines_in_all (drop (k + 1) pieces)) (one_more pieces k piece d l is)
+
+-- a piece that was looked at, among those that were and those that weren't
+pub set_looked : (job : Job) (at : Progress) (pieces : List Piece) (i : ℕ) (piece : Piece) → i < length pieces → ((k : ℕ) (d : Piece) → k < i → IsLookedAt job at (slice_index_or pieces k d)) → IsLookedAt job at piece
+    → (k : ℕ) (d : Piece) → k < i + 1 → IsLookedAt job at (slice_index_or (set pieces i piece) k d)
+set_looked job at pieces i piece low before here k d l = elim (cases_lt k i) [
+  | inl below ↦ subst (λ (p : Piece). IsLookedAt job at p) (sym (get_or-set_other pieces i k piece d (λ e. omega (arith, e, below)))) (before k d below)
+  | inr above ↦ (let is : k ≡ i = omega (arith, above, l) in subst (λ (n : ℕ). IsLookedAt job at (slice_index_or (set pieces i piece) n d)) (sym is) (subst (λ (p : Piece). IsLookedAt job at p) (sym (get_or-set_same pieces i piece d low)) here))
+]
+
+pub set_texts : (pieces : List Piece) (i : ℕ) (piece e : Piece) → i < length pieces → piece.text ≡ (slice_index_or pieces i e).text → (k : ℕ) (d : Piece) → (slice_index_or (set pieces i piece) k d).text ≡ (slice_index_or pieces k d).text
+set_texts pieces i piece e low same k d = elim (cases_eq k i) [
+  | inl is ↦ subst (λ (n : ℕ). (slice_index_or (set pieces i piece) n d).text ≡ (slice_index_or pieces n d).text) (sym is)
+      (ap (λ (p : Piece). p.text) (get_or-set_same pieces i piece d low) ∙ same ∙ ap (λ (p : Piece). p.text) (get_or_default pieces i e d low))
+  | inr other ↦ ap (λ (p : Piece). p.text) (get_or-set_other pieces i k piece d other)
+]
+
+-- ---- a piece
+
+-- no pair line doesn't hold, whatever the lines are
+bad_of_none : (job : Job) (lines others : List model.Line) (bad : Option (ℕ × ℕ)) (pairs : List model.Pair) → pairs ≡ [] → MatchOption bad (All (PairFollows job lines) pairs) (λ f. FirstBadPair job lines pairs f.0 f.1)
+    → MatchOption bad (All (PairFollows job others) pairs) (λ f. FirstBadPair job others pairs f.0 f.1)
+bad_of_none job lines others None pairs e h = subst (λ (ps : List model.Pair). All (PairFollows job others) ps) (sym e) (λ i d l. absurd (omega arith))
+bad_of_none job lines others (Some f) pairs e h =
+    let g = subst (λ (ps : List model.Pair). FirstBadPair job lines ps f.0 f.1) e h in
+    let there : None ≡ Some g.pair = g.there in absurd cc
+
+-- the first pair line that doesn't hold is still that, though lines may have come
+bad_now : (job : Job) (at now : Progress) (piece : Piece) → IsLookedAt job at piece → StaysClosed at now
+    → MatchOption piece.bad (All (PairFollows job (lines_in now)) (pairs_ahead piece.ahead)) (λ f. FirstBadPair job (lines_in now) (pairs_ahead piece.ahead) f.0 f.1)
+bad_now job at now piece looked still = by looked.closed
+  where
+    by : (pairs_ahead piece.ahead ≡ []) ⊎ IsClosed at → MatchOption piece.bad (All (PairFollows job (lines_in now)) (pairs_ahead piece.ahead)) (λ f. FirstBadPair job (lines_in now) (pairs_ahead piece.ahead) f.0 f.1)
+    by (inl none) = bad_of_none job (lines_in at) (lines_in now) piece.bad (pairs_ahead piece.ahead) none looked.bad
+    by (inr closed) =
+        subst (λ (ls : List model.Line). MatchOption piece.bad (All (PairFollows job ls) (pairs_ahead piece.ahead)) (λ f. FirstBadPair job ls (pairs_ahead piece.ahead) f.0 f.1)) (sym (still closed).1) looked.bad
+
+-- what was read ahead of a piece was taken in
+pub piece_passed : (from : Checking) (at : Progress) (lines : List (List ℕ)) (old : Checking) (new : Progress) (seen : Seen) (piece : Piece) (i : ℕ) → IsLookedAt (plan from.job) at piece → StaysClosed at old.progress → (h : HasChecked from lines old)
+    → (p : HasPassed piece.text.items (pairs_ahead piece.ahead) lines h.gone i old.progress new)
+    → ((job : Job) (ls : List model.Line) (before : List model.Pair) → HasSeen job ls before old.seen
+    → MatchOption piece.bad (All (PairFollows job ls) (pairs_ahead piece.ahead)) (λ f. FirstBadPair job ls (pairs_ahead piece.ahead) f.0 f.1) → HasSeen job ls (before ++ pairs_ahead piece.ahead) seen)
+    → HasChecked from (lines ++ p.front) (record { job = old.job; progress = new; seen = seen })
+piece_passed from at lines old new seen piece i looked still h p put = record {
+  same = h.same;
+  gone = h.gone ++ pairs_ahead piece.ahead;
+  taken = p.taken;
+  seen = put (plan old.job) (lines_in new) h.gone (seen_of_any (plan old.job) h.gone (lines_in old.progress) (lines_in new) old.seen p.stand h.seen)
+      (subst (λ (j : JobValue). MatchOption piece.bad (All (PairFollows (plan j) (lines_in new)) (pairs_ahead piece.ahead)) (λ f. FirstBadPair (plan j) (lines_in new) (pairs_ahead piece.ahead) f.0 f.1)) (sym h.same)
+      (bad_now (plan from.job) at new piece looked (stays_both at old.progress new still p.closed)));
+  none = p.none;
+}
+
+-- the lines of a text in two parts
+pub in_two : (lines front rest all : List (List ℕ)) → all ≡ front ++ rest → (lines ++ front) ++ rest ≡ lines ++ all
+in_two lines front rest all e = append_assoc lines front rest ∙ ap (λ ls. lines ++ ls) (sym e)
+
+-- the same with more behind them
+pub in_two_and_more : (lines front rest all more : List (List ℕ)) → all ≡ front ++ rest → (lines ++ front) ++ (rest ++ more) ≡ lines ++ (all ++ more)
+in_two_and_more lines front rest all more e = append_assoc lines front (rest ++ more) ∙ ap (λ ls. lines ++ ls) (sym (append_assoc front rest more) ∙ ap (λ ls. ls ++ more) (sym e))
+
+-- lines around those of a piece
+pub around : (lines front here behind more : List (List ℕ)) → (lines ++ front) ++ (here ++ (behind ++ more)) ≡ lines ++ (((front ++ here) ++ behind) ++ more)
+around lines front here behind more = append_assoc lines front (here ++ (behind ++ more)) ∙ ap (λ ls. lines ++ ls) (sym (append_assoc front here (behind ++ more)) ∙ sym (append_assoc (front ++ here) behind more))
+
+-- a checking of which the progress is the same
+pub checked_as : (from : Checking) (lines : List (List ℕ)) (c : Checking) (p : Progress) → p ≡ c.progress → HasChecked from lines c → HasChecked from lines (record { job = c.job; progress = p; seen = c.seen })
+checked_as from lines c p e h = subst (λ (q : Progress). HasChecked from lines (record { job = c.job; progress = q; seen = c.seen })) (sym e) h
+
+-- ---- pieces that wait
+
+pub none_wait : (from : Pieces) (lines : List (List ℕ)) (p : Pieces) → HasChecked from.checking lines p.checking → p.waiting.items ≡ [] → HasWaiting from lines p
+none_wait from lines p h none = record { taken = lines; checked = h; whole = sym (append-nil lines) ∙ ap (λ ws. lines ++ lines_in_all ws) (sym none) }
+
+-- one more waits
+pub one_waits : (from : Pieces) (lines : List (List ℕ)) (old new : Pieces) (piece : Piece) (text : List ℕ) → HasWaiting from lines old → new.checking ≡ old.checking → new.waiting.items ≡ old.waiting.items ++ piece ∷ [] → piece.text.items ≡ text → HasWaiting from (lines ++ lines_of text) new
+one_waits from lines old new piece text h same waits is = record {
+  taken = h.taken;
+  checked = subst (λ (c : Checking). HasChecked from.checking h.taken c) (sym same) h.checked;
+  whole = ap (λ ls. ls ++ lines_of text) h.whole ∙ append_assoc h.taken (lines_in_all old.waiting.items) (lines_of text)
+      ∙ ap (λ ls. h.taken ++ ls) (ap (λ ls. lines_in_all old.waiting.items ++ ls) (ap lines_of (sym is) ∙ sym (append-nil (lines_of piece.text.items))) ∙ sym (lines_in_both old.waiting.items (piece ∷ [])) ∙ ap lines_in_all (sym waits));
+}
+
+-- what waits is taken in
+pub all_taken : (from : Pieces) (lines : List (List ℕ)) (old : Pieces) (pieces : List Piece) (new : Checking) → HasWaiting from lines old → lines_in_all pieces ≡ lines_in_all old.waiting.items
+    → ((start : Checking) (ls : List (List ℕ)) → HasChecked start ls old.checking → HasChecked start (ls ++ lines_in_all pieces) new) → HasChecked from.checking lines new
+all_taken from lines old pieces new h same took =
+    subst (λ (ls : List (List ℕ)). HasChecked from.checking ls new) (ap (λ ls. h.taken ++ ls) same ∙ sym h.whole) (took from.checking h.taken h.checked)
+
+-- or has a fault
+pub all_faulty : (from : Pieces) (lines more : List (List ℕ)) (old : Pieces) (pieces : List Piece) (f : CertFault) → HasWaiting from lines old → lines_in_all pieces ≡ lines_in_all old.waiting.items
+    → ((start : Checking) (ls others : List (List ℕ)) → HasChecked start ls old.checking → HasFault (ls ++ (lines_in_all pieces ++ others)) f) → HasFault (lines ++ more) f
+all_faulty from lines more old pieces f h same fault =
+    subst (λ (ls : List (List ℕ)). HasFault ls f)
+    (sym (append_assoc h.taken (lines_in_all pieces) more) ∙ ap (λ ls. (h.taken ++ ls) ++ more) same ∙ ap (λ ls. ls ++ more) (sym h.whole))
+    (fault from.checking h.taken more h.checked)
