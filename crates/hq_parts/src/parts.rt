@@ -185,6 +185,14 @@ impl Others {
         count
     }
 
+    /// They as they are: packet s as bit `s % 64` of word `s / 64`.
+    pub fn bits(&self) -> &[u64]
+        ensures bits { result.now ≡ self.now.bits }
+        ensures len { length result.now ≡ WORDS }
+    {
+        &self.bits
+    }
+
     /// The first of them from one on, or the number of packets where there is none.
     #[inline(always)]
     pub fn next(&self, job: &Job, from: usize) -> usize
