@@ -25,7 +25,9 @@ pub struct Ahead {
 
 impl Ahead {
     /// Nothing, of any text.
-    pub fn new(alloc: Global) -> Ahead {
+    pub fn new(alloc: Global) -> Ahead
+        ensures { (text : List ℕ) → IsAhead text result }
+    {
         Ahead {
             next: Stage::Head,
             before: 0,
