@@ -7,6 +7,8 @@ use Rattle.hq_certread.specs.declared.fault.CertFault.{CertFault}
 use Rattle.hq_certread.specs.declared.draft.Stage.{Stage}
 use Rattle.hq_certread.specs.declared.draft.Stage.TheVariants as stage
 use Rattle.hq_certread.specs.declared.progress.Progress.{Progress}
+use Rattle.hq_certread.specs.declared.ahead.Ahead.{Ahead}
+use Rattle.hq_certread.specs.Ahead.{IsAhead}
 use Rattle.hq_certread.specs.DraftView.{state_of}
 use Rattle.hq_certread.specs.Gives.{ReadOf, no_memory}
 use Rattle.hq_certread.specs.TextFaults.{State, start, added, FirstFault}
@@ -48,6 +50,21 @@ IsClosed p = IsPast p.draft.stage
 -- where no more lines could come, that is still so, and the lines are the same
 abbrev pub StaysClosed : Progress → Progress → Type 0
 StaysClosed old new = IsClosed old → IsClosed new × (lines_in new ≡ lines_in old)
+
+-- What was read ahead can be taken in next: such a line is the one that may come, and as many lines stand before it as
+-- it was read behind.
+pub record CanPass (p : Progress) (a : Ahead) : Type 0 where
+  pub next : p.draft.stage ≡ a.next
+  pub before : length (lines_in p) ≡ a.before
+
+-- What was read ahead could be taken in next, and was not: the same lines were taken in as before, the same is held of
+-- what they left, and the same was read ahead. So it can be taken in still.
+pub record NotPassed (old new : Progress) (was is : Ahead) : Type 0 where
+  pub can : CanPass new is
+  pub taken : (lines : List (List ℕ)) (gone : List model.Pair) → HasTaken lines gone old → HasTaken lines gone new
+  pub lines : lines_in new ≡ lines_in old
+  pub pairs : pairs_in new ≡ pairs_in old
+  pub ahead : (text : List ℕ) → IsAhead text was → IsAhead text is
 
 -- What was read ahead of the text, these pair lines of it, was taken in behind these lines, whose pair lines were let
 -- go, and the rest of the text begins at this byte.

@@ -1,6 +1,7 @@
 //! A certificate as far as it is read.
 
-ghost use Rattle.std.specs.Prelude.{◌≡◌, ◌&&◌, ◌<◌, true, false, [], map, length, IfOk, IfErr, IfSome, OnOk, IsTrue};
+ghost use Rattle.std.specs.Prelude.{◌≡◌, ◌↔◌, ◌&&◌, ◌<◌, true, false, [], map, length, IfOk, IfErr, IfSome, OnOk, OnErr};
+ghost use Rattle.std.specs.Prelude.{IsTrue};
 ghost use Rattle.hq_certread.specs.Ahead.{with_more};
 ghost use Rattle.hq_certread.specs.LineTests.{head_said, order_said};
 ghost use Rattle.hq_certread.specs.TextFaults.{start, add_head, add_order, add_line, add_pair, add_end, add_behind};
@@ -281,15 +282,17 @@ impl Draft {
 
     /// Whether this may come next, behind so many lines.
     pub fn awaits(&self, next: Stage, before: u32) -> bool
-        ensures { IsTrue result → (self.now.stage ≡ next) × (length (state_of self.now).lines ≡ before) }
+        ensures { IsTrue result ↔ ((self.now.stage ≡ next) × (length (state_of self.now).lines ≡ before)) }
     {
         self.stage == next && self.lines.len() == before as usize
     }
 
-    /// Puts more lines behind those that were read.
+    /// Puts more lines behind those that were read. Where there is no memory, all stays as it was.
     pub fn add_lines(&mut self, lines: &mut Vec<Line>) -> Result<(), AllocError>
-        ensures { OnOk result
+        ensures added { OnOk result
             (state_of self.new ≡ with_more (state_of self.old) (map line_of lines.old.items) []) }
+        ensures full { OnErr result
+            ((state_of self.new ≡ state_of self.old) × (lines.new.items ≡ lines.old.items)) }
     {
         self.lines.append(lines)
     }

@@ -1,6 +1,6 @@
 //! A certificate as far as its lines were taken in.
 
-ghost use Rattle.std.specs.Prelude.{◌≡◌, ℕ, ◌≤◌, ◌⊎◌, List, [], ◌++◌, map, length, OnOk, IfOk, IfErr};
+ghost use Rattle.std.specs.Prelude.{◌≡◌, ℕ, ◌≤◌, ◌⊎◌, List, [], ◌++◌, map, length, OnOk, OnErr, IfOk, IfErr};
 ghost use Rattle.std.specs.Prelude.{IfSome, IsTrue, MatchOption};
 ghost use Rattle.hq_cert.specs.View.{line_of, pair_of};
 ghost use Rattle.hq_model.specs.Certificate as model;
@@ -8,7 +8,7 @@ ghost use Rattle.hq_text.specs.Lines.{lines_of};
 ghost use Rattle.hq_certread.specs.Ahead.{IsAhead, pairs_ahead};
 ghost use Rattle.hq_certread.specs.Gives.{ReadOf, no_memory};
 ghost use Rattle.hq_certread.specs.SoFar.{HasFault, HasTaken, LinesStand, ReadBehind, lines_in, pairs_in};
-ghost use Rattle.hq_certread.specs.SoFar.{HasPassed, IsClosed, StaysClosed};
+ghost use Rattle.hq_certread.specs.SoFar.{CanPass, HasPassed, IsClosed, NotPassed, StaysClosed};
 
 use crate::ahead::Ahead;
 use crate::draft::{Draft, Stage};
@@ -45,7 +45,8 @@ impl Progress {
     ///
     /// # Errors
     ///
-    /// `CertFault` with the first faulty line, or that there is no memory, at line 0.
+    /// `CertFault` with the first faulty line, or that there is no memory, at line 0. Some of the lines may be taken in
+    /// then, which aren't counted: it is to be dropped.
     pub fn take(&mut self, alloc: Global, text: &[u8]) -> Result<(), CertFault>
         ensures taken { OnOk result
             ((lines : List (List ℕ)) (gone : List model.Pair) → HasTaken lines gone self.old
@@ -114,16 +115,19 @@ impl Progress {
     ///
     /// # Errors
     ///
-    /// `CertFault` where there is no memory, at line 0.
+    /// `CertFault` where there is no memory, at line 0. Then nothing is taken in either, and it can be tried again.
     pub fn pass(&mut self, ahead: &mut Ahead) -> Result<Option<usize>, CertFault>
         ensures passed { IfOk result (λ passed. MatchOption passed (self.new ≡ self.old)
             (λ at. (text : List ℕ) (lines : List (List ℕ)) (gone : List model.Pair) → IsAhead text ahead.old
             → HasTaken lines gone self.old → pairs_in self.old ≡ []
             → HasPassed text (pairs_ahead ahead.old) lines gone at self.old self.new)) }
+        ensures can { IfOk result
+            (λ passed. MatchOption passed (¬ CanPass self.old ahead.old) (λ at. CanPass self.old ahead.old)) }
         ensures within { IfOk result
             (λ passed. IfSome passed (λ at. (text : List ℕ) → IsAhead text ahead.old → at ≤ length text)) }
         ensures pairs { pairs_ahead ahead.new ≡ pairs_ahead ahead.old }
-        ensures memory { IfErr result (λ f. f ≡ no_memory) }
+        ensures memory { IfErr result (λ f. (f ≡ no_memory) × CanPass self.old ahead.old) }
+        ensures full { OnErr result (NotPassed self.old self.new ahead.old ahead.new) }
     {
         if !self.draft.awaits(ahead.next, ahead.before) {
             return Ok(None);
