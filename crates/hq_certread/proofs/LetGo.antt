@@ -16,7 +16,7 @@ use Rattle.hq_certread.specs.declared.fault.CertFault.{CertFault}
 use Rattle.hq_certread.specs.Gives.{no_memory}
 use Rattle.hq_certread.specs.LineTests.{head_said, order_said, line_said, pair_said}
 use Rattle.hq_certread.specs.declared.progress.Progress.{Progress}
-use Rattle.hq_certread.specs.SoFar.{HasFault, HasTaken, IsPast, behind}
+use Rattle.hq_certread.specs.SoFar.{HasFault, HasTaken, IsPast, LinesStand, behind, lines_in, pairs_in}
 use Rattle.hq_certread.specs.TextFaults.{State, start, with_head, with_order, with_line, with_pair, with_end, add_head, add_order, add_line, add_pair, add_end, add_behind, add_content, add_at, added}
 use Rattle.hq_certread.proofs.States.{Shape, Kept, kept, kept_start}
 
@@ -152,22 +152,28 @@ all_stay (line ∷ lines) s t past (mid, here, rest) =
     let k = all_stay lines mid t h.past rest in
     record { past = k.past; lines = k.lines ∙ h.lines }
 
-nothing_in_front : (gone more : List model.Pair) → gone ++ more ≡ [] → gone ≡ []
-nothing_in_front [] more e = refl
-nothing_in_front (p ∷ gone) more e = absurd cc
-
--- where pair lines were let go, no more lines come
-pub lines_stand : (gone : List model.Pair) (before more : List (List ℕ)) (s t : State) → AdmitsAll added start before (behind gone s) → AdmitsAll added s more t → (gone ≡ []) ⊎ (t.lines ≡ s.lines)
+-- where pair lines were read, let go or not, no more lines come
+pub lines_stand : (gone : List model.Pair) (before more : List (List ℕ)) (s t : State) → AdmitsAll added start before (behind gone s) → AdmitsAll added s more t → ((gone ++ s.pairs) ≡ []) ⊎ (t.lines ≡ s.lines)
 lines_stand gone before more s t admitted h =
     let k = keeps_lines added Kept kept [] before start (behind gone s) kept_start admitted in
     by s.stage k.shape refl
   where
-    by : (st : Stage) → Shape st (behind gone s) → s.stage ≡ st → (gone ≡ []) ⊎ (t.lines ≡ s.lines)
-    by stage.Head shape e = inl (nothing_in_front gone s.pairs shape.1)
-    by stage.Order shape e = inl (nothing_in_front gone s.pairs shape.1)
-    by stage.Lines shape e = inl (nothing_in_front gone s.pairs shape)
+    by : (st : Stage) → Shape st (behind gone s) → s.stage ≡ st → ((gone ++ s.pairs) ≡ []) ⊎ (t.lines ≡ s.lines)
+    by stage.Head shape e = inl shape.1
+    by stage.Order shape e = inl shape.1
+    by stage.Lines shape e = inl shape
     by stage.Pairs shape e = inr (all_stay more s t (subst IsPast (sym e) tt) h).lines
     by stage.Ended shape e = inr (all_stay more s t (subst IsPast (sym e) tt) h).lines
+
+-- in front of nothing nothing was let go
+nothing_in_front : (gone more : List model.Pair) → gone ++ more ≡ [] → gone ≡ []
+nothing_in_front [] more e = refl
+nothing_in_front (p ∷ gone) more e = absurd cc
+
+-- the same of those that were let go alone
+pub stand_gone : (gone : List model.Pair) (old new : Progress) → LinesStand gone old new → (gone ≡ []) ⊎ (lines_in new ≡ lines_in old)
+stand_gone gone old new (inl none) = inl (nothing_in_front gone (pairs_in old) none)
+stand_gone gone old new (inr same) = inr same
 
 -- ---- pair lines let go
 

@@ -79,7 +79,7 @@ passed text a lines gone old new next before is h none state count = record {
     long : lines_in new ≡ t.lines
     long = ap (λ (u : State). u.lines) state
 
-    stand_too : (gone ≡ []) ⊎ (t.lines ≡ s.lines) → (gone ≡ []) ⊎ (lines_in new ≡ lines_in old)
+    stand_too : ((gone ++ s.pairs) ≡ []) ⊎ (t.lines ≡ s.lines) → ((gone ++ pairs_in old) ≡ []) ⊎ (lines_in new ≡ lines_in old)
     stand_too (inl e) = inl e
     stand_too (inr e) = inr (long ∙ e)
 

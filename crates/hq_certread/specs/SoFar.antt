@@ -31,9 +31,9 @@ pub record HasTaken (lines : List (List ℕ)) (gone : List model.Pair) (p : Prog
   pub counted : p.count ≡ length lines
   pub admitted : AdmitsAll added start lines (behind gone (state_of p.draft))
 
--- the lines are the same as before, unless no pair line was let go yet
+-- the lines are the same as before, unless no pair line had been read: none was let go, and none was left
 abbrev pub LinesStand : List model.Pair → Progress → Progress → Type 0
-LinesStand gone old new = (gone ≡ []) ⊎ (lines_in new ≡ lines_in old)
+LinesStand gone old new = ((gone ++ pairs_in old) ≡ []) ⊎ (lines_in new ≡ lines_in old)
 
 -- once this may come next, no more lines can come
 abbrev pub IsPast : Stage → Type 0

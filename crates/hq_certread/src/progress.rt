@@ -40,7 +40,7 @@ impl Progress {
         }
     }
 
-    /// Takes in all lines of a text, behind those that were taken in. Behind a pair line that was let go no more lines
+    /// Takes in all lines of a text, behind those that were taken in. Behind a pair line, let go or not, no more lines
     /// come.
     ///
     /// # Errors

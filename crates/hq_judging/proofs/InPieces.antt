@@ -12,6 +12,7 @@ use Rattle.hq_certread.specs.Ahead.{IsAhead, pairs_ahead}
 use Rattle.hq_certread.specs.SoFar.{HasFault, HasPassed, IsClosed, StaysClosed, lines_in, pairs_in}
 use Rattle.hq_certread.specs.declared.fault.CertFault.{CertFault}
 use Rattle.hq_certread.specs.declared.progress.Progress.{Progress}
+use Rattle.hq_certread.proofs.LetGo.{stand_gone}
 use Rattle.hq_certcheck.specs.Listed.{PairFollows, FirstBadPair}
 use Rattle.hq_certcheck.specs.Seen.{Seen, HasSeen}
 use Rattle.hq_certcheck.proofs.Seeing.{seen_of_any}
@@ -123,7 +124,7 @@ piece_passed from at lines old new seen piece i looked still h p put = record {
   same = h.same;
   gone = h.gone ++ pairs_ahead piece.ahead;
   taken = p.taken;
-  seen = put (plan old.job) (lines_in new) h.gone (seen_of_any (plan old.job) h.gone (lines_in old.progress) (lines_in new) old.seen p.stand h.seen)
+  seen = put (plan old.job) (lines_in new) h.gone (seen_of_any (plan old.job) h.gone (lines_in old.progress) (lines_in new) old.seen (stand_gone h.gone old.progress new p.stand) h.seen)
       (subst (λ (j : JobValue). MatchOption piece.bad (All (PairFollows (plan j) (lines_in new)) (pairs_ahead piece.ahead)) (λ f. FirstBadPair (plan j) (lines_in new) (pairs_ahead piece.ahead) f.0 f.1)) (sym h.same)
       (bad_now (plan from.job) at new piece looked (stays_both at old.progress new still p.closed)));
   none = p.none;

@@ -6,6 +6,7 @@ use Rattle.hq_cert.specs.View.{line_of, pair_of}
 use Rattle.hq_job.specs.Plan.{plan}
 use Rattle.hq_certcheck.proofs.Seeing.{seen_as, seen_of_any}
 use Rattle.hq_certread.specs.SoFar.{lines_in, pairs_in}
+use Rattle.hq_certread.proofs.LetGo.{stand_gone}
 use Rattle.hq_judging.proofs.checking.Checking.take_text.Goals as goal
 
 pub returns-clause-took : goal.returns-clause-took
@@ -13,7 +14,8 @@ returns-clause-took c from lines h =
     let job = plan c.args.self.now.job in
     let read = lines_in c.take.new.self in
     let pairs = pairs_in c.take.new.self in
-    let before = seen_of_any job h.gone (lines_in c.args.self.now.progress) read c.args.self.now.seen (c.in_ok-take.ensures.lines lines h.gone h.taken) h.seen in
+    let stand = stand_gone h.gone c.args.self.now.progress c.take.new.self (c.in_ok-take.ensures.lines lines h.gone h.taken) in
+    let before = seen_of_any job h.gone (lines_in c.args.self.now.progress) read c.args.self.now.seen stand h.seen in
     record {
       same = h.same;
       gone = h.gone ++ pairs;
