@@ -1,6 +1,6 @@
 -- Lines taken in where pair lines were let go: the tests don't ask for pair lines, and behind one no more lines come.
 use Rattle.std.proofs.Common.{◌≡◌, ℕ, ◌⊎◌, inl, inr, Bool, true, false, cond, List, [], ◌∷◌, ◌++◌, length, refl, sym, ap, subst, ◌∙◌, append_assoc, append-nil}
-use Rattle.std.specs.Prelude.{◌&&◌, codes, map, Result, Ok, Err, OnOk, IfErr}
+use Rattle.std.specs.Prelude.{◌&&◌, codes, Result, Ok, Err, OnOk, IfErr}
 use Rattle.std.specs.Str.{bytes_eq}
 use Rattle.hq_text.specs.InTurn.{◌>>=◌}
 use Rattle.hq_text.specs.LineByLine.{AdmitsAll, FirstRefused}

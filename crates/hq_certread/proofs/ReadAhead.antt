@@ -1,52 +1,20 @@
 -- What was read ahead of a text, and what it leaves once it is taken in.
-use Rattle.std.proofs.Common.{◌≡◌, ℕ, ◌+◌, ◌-◌, ◌≤◌, ◌⊎◌, inl, inr, List, [], ◌∷◌, ◌++◌, length, drop, refl, sym, ap, subst, ◌∙◌, arith, append_assoc, append-nil, length-append}
-use Rattle.std.specs.Prelude.{map}
-use Rattle.std.proofs.lemmas.List.{drop_at, take-append-drop}
+use Rattle.std.proofs.Common.{◌≡◌, ℕ, ◌+◌, ◌-◌, ◌⊎◌, inl, inr, List, [], ◌++◌, length, drop, sym, ap, subst, ◌∙◌, arith, append-nil, length-append}
 use Rattle.hq_text.specs.LineByLine.{AdmitsAll}
-use Rattle.hq_text.specs.Lines.{lines_of}
 use Rattle.hq_text.proofs.LineByLine.{admits_both}
-use Rattle.hq_cert.specs.View.{line_of, pair_of}
 use Rattle.hq_model.specs.Certificate as model
 use Rattle.hq_certread.specs.declared.ahead.Ahead.{Ahead}
-use Rattle.hq_certread.specs.declared.draft.Stage.{Stage}
-use Rattle.hq_certread.specs.declared.draft.Stage.TheVariants as stage
 use Rattle.hq_certread.specs.declared.progress.Progress.{Progress}
-use Rattle.hq_certread.specs.Ahead.{BeginsWith, LeadingLines, LeadingPairs, IsAhead, lines_ahead, pairs_ahead, with_more}
+use Rattle.hq_certread.specs.Ahead.{BeginsWith, IsAhead, lines_ahead, pairs_ahead, with_more}
 use Rattle.hq_certread.specs.DraftView.{state_of}
 use Rattle.hq_certread.specs.SoFar.{HasPassed, HasTaken, IsPast, behind, lines_in, pairs_in}
 use Rattle.hq_certread.specs.TextFaults.{State, start, added}
 use Rattle.hq_certread.proofs.LetGo.{all_stay, lines_stand}
 use Rattle.hq_certread.proofs.Taking.{begins_with_none}
 
--- of a text that is cut in two, the second part is what is behind the first
-behind_cut : (text read rest : List ℕ) → text ≡ read ++ rest → drop (length text - length rest) text ≡ rest
-behind_cut text read rest cut =
-    let long : length text ≡ length read + length rest = ap length cut ∙ length-append read rest in
-    let at : length text - length rest ≡ length read = omega (arith, long) in
-    ap (λ n. drop n text) at ∙ ap (drop (length read)) cut ∙ drop_at read rest (length read) refl
-
--- what a text begins with, said of the bytes that are left
-pub begins_at : (lines : List model.Line) (pairs : List model.Pair) (next : Stage) (before : ℕ) (text rest : List ℕ) (count bytes : ℕ) → BeginsWith lines pairs next before text rest count → bytes ≡ length text - length rest
-    → (bytes ≤ length text) × BeginsWith lines pairs next before text (drop bytes text) count
-begins_at lines pairs next before text rest count bytes so is =
-    let at : drop bytes text ≡ rest = ap (λ n. drop n text) is ∙ behind_cut text so.read rest so.cut in
-    (omega (arith, is), subst (λ (r : List ℕ). BeginsWith lines pairs next before text r count) (sym at) so)
-
 -- nothing was read ahead
 pub none_ahead : (text : List ℕ) (a : Ahead) → a.lines.items ≡ [] → a.pairs.items ≡ [] → a.count ≡ 0 → a.bytes ≡ 0 → IsAhead text a
 none_ahead text a lines pairs count bytes = record { within = omega (arith, bytes); begins = rw (lines, pairs, count, bytes) (begins_with_none a.next a.before text) }
-
--- lines that were put behind none
-pub lines_are_ahead : (text rest : List ℕ) (a : Ahead) → a.next ≡ stage.Lines → a.pairs.items ≡ [] → a.bytes ≡ length text - length rest → LeadingLines a.before text rest a.count [] (lines_ahead a) → IsAhead text a
-lines_are_ahead text rest a next pairs bytes so =
-    let h = begins_at so.more [] stage.Lines a.before text rest a.count a.bytes so.begins bytes in
-    record { within = h.0; begins = rw (next, pairs) (subst (λ (ls : List model.Line). BeginsWith ls [] stage.Lines a.before text (drop a.bytes text) a.count) (sym so.behind) h.1) }
-
--- the same of pair lines
-pub pairs_are_ahead : (text rest : List ℕ) (a : Ahead) → a.next ≡ stage.Pairs → a.lines.items ≡ [] → a.bytes ≡ length text - length rest → LeadingPairs a.before text rest a.count [] (pairs_ahead a) → IsAhead text a
-pairs_are_ahead text rest a next lines bytes so =
-    let h = begins_at [] so.more stage.Pairs a.before text rest a.count a.bytes so.begins bytes in
-    record { within = h.0; begins = rw (next, lines) (subst (λ (ps : List model.Pair). BeginsWith [] ps stage.Pairs a.before text (drop a.bytes text) a.count) (sym so.behind) h.1) }
 
 -- what was read ahead is taken in
 pub passed : (text : List ℕ) (a : Ahead) (lines : List (List ℕ)) (gone : List model.Pair) (old new : Progress) → old.draft.stage ≡ a.next → length (lines_in old) ≡ a.before → IsAhead text a → HasTaken lines gone old → pairs_in old ≡ []

@@ -123,9 +123,6 @@ such_none P u a is = record { text = []; is = is; prints = λ w text h. subst (�
 pub such_both : (P Q R : List ℕ → Type 0) {u v w : Option (List ℕ)} {a b c : Printer} → ((t s : List ℕ) → P t → Q s → R (t ++ s)) → PrintsSuch P u a v b → PrintsSuch Q v b w c → PrintsSuch R u a w c
 such_both P Q R {u} {v} {w} {a} {b} {c} f h k = record { text = h.text ++ k.text; is = f h.text k.text h.is k.is; prints = prints_both u v w a b c h.text k.text h.prints k.prints }
 
-pub such_as : (P Q : List ℕ → Type 0) {u v : Option (List ℕ)} {a b : Printer} → ((t : List ℕ) → P t → Q t) → PrintsSuch P u a v b → PrintsSuch Q u a v b
-such_as P Q f h = record { text = h.text; is = f h.text h.is; prints = h.prints }
-
 pub this_one : (t : List ℕ) {u v : Option (List ℕ)} {a b : Printer} → Prints u a v b t → PrintsSuch (λ s. s ≡ t) u a v b
 this_one t h = record { text = t; is = refl; prints = h }
 

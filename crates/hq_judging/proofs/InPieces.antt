@@ -1,6 +1,5 @@
 -- A certificate that is read and checked in pieces.
-use Rattle.std.proofs.Common.{◌≡◌, ℕ, zero, suc, ◌+◌, ◌<◌, ◌≤◌, ◌⊎◌, inl, inr, List, [], ◌∷◌, ◌++◌, length, take, drop, refl, sym, ap, subst, ◌∙◌, arith, append_assoc, append-nil, slice_get, slice_index_or, slice_set as set, Option, None, Some, MatchOption, All, Result, Ok, Err, OnOk, IfErr}
-use Rattle.std.specs.Prelude.{map}
+use Rattle.std.proofs.Common.{◌≡◌, ℕ, suc, ◌+◌, ◌<◌, ◌⊎◌, inl, inr, List, [], ◌∷◌, ◌++◌, length, take, drop, refl, sym, ap, subst, ◌∙◌, arith, append_assoc, append-nil, slice_index_or, slice_set as set, Option, None, Some, MatchOption, All, Result, Ok, Err, OnOk, IfErr}
 use Rattle.std.proofs.lemmas.Bool.{cases_lt, cases_eq}
 use Rattle.std.proofs.lemmas.List.{get_or_default, get_or-set_other, get_or-set_same, take_more, take-append-drop}
 use Rattle.hq_text.specs.Lines.{lines_of}
@@ -8,18 +7,17 @@ use Rattle.hq_job.specs.Plan.{plan}
 use Rattle.hq_job.specs.Value.{JobValue}
 use Rattle.hq_model.specs.Job.{Job}
 use Rattle.hq_model.specs.Certificate as model
-use Rattle.hq_certread.specs.Ahead.{IsAhead, pairs_ahead}
-use Rattle.hq_certread.specs.SoFar.{HasFault, HasPassed, IsClosed, StaysClosed, lines_in, pairs_in}
+use Rattle.hq_certread.specs.Ahead.{pairs_ahead}
+use Rattle.hq_certread.specs.SoFar.{HasFault, HasPassed, IsClosed, StaysClosed, lines_in}
 use Rattle.hq_certread.specs.declared.fault.CertFault.{CertFault}
 use Rattle.hq_certread.specs.declared.progress.Progress.{Progress}
 use Rattle.hq_certread.proofs.LetGo.{stand_gone}
 use Rattle.hq_certcheck.specs.Listed.{PairFollows, FirstBadPair}
 use Rattle.hq_certcheck.specs.Seen.{Seen, HasSeen}
 use Rattle.hq_certcheck.proofs.Seeing.{seen_of_any}
-use Rattle.hq_judging.specs.Checking.{FinishedOf, HasChecked}
+use Rattle.hq_judging.specs.Checking.{HasChecked}
 use Rattle.hq_judging.specs.Pieces.{HasWaiting, IsLookedAt, lines_in_all}
 use Rattle.hq_judging.specs.declared.checking.Checking.{Checking}
-use Rattle.hq_judging.specs.declared.checking.ReadCertificate.{ReadCertificate}
 use Rattle.hq_judging.specs.declared.piece.Piece.{Piece}
 use Rattle.hq_judging.specs.declared.pieces.Pieces.{Pieces}
 
@@ -148,9 +146,6 @@ checked_as from lines c p e h = subst (λ (q : Progress). HasChecked from lines 
 
 -- ---- pieces that wait
 
-pub none_wait : (from : Pieces) (lines : List (List ℕ)) (p : Pieces) → HasChecked from.checking lines p.checking → p.waiting.items ≡ [] → HasWaiting from lines p
-none_wait from lines p h none = record { taken = lines; checked = h; whole = sym (append-nil lines) ∙ ap (λ ws. lines ++ lines_in_all ws) (sym none) }
-
 -- one more waits
 pub one_waits : (from : Pieces) (lines : List (List ℕ)) (old new : Pieces) (piece : Piece) (text : List ℕ) → HasWaiting from lines old → new.checking ≡ old.checking → new.waiting.items ≡ old.waiting.items ++ piece ∷ [] → piece.text.items ≡ text → HasWaiting from (lines ++ lines_of text) new
 one_waits from lines old new piece text h same waits is = record {
@@ -160,13 +155,7 @@ one_waits from lines old new piece text h same waits is = record {
       ∙ ap (λ ls. h.taken ++ ls) (ap (λ ls. lines_in_all old.waiting.items ++ ls) (ap lines_of (sym is) ∙ sym (append-nil (lines_of piece.text.items))) ∙ sym (lines_in_both old.waiting.items (piece ∷ [])) ∙ ap lines_in_all (sym waits));
 }
 
--- what waits is taken in
-pub all_taken : (from : Pieces) (lines : List (List ℕ)) (old : Pieces) (pieces : List Piece) (new : Checking) → HasWaiting from lines old → lines_in_all pieces ≡ lines_in_all old.waiting.items
-    → ((start : Checking) (ls : List (List ℕ)) → HasChecked start ls old.checking → HasChecked start (ls ++ lines_in_all pieces) new) → HasChecked from.checking lines new
-all_taken from lines old pieces new h same took =
-    subst (λ (ls : List (List ℕ)). HasChecked from.checking ls new) (ap (λ ls. h.taken ++ ls) same ∙ sym h.whole) (took from.checking h.taken h.checked)
-
--- or has a fault
+-- what waits has a fault
 pub all_faulty : (from : Pieces) (lines more : List (List ℕ)) (old : Pieces) (pieces : List Piece) (f : CertFault) → HasWaiting from lines old → lines_in_all pieces ≡ lines_in_all old.waiting.items
     → ((start : Checking) (ls others : List (List ℕ)) → HasChecked start ls old.checking → HasFault (ls ++ (lines_in_all pieces ++ others)) f) → HasFault (lines ++ more) f
 all_faulty from lines more old pieces f h same fault =

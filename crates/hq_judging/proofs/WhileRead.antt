@@ -1,19 +1,15 @@
 -- A certificate that is checked while it is read.
-use Rattle.std.proofs.Common.{◌≡◌, ℕ, List, [], ◌++◌, Option, Result, Ok, Err, IfOk, IfErr, sym, ap, subst, ◌∙◌, append-nil}
-use Rattle.std.specs.Prelude.{map}
+use Rattle.std.proofs.Common.{◌≡◌, ℕ, List, ◌++◌, Option, Ok, sym, ap, subst, ◌∙◌, append-nil}
 use Rattle.hq_cert.specs.declared.certificate.Line.{Line}
 use Rattle.hq_cert.specs.declared.certificate.Pair.{Pair}
-use Rattle.hq_cert.specs.View.{line_of, pair_of}
 use Rattle.hq_text.specs.Intake.{OfText}
 use Rattle.hq_text.specs.Lines.{lines_of}
 use Rattle.hq_text.specs.Turns.{ReadTurn}
 use Rattle.hq_job.specs.Plan.{plan}
 use Rattle.hq_job.specs.Value.{JobValue}
-use Rattle.hq_model.specs.Job.{Job}
 use Rattle.hq_model.specs.Certificate as model
 use Rattle.hq_certtext.specs.Grammar.{CertText}
-use Rattle.hq_certread.specs.declared.fault.CertFault.{CertFault}
-use Rattle.hq_certread.specs.SoFar.{HasTaken, ReadBehind, lines_in, pairs_in}
+use Rattle.hq_certread.specs.SoFar.{ReadBehind, lines_in, pairs_in}
 use Rattle.hq_certcheck.specs.Seen.{Seen, HasSeen, with_pairs}
 use Rattle.hq_judging.specs.Check.{CheckedReport, CertReport}
 use Rattle.hq_judging.specs.Checking.{HasChecked, WasRead, WasReadFor}

@@ -1,6 +1,6 @@
 //! Certificates that several threads read and check, piece by piece.
 
-ghost use Rattle.std.specs.Prelude.{◌≡◌, ◌⊎◌, ℕ, [], ◌++◌, List, IfOk, IfErr, OnOk, All};
+ghost use Rattle.std.specs.Prelude.{◌≡◌, ℕ, [], ◌++◌, List, IfErr, OnOk, All};
 ghost use Rattle.hq_job.specs.Plan.{plan};
 ghost use Rattle.hq_text.specs.Lines.{lines_of};
 ghost use Rattle.hq_certread.specs.SoFar.{HasFault, StaysClosed};
