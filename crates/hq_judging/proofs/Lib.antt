@@ -1,5 +1,5 @@
 pub mod Audits
-pub mod InPieces
+pub mod InChunks
 pub mod Checks
 mod Numbers
 pub mod Audited

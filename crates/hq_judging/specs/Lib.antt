@@ -2,4 +2,4 @@ pub mod Audit
 pub mod Check
 pub mod Checking
 pub mod Giving
-pub mod Pieces
+pub mod Chunks

@@ -7,12 +7,12 @@ ghost use Rattle.hq_text.specs.Turns.{Fails, Passes};
 ghost use Rattle.hq_certread.specs.SoFar.{HasFault};
 ghost use Rattle.hq_judging.specs.Check.{NoCertificate};
 ghost use Rattle.hq_judging.specs.Checking.{HasChecked, WasRead, WasReadFor};
-ghost use Rattle.hq_judging.specs.Pieces.{HasWaiting};
+ghost use Rattle.hq_judging.specs.Chunks.{HasWaiting};
 ghost use Rattle.hq_status.specs.Reports.{OfReader, ReaderReport, Reported};
 
 use crate::check::say_faulty_text;
 use crate::checking::{Checking, ReadCertificate};
-use crate::pieces::Pieces;
+use crate::chunks::Chunks;
 use hq_certread::{CertFault, ReadFault};
 use hq_job::Job;
 use hq_status::{Status, let_go, say_file, say_memory};
@@ -21,22 +21,22 @@ use std::alloc::Global;
 use std::io::{Read, Write};
 use std::thread::Threads;
 
-/// A certificate in pieces, and what starts the threads that read them.
+/// A certificate in chunks, and what starts the threads that read them.
 #[derive(Drop)]
 struct WideChecking<'a, R> {
     rt: &'a R,
-    pieces: Pieces,
+    chunks: Chunks,
 }
 
 impl<'a, R: Threads> TakesLines for WideChecking<'a, R> {
     type Fault = CertFault;
 
-    ghost Took = { λ from lines wide. HasWaiting from.pieces lines wide.pieces };
+    ghost Took = { λ from lines wide. HasWaiting from.chunks lines wide.chunks };
 
     ghost Refuses = { HasFault };
 
     fn take_lines(&mut self, alloc: Global, text: &[u8]) -> Result<(), CertFault> {
-        self.pieces.take_text(self.rt, alloc, text)
+        self.chunks.take_text(self.rt, alloc, text)
     }
 
     fn no_memory() -> CertFault {
@@ -59,10 +59,10 @@ fn read_source<R: Threads, S: Source>(
         (λ e. FaultOf e (λ f. OfText S S.Turned TURNS source.old source.new (λ text. HasFault (lines_of text) f))
         (Fails S S.Turned TURNS source.old source.new ⊎ Passes S S.Turned TURNS source.old source.new)) }
 {
-    let pieces = Pieces::new(rt, alloc, checking);
-    let wide = read_lines(alloc, source, WideChecking { rt, pieces })?;
-    let WideChecking { pieces, .. } = wide;
-    match pieces.finish(rt, alloc) {
+    let chunks = Chunks::new(rt, alloc, checking);
+    let wide = read_lines(alloc, source, WideChecking { rt, chunks })?;
+    let WideChecking { chunks, .. } = wide;
+    match chunks.finish(rt, alloc) {
         Ok(known) => Ok(known),
         Err(fault) => Err(ReadFault::Text(fault)),
     }

@@ -11,10 +11,10 @@ mod check;
 mod check_alone;
 mod checking;
 mod checking_wide;
+mod chunk;
+mod chunks;
 mod giving;
 pub mod laws;
-mod piece;
-mod pieces;
 mod stuck;
 
 pub use audit::{audit_engine, say_no_certificate};

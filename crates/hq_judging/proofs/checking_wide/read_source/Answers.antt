@@ -6,10 +6,10 @@ use Rattle.hq_judging.specs.declared.checking.Checking.{Checking}
 use Rattle.hq_judging.proofs.checking_wide.read_source.Goals as goal
 
 pub returns-in-Ok-clause-found : goal.returns-in-Ok-clause-found
-returns-in-Ok-clause-found g c = let t = c.in_ok-wide.ensures.taken in record { text = t.text; ended = t.ended; so = subst (λ (from : Checking). WasReadFor from (lines_of t.text) c.in-Ok.known) c.new-pieces.ensures.is (c.in-Ok.ensures c.new-pieces.result (lines_of t.text) t.so) }
+returns-in-Ok-clause-found g c = let t = c.in_ok-wide.ensures.taken in record { text = t.text; ended = t.ended; so = subst (λ (from : Checking). WasReadFor from (lines_of t.text) c.in-Ok.known) c.new-chunks.ensures.is (c.in-Ok.ensures c.new-chunks.result (lines_of t.text) t.so) }
 
 pub returns-in-Err-clause-fault : goal.returns-in-Err-clause-fault
-returns-in-Err-clause-fault g c = let t = c.in_ok-wide.ensures.taken in record { text = t.text; ended = t.ended; so = c.in-Err.ensures c.new-pieces.result (lines_of t.text) t.so }
+returns-in-Err-clause-fault g c = let t = c.in_ok-wide.ensures.taken in record { text = t.text; ended = t.ended; so = c.in-Err.ensures c.new-chunks.result (lines_of t.text) t.so }
 
 pub returns-in_err-wide-clause-fault : goal.returns-in_err-wide-clause-fault
 returns-in_err-wide-clause-fault g c =

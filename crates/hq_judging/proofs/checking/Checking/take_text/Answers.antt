@@ -1,5 +1,5 @@
 use Rattle.std.proofs.Common.{◌++◌, ap, refl, sym, ◌∙◌}
-use Rattle.hq_judging.proofs.InPieces.{stays_both}
+use Rattle.hq_judging.proofs.InChunks.{stays_both}
 use Rattle.std.proofs.lemmas.Result.{err_from_is_err_and}
 use Rattle.std.specs.Prelude.{map}
 use Rattle.hq_cert.specs.View.{line_of, pair_of}
