@@ -18,8 +18,11 @@ use rayon::current_num_threads;
 use std::alloc::Global;
 use std::thread::{Threads, join_mut};
 
-/// How many chunks wait at most until they are read, each of some 64 KiB.
+/// How many chunks wait at most until they are read, each of some 64 KiB, where there are few threads.
 const MANY: usize = 16;
+
+/// How many of them wait for each thread, where there are more.
+const SHARE: usize = 4;
 
 /// How many chunks are worth more threads than one.
 const ENOUGH: usize = 6;
@@ -35,6 +38,7 @@ pub struct Chunks {
     waiting: Vec<Chunk>,
     spare: Vec<Chunk>,
     threads: usize,
+    many: usize,
 }
 
 /// Reads chunks ahead and checks their pair lines, one behind another.
@@ -88,7 +92,8 @@ fn look_by<R: Threads>(rt: &R, threads: usize, job: &Job, progress: &Progress, c
     look_beside(rt, threads - 1, job, progress, first, rest);
 }
 
-/// Reads chunks ahead and checks their pair lines, in so many threads where there are many chunks.
+/// Reads chunks ahead and checks their pair lines, in so many threads where there are many chunks, and in no more than
+/// have one.
 fn look_at_all<R: Threads>(
     rt: &R,
     threads: usize,
@@ -102,7 +107,7 @@ fn look_at_all<R: Threads>(
     if chunks.len() < ENOUGH {
         look_in_turn(job, progress, chunks);
     } else {
-        look_by(rt, threads, job, progress, chunks);
+        look_by(rt, threads.min(chunks.len()), job, progress, chunks);
     }
 }
 
@@ -151,11 +156,13 @@ impl Chunks {
         ensures is { result.checking ≡ checking }
         ensures waiting { HasChecked checking [] checking → HasWaiting result [] result }
     {
+        let threads = current_num_threads(rt).min(MOST);
         Chunks {
             checking,
             waiting: Vec::new(alloc),
             spare: Vec::new(alloc),
-            threads: current_num_threads(rt).min(MOST),
+            threads,
+            many: (threads * SHARE).max(MANY),
         }
     }
 
@@ -230,7 +237,7 @@ impl Chunks {
             return self.checking.take_text(alloc, text);
         }
         self.hold(alloc, text)?;
-        if self.waiting.len() < MANY {
+        if self.waiting.len() < self.many {
             return Ok(());
         }
         self.take_waiting(rt, alloc)
