@@ -1,5 +1,5 @@
 -- What was read ahead of a text, and what it leaves once it is taken in.
-use Rattle.std.proofs.Common.{◌≡◌, ℕ, ◌+◌, ◌-◌, ◌⊎◌, inl, inr, List, [], ◌++◌, length, drop, sym, ap, subst, ◌∙◌, arith, append-nil, length-append}
+use Rattle.std.proofs.Common.{◌≡◌, ℕ, ◌+◌, ◌⊎◌, inl, inr, List, [], ◌++◌, length, drop, sym, ap, subst, ◌∙◌, arith, append-nil, length-append}
 use Rattle.hq_text.specs.LineByLine.{AdmitsAll}
 use Rattle.hq_text.proofs.LineByLine.{admits_both}
 use Rattle.hq_model.specs.Certificate as model

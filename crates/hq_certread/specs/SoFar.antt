@@ -51,8 +51,8 @@ IsClosed p = IsPast p.draft.stage
 abbrev pub StaysClosed : Progress → Progress → Type 0
 StaysClosed old new = IsClosed old → IsClosed new × (lines_in new ≡ lines_in old)
 
--- What was read ahead can be taken in next: such a line is the one that may come, and as many lines stand before it as
--- it was read behind.
+-- What was read ahead can be taken in next: what it was read as, lines or pair lines, is what may come, and as many
+-- lines stand before it as it was read behind.
 pub record CanPass (p : Progress) (a : Ahead) : Type 0 where
   pub next : p.draft.stage ≡ a.next
   pub before : length (lines_in p) ≡ a.before

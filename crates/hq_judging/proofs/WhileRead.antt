@@ -1,7 +1,5 @@
 -- A certificate that is checked while it is read.
 use Rattle.std.proofs.Common.{◌≡◌, ℕ, List, ◌++◌, Option, Ok, sym, ap, subst, ◌∙◌, append-nil}
-use Rattle.hq_cert.specs.declared.certificate.Line.{Line}
-use Rattle.hq_cert.specs.declared.certificate.Pair.{Pair}
 use Rattle.hq_text.specs.Intake.{OfText}
 use Rattle.hq_text.specs.Lines.{lines_of}
 use Rattle.hq_text.specs.Turns.{ReadTurn}
