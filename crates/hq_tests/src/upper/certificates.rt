@@ -1,7 +1,7 @@
 use crate::calls::good;
 use crate::upper::readers::Pieces;
 use hq_cert::Certificate;
-use hq_certread::{CertFault, CertReason, ReadFault, parse, read};
+use hq_certread::{Ahead, CertFault, CertReason, Progress, ReadFault, parse, read};
 use hq_certtext::{Printer, print};
 use std::alloc::Global;
 use std::process::Abort;
@@ -174,4 +174,91 @@ fn read_faults(rt: HostRuntime) {
             ReadFault::Reader,
         );
     }
+}
+
+// Texts that are long enough for lines of them to be read ahead.
+
+/// Lines 0 to 4.
+const LINES: &[u8] =
+    b"line 0 100 101 bit 0\nline 1 100 101 bit 0\nline 2 100 101 bit 0\nline 3 100 101 bit 0\nline 4 100 101 bit 0\n";
+
+/// Lines 5 to 9.
+const MORE: &[u8] =
+    b"line 5 100 101 bit 0\nline 6 100 101 bit 0\nline 7 100 101 bit 0\nline 8 100 101 bit 0\nline 9 100 101 bit 0\n";
+
+/// Lines 10 to 13.
+const LATE: &[u8] =
+    b"line 10 100 101 queue\nline 11 100 101 queue\nline 12 100 101 queue\nline 13 100 101 queue\n";
+
+/// Five pair lines.
+const PAIRS: &[u8] =
+    b"pair 100 101 rw 0\npair 100 102 rw 1\npair 100 103 rw 2\npair 100 104 rw 3\npair 100 105 rw 4\n";
+
+/// Takes in the lines of a text; whether they have no fault.
+fn takes(alloc: Global, progress: &mut Progress, text: &[u8]) -> bool {
+    progress.take(alloc, text).is_ok()
+}
+
+/// What a text begins with.
+fn ahead_of(alloc: Global, progress: &Progress, text: &[u8]) -> Ahead {
+    let mut ahead = Ahead::new(alloc);
+    progress.read_ahead(text, &mut ahead);
+    ahead
+}
+
+/// Whether what was read ahead can't come next.
+fn waits(progress: &mut Progress, ahead: &mut Ahead) -> bool {
+    match progress.pass(ahead) {
+        Ok(at) => at.is_none(),
+        Err(_) => false,
+    }
+}
+
+/// Takes in what was read ahead of a text, and then the rest of it; whether something was read, can come next, and the
+/// rest has no fault.
+fn takes_ahead(alloc: Global, progress: &mut Progress, ahead: &mut Ahead, text: &[u8]) -> bool {
+    match progress.pass(ahead) {
+        Ok(Some(at)) => 0 < at && takes(alloc, progress, text.split_at(at.min(text.len())).1),
+        _ => false,
+    }
+}
+
+/// Reads two texts of lines ahead, and takes them in, the second where it isn't its turn too; whether all is as it is
+/// to be.
+fn lines_in_turn(alloc: Global, progress: &mut Progress) -> bool {
+    let mut first = ahead_of(alloc, progress, LINES);
+    let mut second = ahead_of(alloc, progress, MORE);
+    waits(progress, &mut second)
+        && takes_ahead(alloc, progress, &mut first, LINES)
+        && waits(progress, &mut first)
+        && takes_ahead(alloc, progress, &mut second, MORE)
+        && progress.lines().len() == 10
+        && !progress.is_closed()
+}
+
+/// Reads pair lines ahead, and takes them in; behind the first one no lines can come that were read ahead.
+fn pairs_in_turn(alloc: Global, progress: &mut Progress) -> bool {
+    let mut late = ahead_of(alloc, progress, LATE);
+    let one = takes(alloc, progress, b"pair 100 101 rw 0\n") && progress.pairs().len() == 1;
+    progress.let_pairs_go();
+    let mut pairs = ahead_of(alloc, progress, PAIRS);
+    one && progress.is_closed()
+        && waits(progress, &mut late)
+        && !pairs.pairs().is_empty()
+        && takes_ahead(alloc, progress, &mut pairs, PAIRS)
+        && pairs.pairs().len() + progress.pairs().len() == 5
+        && progress.lines().len() == 10
+}
+
+#[test]
+fn read_ahead(rt: HostRuntime) -> Result<(), Fail> {
+    let mut progress = Progress::new(rt.alloc());
+    assert!(rt; takes(rt.alloc(), &mut progress, b"hsac 1\norder 100 101\n"));
+    assert!(rt; lines_in_turn(rt.alloc(), &mut progress));
+    assert!(rt; pairs_in_turn(rt.alloc(), &mut progress));
+    assert!(rt; takes(rt.alloc(), &mut progress, b"end\n"));
+    let certificate = good(progress.finish())?;
+    assert_eq!(rt; certificate.order().len(), 2);
+    assert_eq!(rt; certificate.lines().len(), 10);
+    Ok(())
 }
