@@ -4,7 +4,7 @@ use Rattle.std.specs.List.{AllZip, range_with_len}
 use Rattle.std.proofs.lemmas.List.Elements.{All-cons}
 use Rattle.std.proofs.lemmas.List.FromFn.{get_or-range_with_len, length-range_with_len}
 use Rattle.rayon.specs.Lists.{first_true}
-use Rattle.hq_certcheck.proofs.Flags.{match_change}
+use Rattle.hq_certcheck.proofs.Flagged.{match_change}
 
 -- the answer tells whether the statement fails
 abbrev pub Tells : (ℕ → Type 0) → ℕ → Bool → Type 0

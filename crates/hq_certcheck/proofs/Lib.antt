@@ -2,9 +2,9 @@ pub mod Saying
 pub mod Zipped
 pub mod Firsts
 pub mod FirstPlaces
-pub mod Flags
+pub mod Flagged
 pub mod Refusing
 pub mod Counting
 pub mod Leasts
-pub mod Possible
+pub mod Conflicting
 pub mod Seeing

@@ -1,12 +1,16 @@
 -- Which conflicts have pair lines.
-use Rattle.std.specs.Prelude.{◌≡◌, ℕ, ◌+◌, ◌*◌, ◌<◌, ◌⊎◌, ◌↔◌, ◌==◌, IsTrue, Bool, List, length, Some}
-use Rattle.std.specs.Prelude.{slice_get, slice_index_or}
-use Rattle.std.specs.Int.{bit_at}
+use Rattle.std.specs.Prelude.{◌≡◌, ℕ, ◌+◌, ◌*◌, ◌<◌, ◌⊎◌, ◌↔◌, IsTrue, Bool, false, List, [], length, Some}
+use Rattle.std.specs.Prelude.{slice_get}
+use Rattle.hq_bits.specs.Bits.{has}
+use Rattle.hq_bits.specs.declared.TheConstants.{WIDTH}
 use Rattle.hq_footprint.specs.declared.conflicts.Kinds.{Kinds}
-use Rattle.hq_model.specs.Job.{Job, IsPacket}
+use Rattle.hq_parts.specs.Parts.{AreParts}
+use Rattle.hq_model.specs.Job.{Job, IsPacket, packet}
 use Rattle.hq_model.specs.Fence.{Conflict, Conflicts}
 use Rattle.hq_model.specs.Fence.Conflict.{WriteRead, WriteWrite, ReadWrite}
 use Rattle.hq_model.specs.Certificate.{Certificate, Pair, kind_of, HasPairs}
+use Rattle.hq_certcheck.specs.declared.flags.TheConstants.{KINDS}
+use Rattle.hq_certcheck.specs.declared.possible.Possible.{Possible}
 
 -- Each conflict of p with r has its pair line, those of one direction all of theirs.
 abbrev pub Covered : Job → Certificate → ℕ → ℕ → Type 0
@@ -27,7 +31,7 @@ pub record FirstMissing (job : Job) (c : Certificate) (p r : ℕ) : Type 0 where
   pub missing : ¬ Covered job c p r
   pub first : (q s : ℕ) → q < s → IsPacket job s → ComesSooner q s p r → Covered job c q s
 
--- ---- by a table of flags
+-- ---- by a table of bits: for each packet a row for each kind of conflict
 
 -- The flag of the kind.
 abbrev pub has_kind : Conflict → Kinds → Bool
@@ -35,19 +39,15 @@ has_kind WriteRead kinds = kinds.wr
 has_kind WriteWrite kinds = kinds.ww
 has_kind ReadWrite kinds = kinds.rw
 
--- The bit of the kind in a byte of flags.
-abbrev pub flag_of : Conflict → ℕ
-flag_of WriteRead = 1
-flag_of WriteWrite = 2
-flag_of ReadWrite = 4
+-- The place of the kind's row among those of a packet.
+abbrev pub row_of : Conflict → ℕ
+row_of WriteRead = 0
+row_of WriteWrite = 1
+row_of ReadWrite = 2
 
--- the flags of a byte
-abbrev pub kinds_in : ℕ → Kinds
-kinds_in flags = record { wr = bit_at flags 0 == 1; ww = bit_at flags 1 == 1; rw = bit_at flags 2 == 1 }
-
--- The flags of p and r, in a table of so many rows.
-abbrev pub cell : List ℕ → ℕ → ℕ → ℕ → Kinds
-cell cells count p r = kinds_in (slice_index_or cells (p * count + r) 0)
+-- Whether there is the flag of this kind of conflict of p with r: bit r of p's row for the kind.
+abbrev pub has_flag : Conflict → List ℕ → ℕ → ℕ → Bool
+has_flag kind flags p r = has flags ((p * KINDS + row_of kind) * WIDTH + r)
 
 -- The pair line is one for this kind of conflict of p with r.
 pub record IsFor (pair : Pair) (p r : ℕ) (kind : Conflict) : Type 0 where
@@ -63,46 +63,58 @@ pub record IsListed (pairs : List Pair) (limit p r : ℕ) (kind : Conflict) : Ty
   pub there : slice_get pairs k ≡ Some pair
   pub is_for : IsFor pair p r kind
 
--- The table has a flag exactly where one of the first pair lines is for it.
-pub record AreListed (pairs : List Pair) (limit count : ℕ) (cells : List ℕ) : Type 0 where
-  pub len : length cells ≡ count * count
-  pub flags : (p r : ℕ) → p < count → r < count → (kind : Conflict) → IsTrue (has_kind kind (cell cells count p r))
-      ↔ IsListed pairs limit p r kind
+-- Two of so many packets have a flag exactly where one of the first pair lines is for it.
+abbrev pub AreListed : List Pair → ℕ → ℕ → List ℕ → Type 0
+AreListed pairs limit count flags = (p r : ℕ) → p < count → r < count → (kind : Conflict)
+    → IsTrue (has_flag kind flags p r) ↔ IsListed pairs limit p r kind
 
 -- The flags are those that there were and that of the pair line.
-pub record IsMarked (pair : Pair) (count : ℕ) (old new : List ℕ) : Type 0 where
-  pub len : length new ≡ length old
-  pub flags : (p r : ℕ) → p < count → r < count → (kind : Conflict) → IsTrue (has_kind kind (cell new count p r))
-      ↔ (IsTrue (has_kind kind (cell old count p r)) ⊎ IsFor pair p r kind)
+abbrev pub IsMarked : Pair → ℕ → List ℕ → List ℕ → Type 0
+IsMarked pair count old new = (p r : ℕ) → p < count → r < count → (kind : Conflict)
+    → IsTrue (has_flag kind new p r) ↔ (IsTrue (has_flag kind old p r) ⊎ IsFor pair p r kind)
 
 -- Each kind of conflict of p with r has its flag.
-abbrev pub AreFlagged : Job → List ℕ → ℕ → ℕ → ℕ → Type 0
-AreFlagged job cells count p r = (kind : Conflict) → Conflicts job kind p r
-    → IsTrue (has_kind kind (cell cells count p r))
+abbrev pub AreFlagged : Job → List ℕ → ℕ → ℕ → Type 0
+AreFlagged job flags p r = (kind : Conflict) → Conflicts job kind p r → IsTrue (has_flag kind flags p r)
 
 -- The same in one direction, for each conflict.
-abbrev pub IsFlagged : Job → List ℕ → ℕ → ℕ → ℕ → Type 0
-IsFlagged job cells count p r = (kind : Conflict) → Conflicts job kind p r
-    → AreFlagged job cells count p r ⊎ AreFlagged job cells count r p
+abbrev pub IsFlagged : Job → List ℕ → ℕ → ℕ → Type 0
+IsFlagged job flags p r = (kind : Conflict) → Conflicts job kind p r → AreFlagged job flags p r ⊎ AreFlagged job flags r p
 
 -- Those of p with the packets after it, up to the end, are.
-abbrev pub AllFlagged : Job → List ℕ → ℕ → ℕ → ℕ → Type 0
-AllFlagged job cells count p end = (s : ℕ) → p < s → s < end → IsFlagged job cells count p s
+abbrev pub AllFlagged : Job → List ℕ → ℕ → ℕ → Type 0
+AllFlagged job flags p end = (s : ℕ) → p < s → s < end → IsFlagged job flags p s
 
 -- r is the least packet after p whose conflicts with p aren't.
-pub record FirstUnflaggedAfter (job : Job) (cells : List ℕ) (count p r : ℕ) : Type 0 where
+pub record FirstUnflaggedAfter (job : Job) (flags : List ℕ) (p r : ℕ) : Type 0 where
   pub ahead : p < r
-  pub below : r < count
-  pub missing : ¬ IsFlagged job cells count p r
-  pub first : AllFlagged job cells count p r
+  pub is_packet : IsPacket job r
+  pub missing : ¬ IsFlagged job flags p r
+  pub first : AllFlagged job flags p r
+
+-- Those of p with all packets after it are.
+abbrev pub RowFlagged : Job → List ℕ → ℕ → Type 0
+RowFlagged job flags p = AllFlagged job flags p (length job.packets)
 
 -- p is the least packet that has such packets after it.
-pub record FirstUnflaggedRow (job : Job) (cells : List ℕ) (count p : ℕ) : Type 0 where
-  pub below : p < count
-  pub missing : ¬ AllFlagged job cells count p count
-  pub first : (q : ℕ) → q < p → AllFlagged job cells count q count
+pub record FirstUnflaggedRow (job : Job) (flags : List ℕ) (p : ℕ) : Type 0 where
+  pub is_packet : IsPacket job p
+  pub missing : ¬ RowFlagged job flags p
+  pub first : (q : ℕ) → q < p → RowFlagged job flags q
 
 -- p and r are the first in number order.
-pub record FirstUnflagged (job : Job) (cells : List ℕ) (count p r : ℕ) : Type 0 where
-  pub after : FirstUnflaggedAfter job cells count p r
-  pub first : (q : ℕ) → q < p → AllFlagged job cells count q count
+pub record FirstUnflagged (job : Job) (flags : List ℕ) (p r : ℕ) : Type 0 where
+  pub after : FirstUnflaggedAfter job flags p r
+  pub first : (q : ℕ) → q < p → RowFlagged job flags q
+
+-- ---- packets that may conflict at all
+
+-- The first row has all packets that read something, and the second all that write something.
+pub record AreRoles (job : Job) (readers writers : List ℕ) : Type 0 where
+  pub reads : (s : ℕ) → IsPacket job s → has readers s ≡ false → (packet job s).reads ≡ []
+  pub writes : (s : ℕ) → IsPacket job s → has writers s ≡ false → (packet job s).writes ≡ []
+
+-- What tells of the packets of a job which may conflict.
+pub record IsPossible (job : Job) (possible : Possible) : Type 0 where
+  pub parts : AreParts job possible.parts
+  pub roles : AreRoles job possible.readers possible.writers

@@ -12,6 +12,7 @@ use Rattle.hq_certcheck.specs.Covering.{AreListed}
 use Rattle.hq_certcheck.specs.Listed.{PairFollows, FirstBadPair}
 use Rattle.hq_certcheck.specs.Refusals.{IsRefused}
 use Rattle.hq_certcheck.specs.View.{AcceptedJob}
+use Rattle.hq_certcheck.specs.declared.flags.TheConstants.{PACKET_WORDS}
 use Rattle.hq_certcheck.specs.declared.fault.CheckNo.{CheckNo}
 use Rattle.hq_certcheck.specs.declared.fault.CheckNo.TheVariants.{Memory}
 use Rattle.hq_certcheck.specs.declared.seen.SeenPairs.TheInside.{Inside}
@@ -19,23 +20,23 @@ use Rattle.hq_certcheck.specs.declared.seen.SeenPairs.TheInside.{Inside}
 -- for so many packets, which kinds of conflict of which two have pair lines, and the first pair line that doesn't hold
 pub record Seen : Type 0 where
   pub count : ℕ
-  pub cells : List ℕ
+  pub flags : List ℕ
   pub bad : Option (ℕ × ℕ)
 
 -- what the fields mean
 abbrev pub seen_of : Inside → Seen
-seen_of s = record { count = s.count; cells = s.cells.items; bad = s.bad }
+seen_of s = record { count = s.count; flags = s.flags.items; bad = s.bad }
 
--- there is a byte of flags for each two packets
+-- there are the rows of each packet
 pub record IsTable (s : Inside) : Type 0 where
   pub few : s.count ≤ PACKETS
-  pub len : length s.cells.items ≡ s.count * s.count
+  pub len : length s.flags.items ≡ s.count * PACKET_WORDS
 
 -- These pair lines were seen, of a certificate of these lines: each kind of conflict of each two packets has its flag
 -- exactly where one of them is for it, and the first of them that doesn't hold is known.
 pub record HasSeen (job : Job) (lines : List Line) (pairs : List Pair) (s : Seen) : Type 0 where
   pub count : s.count ≡ length job.packets
-  pub listed : AreListed pairs (length pairs) s.count s.cells
+  pub listed : AreListed pairs (length pairs) s.count s.flags
   pub bad : MatchOption s.bad (All (PairFollows job lines) pairs) (λ pair. FirstBadPair job lines pairs pair.0 pair.1)
 
 -- the certificate with these pair lines in the place of its own

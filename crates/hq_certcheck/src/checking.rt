@@ -2,11 +2,9 @@
 
 ghost use Rattle.std.specs.Prelude.{◌≡◌, ℕ, List, length, IfOk, IfErr, OnOk, MatchOption};
 ghost use Rattle.hq_job.specs.Plan.{plan};
-ghost use Rattle.hq_model.specs.Order.{OrderList, Extends};
+ghost use Rattle.hq_model.specs.Order.{OrderList};
 ghost use Rattle.hq_model.specs.Certificate as model;
 ghost use Rattle.hq_model.specs.Certificate.{LineHolds, CertHolds};
-ghost use Rattle.hq_model.specs.Fence.{Ordered};
-ghost use Rattle.hq_model.specs.Theorems.{Headline};
 ghost use Rattle.hq_certcheck.specs.Refusals.{IsRefused, IsBadLine};
 ghost use Rattle.hq_certcheck.specs.Seen.{HasSeen, IsChecked, with_pairs};
 
@@ -147,13 +145,7 @@ pub fn check_seen(
 /// The first reason why it isn't accepted, and the job as it was. A certificate that holds is refused only with
 /// `Memory`.
 pub fn check(alloc: Global, job: Job, certificate: &Certificate) -> Result<Accepted, (CheckNo, Job)>
-    ensures accepted { IfOk result
-        (λ a. CertHolds (plan job) certificate.now × (a.job ≡ job) × (a.order ≡ certificate.now.order)) }
-    ensures ordered { IfOk result (λ _. Ordered (plan job)) }
-    ensures extends { IfOk result (λ a. Extends (plan job) a.order) }
-    ensures headline { IfOk result (λ _. Headline (plan job)) }
-    ensures refused { IfErr result (λ e. (e.1 ≡ job) × IsRefused (plan job) certificate.now e.0) }
-    ensures only { CertHolds (plan job) certificate.now → IfErr result (λ e. e.0 ≡ CheckNo.Memory) }
+    ensures { IsChecked job certificate.now result }
 {
     match SeenPairs::of(alloc, &job, certificate) {
         Ok(seen) => check_seen(alloc, job, certificate, &seen),

@@ -1,6 +1,6 @@
 //! Pair lines of a certificate, one block behind another.
 
-ghost use Rattle.std.specs.Prelude.{◌≡◌, ℕ, ◌<◌, [], ◌++◌, ◌*◌, List, IfOk, map, length, MatchOption, All};
+ghost use Rattle.std.specs.Prelude.{◌≡◌, ◌<◌, [], ◌++◌, ◌*◌, List, IfOk, map, length, MatchOption, All};
 ghost use Rattle.hq_cert.specs.View.{line_of, pair_of};
 ghost use Rattle.hq_job.specs.Plan.{plan};
 ghost use Rattle.hq_model.specs.Job.{Job as JobOf};
@@ -8,9 +8,10 @@ ghost use Rattle.hq_model.specs.Certificate as model;
 ghost use Rattle.hq_certcheck.specs.Listed.{PairFollows, FirstBadPair};
 ghost use Rattle.hq_certcheck.specs.Seen.{HasSeen};
 
-use crate::missing::mark_all;
+use crate::flags::{PACKET_WORDS, mark_all};
 use crate::pairs::first_bad_pair;
 use crate::wide_pairs;
+use hq_bits::empty;
 use hq_cert::{Certificate, Line, Pair};
 use hq_job::Job;
 use std::alloc::{AllocError, Global};
@@ -22,7 +23,7 @@ use std::thread::Threads;
 #[derive(Drop)]
 pub struct SeenPairs {
     count: usize,
-    cells: Vec<u8>,
+    flags: Vec<u64>,
     bad: Option<(u32, u32)>,
 }
 
@@ -49,7 +50,7 @@ impl SeenPairs {
         let count = job.packets().len();
         Ok(SeenPairs {
             count,
-            cells: vec![in alloc; 0; count * count]?,
+            flags: empty(alloc, count * PACKET_WORDS)?,
             bad: None,
         })
     }
@@ -61,7 +62,7 @@ impl SeenPairs {
             (λ pair. FirstBadPair job lines (map pair_of pairs.now) pair.0 pair.1)
             → HasSeen job lines (before ++ map pair_of pairs.now) self.new }
     {
-        mark_all(&mut self.cells, self.count, pairs);
+        mark_all(&mut self.flags, self.count, pairs);
         self.bad = self.bad.or(bad);
     }
 
@@ -123,11 +124,11 @@ impl SeenPairs {
         self.bad
     }
 
-    /// The kinds that have pair lines, for each two packets: a byte of flags.
-    pub(crate) fn cells(&self) -> &[u8]
-        ensures cells { result.now ≡ self.now.cells }
-        ensures len { length result.now ≡ self.now.count * self.now.count }
+    /// Which kinds of conflict of which packets have pair lines: a row of bits for each packet and kind.
+    pub(crate) fn flags(&self) -> &[u64]
+        ensures flags { result.now ≡ self.now.flags }
+        ensures len { length result.now ≡ self.now.count * PACKET_WORDS }
     {
-        &self.cells
+        &self.flags
     }
 }

@@ -3,11 +3,9 @@
 ghost use Rattle.std.specs.Prelude.{◌≡◌, ℕ, ◌<◌, List, IfOk, IfErr, OnOk, IsTrue, MatchOption, false, map, length};
 ghost use Rattle.hq_cert.specs.View.{line_of};
 ghost use Rattle.hq_job.specs.Plan.{plan};
-ghost use Rattle.hq_model.specs.Order.{OrderList, Extends};
+ghost use Rattle.hq_model.specs.Order.{OrderList};
 ghost use Rattle.hq_model.specs.Certificate as model;
 ghost use Rattle.hq_model.specs.Certificate.{LineHolds, CertHolds};
-ghost use Rattle.hq_model.specs.Fence.{Ordered};
-ghost use Rattle.hq_model.specs.Theorems.{Headline};
 ghost use Rattle.hq_certcheck.specs.Listed.{LineFollows, FirstBadLine};
 ghost use Rattle.hq_certcheck.specs.Refusals.{IsRefused, IsBadLine};
 ghost use Rattle.hq_certcheck.specs.Seen.{HasSeen, IsChecked, with_pairs};
@@ -144,13 +142,7 @@ pub fn check_wide(
     job: Job,
     certificate: &Certificate,
 ) -> Result<Accepted, (CheckNo, Job)>
-    ensures accepted { IfOk result
-        (λ a. CertHolds (plan job) certificate.now × (a.job ≡ job) × (a.order ≡ certificate.now.order)) }
-    ensures ordered { IfOk result (λ _. Ordered (plan job)) }
-    ensures extends { IfOk result (λ a. Extends (plan job) a.order) }
-    ensures headline { IfOk result (λ _. Headline (plan job)) }
-    ensures refused { IfErr result (λ e. (e.1 ≡ job) × IsRefused (plan job) certificate.now e.0) }
-    ensures only { CertHolds (plan job) certificate.now → IfErr result (λ e. e.0 ≡ CheckNo.Memory) }
+    ensures { IsChecked job certificate.now result }
 {
     match SeenPairs::of_wide(rt, alloc, &job, certificate) {
         Ok(seen) => check_seen_wide(rt, alloc, job, certificate, &seen),

@@ -2,16 +2,16 @@
 
 ghost use Rattle.std.specs.Prelude.{◌≡◌, ℕ, ◌*◌, ◌<◌, IsTrue, IfOk, MatchOption, false, length};
 ghost use Rattle.hq_job.specs.Plan.{plan};
-ghost use Rattle.hq_certcheck.specs.Covering.{FirstMissing, AreListed, AllFlagged, FirstUnflaggedRow};
+ghost use Rattle.hq_certcheck.specs.Covering.{FirstMissing, AreListed, IsPossible, RowFlagged, FirstUnflaggedRow};
 ghost use Rattle.hq_certcheck.specs.Covering.{FirstUnflagged, NoneMissing};
 ghost use Rattle.hq_certcheck.specs.Seen.{HasSeen};
 ghost use Rattle.hq_model.specs.Certificate as model;
-ghost use Rattle.hq_parts.specs.Parts.{AreParts};
 
+use crate::flags::PACKET_WORDS;
 use crate::missing::first_unflagged_after;
+use crate::possible::Possible;
 use crate::seen::SeenPairs;
 use hq_job::Job;
-use hq_parts::Parts;
 use rayon::prelude::*;
 use std::alloc::{AllocError, Global};
 use std::thread::Threads;
@@ -20,24 +20,28 @@ use std::thread::Threads;
 const LEAST_ROWS: usize = 128;
 
 /// Whether a conflict of p with a packet after it lacks flags.
-fn lacks_some(job: &Job, parts: &Parts, cells: &[u8], p: usize) -> bool
-    requires parts { AreParts (plan job.now) parts.now }
-    requires len { length cells.now ≡ length job.now.packets * length job.now.packets }
+fn lacks_some(job: &Job, possible: &Possible, flags: &[u64], p: usize) -> bool
+    requires possible { IsPossible (plan job.now) possible.now }
+    requires len { length flags.now ≡ length job.now.packets * PACKET_WORDS }
     requires p_is { p < length job.now.packets }
-    ensures { (result ≡ false → AllFlagged (plan job.now) cells.now (length job.now.packets) p (length job.now.packets))
-        × (IsTrue result → ¬ AllFlagged (plan job.now) cells.now (length job.now.packets) p (length job.now.packets)) }
+    ensures { (result ≡ false → RowFlagged (plan job.now) flags.now p)
+        × (IsTrue result → ¬ RowFlagged (plan job.now) flags.now p) }
 {
-    first_unflagged_after(job, parts, cells, p).is_some()
+    first_unflagged_after(job, possible, flags, p).is_some()
 }
 
 /// The least packet that has conflicts with packets after it that lack flags.
-fn first_row(rt: &(impl Threads + Sync), job: &Job, parts: &Parts, cells: &[u8]) -> Option<usize>
-    requires parts { AreParts (plan job.now) parts.now }
-    requires len { length cells.now ≡ length job.now.packets * length job.now.packets }
+fn first_row(
+    rt: &(impl Threads + Sync),
+    job: &Job,
+    possible: &Possible,
+    flags: &[u64],
+) -> Option<usize>
+    requires possible { IsPossible (plan job.now) possible.now }
+    requires len { length flags.now ≡ length job.now.packets * PACKET_WORDS }
     ensures { MatchOption result
-        ((p : ℕ) → p < length job.now.packets
-        → AllFlagged (plan job.now) cells.now (length job.now.packets) p (length job.now.packets))
-        (FirstUnflaggedRow (plan job.now) cells.now (length job.now.packets)) }
+        ((p : ℕ) → p < length job.now.packets → RowFlagged (plan job.now) flags.now p)
+        (FirstUnflaggedRow (plan job.now) flags.now) }
 {
     let rows = (0..job.packets().len())
         .into_par_iter()
@@ -45,15 +49,11 @@ fn first_row(rt: &(impl Threads + Sync), job: &Job, parts: &Parts, cells: &[u8])
     rows.position_first(
         rt,
         |p: usize| -> bool
-            requires { AreParts (plan job.now) parts.now
-                × (length cells.now ≡ length job.now.packets * length job.now.packets) × (p < length job.now.packets) }
-            ensures { (result ≡ false
-                → AllFlagged (plan job.entry.now) cells.entry.now (length job.entry.now.packets) p
-                (length job.entry.now.packets))
-                × (IsTrue result
-                → ¬ AllFlagged (plan job.entry.now) cells.entry.now (length job.entry.now.packets) p
-                (length job.entry.now.packets)) }
-        { lacks_some(job, parts, cells, p) },
+            requires { IsPossible (plan job.now) possible.now
+                × (length flags.now ≡ length job.now.packets * PACKET_WORDS) × (p < length job.now.packets) }
+            ensures { (result ≡ false → RowFlagged (plan job.entry.now) flags.entry.now p)
+                × (IsTrue result → ¬ RowFlagged (plan job.entry.now) flags.entry.now p) }
+        { lacks_some(job, possible, flags, p) },
     )
 }
 
@@ -61,19 +61,18 @@ fn first_row(rt: &(impl Threads + Sync), job: &Job, parts: &Parts, cells: &[u8])
 fn first_unflagged(
     rt: &(impl Threads + Sync),
     job: &Job,
-    parts: &Parts,
-    cells: &[u8],
+    possible: &Possible,
+    flags: &[u64],
 ) -> Option<(u16, u16)>
-    requires parts { AreParts (plan job.now) parts.now }
-    requires len { length cells.now ≡ length job.now.packets * length job.now.packets }
+    requires possible { IsPossible (plan job.now) possible.now }
+    requires len { length flags.now ≡ length job.now.packets * PACKET_WORDS }
     ensures { MatchOption result
-        ((p : ℕ) → p < length job.now.packets
-        → AllFlagged (plan job.now) cells.now (length job.now.packets) p (length job.now.packets))
-        (λ found. FirstUnflagged (plan job.now) cells.now (length job.now.packets) found.0 found.1) }
+        ((p : ℕ) → p < length job.now.packets → RowFlagged (plan job.now) flags.now p)
+        (λ found. FirstUnflagged (plan job.now) flags.now found.0 found.1) }
 {
     job.valid();
-    match first_row(rt, job, parts, cells) {
-        Some(p) => match first_unflagged_after(job, parts, cells, p) {
+    match first_row(rt, job, possible, flags) {
+        Some(p) => match first_unflagged_after(job, possible, flags, p) {
             Some(r) => Some((p as u16, r as u16)),
             None => None,
         },
@@ -81,19 +80,19 @@ fn first_unflagged(
     }
 }
 
-/// The first packets in number order whose conflicts lack pair lines, by the table.
+/// The first packets in number order whose conflicts lack pair lines, by the flags.
 fn missing_by(
     rt: &(impl Threads + Sync),
     job: &Job,
-    parts: &Parts,
-    cells: &[u8],
+    possible: &Possible,
+    flags: &[u64],
 ) -> Option<(u16, u16)>
-    requires parts { AreParts (plan job.now) parts.now }
-    requires len { length cells.now ≡ length job.now.packets * length job.now.packets }
-    ensures { (c : model.Certificate) → AreListed c.pairs (length c.pairs) (length job.now.packets) cells.now
+    requires possible { IsPossible (plan job.now) possible.now }
+    requires len { length flags.now ≡ length job.now.packets * PACKET_WORDS }
+    ensures { (c : model.Certificate) → AreListed c.pairs (length c.pairs) (length job.now.packets) flags.now
         → MatchOption result (NoneMissing (plan job.now) c) (λ pair. FirstMissing (plan job.now) c pair.0 pair.1) }
 {
-    first_unflagged(rt, job, parts, cells)
+    first_unflagged(rt, job, possible, flags)
 }
 
 /// The first packets in number order whose conflicts lack pair lines, in both directions, among those that were seen.
@@ -109,6 +108,6 @@ pub fn first_missing(
         → MatchOption found (NoneMissing (plan job.now) c) (λ pair. FirstMissing (plan job.now) c pair.0 pair.1)) }
 {
     job.valid();
-    let parts = Parts::build(alloc, job)?;
-    Ok(missing_by(rt, job, &parts, seen.cells()))
+    let possible = Possible::of(alloc, job)?;
+    Ok(missing_by(rt, job, &possible, seen.flags()))
 }

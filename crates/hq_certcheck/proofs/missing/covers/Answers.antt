@@ -1,7 +1,7 @@
 use Rattle.std.proofs.Common.{◌≡◌, false, IsTrue}
 use Rattle.hq_model.specs.Fence.Conflict.{WriteRead, WriteWrite, ReadWrite}
 use Rattle.hq_certcheck.specs.Covering.{has_kind}
-use Rattle.hq_certcheck.proofs.Flags.{by_kinds}
+use Rattle.hq_certcheck.proofs.Flagged.{by_kinds}
 use Rattle.hq_certcheck.proofs.missing.covers.Goals as goal
 
 pub returns-then-not-keeps-clause-all : goal.returns-then-not-keeps-clause-all

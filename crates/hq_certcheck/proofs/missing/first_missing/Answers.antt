@@ -1,11 +1,11 @@
-use Rattle.std.proofs.Common.{◌≡◌, ◌*◌, ℕ, List, length, sym, subst, ap, ◌∙◌}
+use Rattle.std.proofs.Common.{◌*◌, ℕ, List, length, sym, subst, ap, ◌∙◌}
 use Rattle.hq_certcheck.specs.Covering.{AreListed}
 use Rattle.hq_certcheck.proofs.missing.first_missing.Goals as goal
 
 pub missing_by-requires-clause-len : goal.missing_by-requires-clause-len
-missing_by-requires-clause-len c = c.cells.ensures.len ∙ ap (λ n. n * n) c.requires.count
+missing_by-requires-clause-len c = c.flags.ensures.len ∙ ap (λ n. n * 48) c.requires.count
 
 pub returns : goal.returns
 returns c cert h =
-    c.missing_by.ensures cert (subst (λ n. AreListed cert.pairs (length cert.pairs) n c.cells.result.now) c.requires.count
-    (subst (λ (cells : List ℕ). AreListed cert.pairs (length cert.pairs) c.args.seen.now.count cells) (sym c.cells.ensures.cells) h.listed))
+    c.missing_by.ensures cert (subst (λ n. AreListed cert.pairs (length cert.pairs) n c.flags.result.now) c.requires.count
+    (subst (λ (flags : List ℕ). AreListed cert.pairs (length cert.pairs) c.args.seen.now.count flags) (sym c.flags.ensures.flags) h.listed))

@@ -1,19 +1,19 @@
 use Rattle.std.proofs.Common.{ℕ, ◌<◌, length, sym, refl, subst, MatchOption}
 use Rattle.hq_job.specs.Plan.{plan}
-use Rattle.hq_certcheck.specs.Covering.{AreListed, AllFlagged, FirstUnflagged, NoneMissing, FirstMissing}
+use Rattle.hq_certcheck.specs.Covering.{AreListed, RowFlagged, FirstUnflagged, NoneMissing, FirstMissing}
 use Rattle.hq_ordercheck.proofs.Packets.{packets_count}
-use Rattle.hq_certcheck.proofs.Flags.{match_change, none_missing, first_missing}
+use Rattle.hq_certcheck.proofs.Flagged.{match_change, none_missing, first_missing}
 use Rattle.hq_certcheck.proofs.missing.missing_by.Goals as goal
 
 pub returns : goal.returns
 returns c cert given =
     let job = plan c.args.job.now in
-    let cells = c.args.cells.now in
+    let flags = c.args.flags.now in
     let n = sym (packets_count c.args.job.now) in
-    let listed : AreListed cert.pairs (length cert.pairs) (length job.packets) cells = subst (λ k. AreListed cert.pairs (length cert.pairs) k cells) n given in
-    let found = subst (λ k. MatchOption c.first_unflagged.result ((p : ℕ) → p < k → AllFlagged job cells k p k) (λ f. FirstUnflagged job cells k f.0 f.1)) n c.first_unflagged.ensures in
-    match_change c.first_unflagged.result ((p : ℕ) → p < length job.packets → AllFlagged job cells (length job.packets) p (length job.packets)) (NoneMissing job cert)
-    (λ f. FirstUnflagged job cells (length job.packets) f.0 f.1) (λ f. FirstMissing job cert f.0 f.1)
-    (none_missing job cert (length cert.pairs) cells refl listed)
-    (λ f h. first_missing job cert (length cert.pairs) cells refl listed f.0 f.1 h)
+    let listed : AreListed cert.pairs (length cert.pairs) (length job.packets) flags = subst (λ k. AreListed cert.pairs (length cert.pairs) k flags) n given in
+    let found = subst (λ k. MatchOption c.first_unflagged.result ((p : ℕ) → p < k → RowFlagged job flags p) (λ f. FirstUnflagged job flags f.0 f.1)) n c.first_unflagged.ensures in
+    match_change c.first_unflagged.result ((p : ℕ) → p < length job.packets → RowFlagged job flags p) (NoneMissing job cert)
+    (λ f. FirstUnflagged job flags f.0 f.1) (λ f. FirstMissing job cert f.0 f.1)
+    (none_missing job cert (length cert.pairs) flags refl listed)
+    (λ f h. first_missing job cert (length cert.pairs) flags refl listed f.0 f.1 h)
     found

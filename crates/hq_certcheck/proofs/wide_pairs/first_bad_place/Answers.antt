@@ -8,7 +8,7 @@ use Rattle.hq_cert.specs.View.{line_of, pair_of}
 use Rattle.hq_job.specs.Plan.{plan}
 use Rattle.hq_certcheck.specs.Listed.{PairFollowsAt, FirstBadPlace}
 use Rattle.hq_certcheck.proofs.Saying.{meant_within}
-use Rattle.hq_certcheck.proofs.Flags.{match_change}
+use Rattle.hq_certcheck.proofs.Flagged.{match_change}
 use Rattle.hq_certcheck.proofs.Leasts.{Tells, IsLeastOf, least_told}
 use Rattle.hq_certcheck.proofs.wide_pairs.first_bad_place.Goals as goal
 

@@ -2,10 +2,10 @@ use Rattle.std.proofs.Common.{◌≡◌, ◌+◌, ◌*◌, ◌++◌, List, map, 
 use Rattle.hq_cert.specs.View.{pair_of}
 use Rattle.hq_model.specs.Certificate as model
 use Rattle.hq_certcheck.specs.Covering.{AreListed}
-use Rattle.hq_certcheck.proofs.missing.mark_all.Given as goal
+use Rattle.hq_certcheck.proofs.flags.mark_all.Given as goal
 
 abbrev pub invariant-loop-pair : goal.invariant-loop-pair
 invariant-loop-pair l = record {
-  len : length l.cells ≡ l.count * l.count;
-  marked : (before : List model.Pair) → AreListed before (length before) l.count l.fn.cells → AreListed (before ++ map pair_of l.pairs) (length before + l.pair-index) l.count l.cells;
+  len : length l.flags ≡ l.count * 48;
+  marked : (before : List model.Pair) → AreListed before (length before) l.count l.fn.flags → AreListed (before ++ map pair_of l.pairs) (length before + l.pair-index) l.count l.flags;
 }
