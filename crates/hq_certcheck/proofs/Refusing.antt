@@ -6,8 +6,8 @@ use Rattle.std.proofs.Common.{subst}
 use Rattle.hq_certcheck.specs.declared.fault.CheckNo.{CheckNo}
 use Rattle.hq_certcheck.specs.declared.fault.CheckNo.TheVariants.{BadOrder, BadLine, PairMissing, BadPair, Memory}
 use Rattle.hq_model.specs.Job.{Job}
-use Rattle.hq_model.specs.Certificate.{Certificate, Line, LineHolds, PairHolds, CertHolds}
-use Rattle.hq_certcheck.specs.Listed.{LineFollows, FirstBadLine}
+use Rattle.hq_model.specs.Certificate.{Certificate, Line, Pair, LineHolds, PairHolds, CertHolds}
+use Rattle.hq_certcheck.specs.Listed.{LineFollows, FirstBadLine, BadLineIs, BadPairIs}
 use Rattle.hq_certcheck.specs.Refusals.{IsBadLine, IsRefused}
 use Rattle.hq_certcheck.specs.Seen.{IsChecked}
 use Rattle.hq_certcheck.specs.View.{AcceptedJob}
@@ -40,3 +40,11 @@ accepted_is v c a holds ordered extends headline job order = record { accepted =
 
 pub refused_is : (v j : JobValue) (c : Certificate) (no_of : CheckNo) → j ≡ v → IsRefused (plan v) c no_of → IsChecked v c (Err (no_of, j))
 refused_is v j c no_of job why = record { accepted = tt; ordered = tt; extends = tt; headline = tt; refused = (job, why); only = λ h. only_memory (plan v) c no_of h why }
+
+-- ---- what was found of lists, said of the same lists by other names
+
+pub line_as : (job : Job) (lines same : List Line) (found : Option ℕ) → lines ≡ same → BadLineIs job lines found → BadLineIs job same found
+line_as job lines same found e h = subst (λ (ls : List Line). BadLineIs job ls found) e h
+
+pub pair_as : (job : Job) (lines same : List Line) (pairs others : List Pair) (found : Option (ℕ × ℕ)) → lines ≡ same → pairs ≡ others → BadPairIs job lines pairs found → BadPairIs job same others found
+pair_as job lines same pairs others found e k h = subst (λ (ls : List Line). BadPairIs job ls others found) e (subst (λ (ps : List Pair). BadPairIs job lines ps found) k h)

@@ -1,5 +1,5 @@
 -- Which conflicts have pair lines.
-use Rattle.std.specs.Prelude.{◌≡◌, ℕ, ◌+◌, ◌*◌, ◌<◌, ◌⊎◌, ◌↔◌, IsTrue, Bool, false, List, [], length, Some}
+use Rattle.std.specs.Prelude.{◌≡◌, ℕ, ◌+◌, ◌*◌, ◌<◌, ◌⊎◌, ◌↔◌, IsTrue, Bool, false, List, [], length, Option, Some, MatchOption}
 use Rattle.std.specs.Prelude.{slice_get}
 use Rattle.hq_bits.specs.Bits.{has}
 use Rattle.hq_bits.specs.declared.TheConstants.{WIDTH}
@@ -30,6 +30,10 @@ pub record FirstMissing (job : Job) (c : Certificate) (p r : ℕ) : Type 0 where
   pub is_packet : IsPacket job r
   pub missing : ¬ Covered job c p r
   pub first : (q s : ℕ) → q < s → IsPacket job s → ComesSooner q s p r → Covered job c q s
+
+-- The first packets that aren't covered are these, or all are.
+abbrev pub MissingIs : Job → Certificate → Option (ℕ × ℕ) → Type 0
+MissingIs job c found = MatchOption found (NoneMissing job c) (λ pair. FirstMissing job c pair.0 pair.1)
 
 -- ---- by a table of bits: for each packet a row for each kind of conflict
 

@@ -1,5 +1,5 @@
 -- Lines and pair lines that follow from a list of lines, and the first that don't.
-use Rattle.std.specs.Prelude.{◌≡◌, ℕ, ◌<◌, List, length, Option, Some, slice_get}
+use Rattle.std.specs.Prelude.{◌≡◌, ℕ, ◌<◌, List, length, Option, Some, slice_get, MatchOption, All}
 use Rattle.hq_packet.specs.declared.packet.Scope.TheVariants as scope
 use Rattle.hq_model.specs.Job.{Job, IsPacket, Decrements}
 use Rattle.hq_model.specs.Fence.{need}
@@ -18,6 +18,10 @@ pub record FirstBadLine (job : Job) (lines : List Line) (k : ℕ) : Type 0 where
   pub there : k < length lines
   pub bad : ¬ LineFollows job lines k
   pub first : (j : ℕ) → j < k → LineFollows job lines j
+
+-- The least line that doesn't hold is this one, or all hold.
+abbrev pub BadLineIs : Job → List Line → Option ℕ → Type 0
+BadLineIs job lines found = MatchOption found ((k : ℕ) → LineFollows job lines k) (FirstBadLine job lines)
 
 -- A fence between p and r needs to reach the whole system.
 abbrev pub NeedsSystem : Job → ℕ → ℕ → Type 0
@@ -46,3 +50,8 @@ pub record FirstBadPair (job : Job) (lines : List Line) (pairs : List Pair) (p r
   pub second_is : pair.r ≡ r
   pub bad : ¬ PairFollows job lines pair
   pub first : (j : ℕ) (other : Pair) → j < k → slice_get pairs j ≡ Some other → PairFollows job lines other
+
+-- The first pair line that doesn't hold names these packets, or all hold.
+abbrev pub BadPairIs : Job → List Line → List Pair → Option (ℕ × ℕ) → Type 0
+BadPairIs job lines pairs found = MatchOption found (All (PairFollows job lines) pairs)
+    (λ pair. FirstBadPair job lines pairs pair.0 pair.1)

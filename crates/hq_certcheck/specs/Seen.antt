@@ -1,5 +1,5 @@
 -- What is known of the pair lines of a certificate that were seen, and what a check of it answers.
-use Rattle.std.specs.Prelude.{◌≡◌, ℕ, ◌≤◌, ◌*◌, List, length, Option, Result, IfOk, IfErr, MatchOption, All}
+use Rattle.std.specs.Prelude.{◌≡◌, ℕ, ◌≤◌, ◌*◌, List, length, Option, Result, IfOk, IfErr}
 use Rattle.hq_job.specs.Plan.{plan}
 use Rattle.hq_job.specs.Value.{JobValue}
 use Rattle.hq_model.specs.declared.limits.TheConstants.{PACKETS}
@@ -9,7 +9,7 @@ use Rattle.hq_model.specs.Fence.{Ordered}
 use Rattle.hq_model.specs.Order.{Extends}
 use Rattle.hq_model.specs.Theorems.{Headline}
 use Rattle.hq_certcheck.specs.Covering.{AreListed}
-use Rattle.hq_certcheck.specs.Listed.{PairFollows, FirstBadPair}
+use Rattle.hq_certcheck.specs.Listed.{BadPairIs}
 use Rattle.hq_certcheck.specs.Refusals.{IsRefused}
 use Rattle.hq_certcheck.specs.View.{AcceptedJob}
 use Rattle.hq_certcheck.specs.declared.flags.TheConstants.{PACKET_WORDS}
@@ -37,7 +37,7 @@ pub record IsTable (s : Inside) : Type 0 where
 pub record HasSeen (job : Job) (lines : List Line) (pairs : List Pair) (s : Seen) : Type 0 where
   pub count : s.count ≡ length job.packets
   pub listed : AreListed pairs (length pairs) s.count s.flags
-  pub bad : MatchOption s.bad (All (PairFollows job lines) pairs) (λ pair. FirstBadPair job lines pairs pair.0 pair.1)
+  pub bad : BadPairIs job lines pairs s.bad
 
 -- the certificate with these pair lines in the place of its own
 abbrev pub with_pairs : Certificate → List Pair → Certificate

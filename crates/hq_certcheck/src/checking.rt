@@ -1,17 +1,21 @@
 //! Checks whole certificates.
 
-ghost use Rattle.std.specs.Prelude.{◌≡◌, ℕ, List, length, IfOk, IfErr, OnOk, MatchOption};
+ghost use Rattle.std.specs.Prelude.{◌≡◌, ℕ, List, IfOk, IfErr, OnOk};
 ghost use Rattle.hq_job.specs.Plan.{plan};
+ghost use Rattle.hq_model.specs.Job.{Job as JobOf};
 ghost use Rattle.hq_model.specs.Order.{OrderList};
 ghost use Rattle.hq_model.specs.Certificate as model;
 ghost use Rattle.hq_model.specs.Certificate.{LineHolds, CertHolds};
-ghost use Rattle.hq_certcheck.specs.Refusals.{IsRefused, IsBadLine};
+ghost use Rattle.hq_certcheck.specs.Covering.{MissingIs};
+ghost use Rattle.hq_certcheck.specs.Listed.{BadLineIs, BadPairIs};
+ghost use Rattle.hq_certcheck.specs.Refusals.{IsRefused};
 ghost use Rattle.hq_certcheck.specs.Seen.{HasSeen, IsChecked, with_pairs};
 
 use crate::accepted::Accepted;
 use crate::fault::CheckNo;
 use crate::lines::first_bad_line;
 use crate::missing::first_missing;
+use crate::pairs::first_bad_pair;
 use crate::seen::SeenPairs;
 use hq_cert::Certificate;
 use hq_job::Job;
@@ -19,10 +23,10 @@ use hq_model::certificate::certificates_order;
 use hq_model::order::order_lists_extend;
 use hq_model::runs::headline_law;
 use hq_ordercheck::{is_order_list, numbers};
-use std::alloc::Global;
+use std::alloc::{AllocError, Global};
 
 /// The certificate's order, if it is an order list of the job.
-pub fn order_of(alloc: Global, job: &Job, certificate: &Certificate) -> Result<Vec<u16>, CheckNo>
+fn order_of(alloc: Global, job: &Job, certificate: &Certificate) -> Result<Vec<u16>, CheckNo>
     ensures ok { IfOk result
         (λ order. OrderList (plan job.now) certificate.now.order × (order.items ≡ certificate.now.order)) }
     ensures refused { IfErr result
@@ -37,43 +41,39 @@ pub fn order_of(alloc: Global, job: &Job, certificate: &Certificate) -> Result<V
     Ok(order)
 }
 
-/// The least line of the certificate that doesn't hold, whichever its pair lines are.
-fn bad_line(job: &Job, certificate: &Certificate) -> Option<usize>
-    ensures { (pairs : List model.Pair) → MatchOption result
-        ((k : ℕ) → LineHolds (plan job.now) (with_pairs certificate.now pairs) k)
-        (IsBadLine (plan job.now) (with_pairs certificate.now pairs)) }
-{
-    first_bad_line(job, certificate.lines())
-}
-
-/// Checks the pair lines that were seen of a certificate whose order and lines hold.
-fn check_pairs(alloc: Global, job: &Job, seen: &SeenPairs) -> Result<(), CheckNo>
-    requires count { seen.now.count ≡ length job.now.packets }
+/// The first of the packets that lack pair lines, and then of the pair lines that don't hold, of a certificate whose
+/// order and lines hold.
+fn check_pairs(missing: Option<(u16, u16)>, bad_pair: Option<(u32, u32)>) -> Result<(), CheckNo>
     ensures ok { OnOk result
-        ((c : model.Certificate) → HasSeen (plan job.now) c.lines c.pairs seen.now → OrderList (plan job.now) c.order
-        → ((k : ℕ) → LineHolds (plan job.now) c k) → CertHolds (plan job.now) c) }
+        ((job : JobOf) (c : model.Certificate) → MissingIs job c missing → BadPairIs job c.lines c.pairs bad_pair
+        → OrderList job c.order → ((k : ℕ) → LineHolds job c k) → CertHolds job c) }
     ensures refused { IfErr result
-        (λ no. (c : model.Certificate) → HasSeen (plan job.now) c.lines c.pairs seen.now
-        → OrderList (plan job.now) c.order → ((k : ℕ) → LineHolds (plan job.now) c k)
-        → IsRefused (plan job.now) c no) }
+        (λ no. (job : JobOf) (c : model.Certificate) → MissingIs job c missing → BadPairIs job c.lines c.pairs bad_pair
+        → OrderList job c.order → ((k : ℕ) → LineHolds job c k) → IsRefused job c no) }
 {
-    if let Some((p, r)) = first_missing(alloc, job, seen)? {
+    if let Some((p, r)) = missing {
         return Err(CheckNo::PairMissing(p, r));
     }
-    if let Some((p, r)) = seen.bad() {
+    if let Some((p, r)) = bad_pair {
         return Err(CheckNo::BadPair(p, r));
     }
     Ok(())
 }
 
-/// The certificate's order, if the certificate holds with the pair lines that were seen.
+/// The certificate's order, if the certificate holds with the pair lines that were seen: its least line that doesn't
+/// hold is this, and the first packets that lack pair lines are these.
 fn examine(
     alloc: Global,
     job: &Job,
     certificate: &Certificate,
     seen: &SeenPairs,
+    bad_line: Option<usize>,
+    missing: Result<Option<(u16, u16)>, AllocError>,
 ) -> Result<Vec<u16>, CheckNo>
-    requires count { seen.now.count ≡ length job.now.packets }
+    requires line { BadLineIs (plan job.now) certificate.now.lines bad_line }
+    requires missing { IfOk missing
+        (λ found. (c : model.Certificate) → HasSeen (plan job.now) c.lines c.pairs seen.now
+        → MissingIs (plan job.now) c found) }
     ensures ok { IfOk result
         (λ order. (pairs : List model.Pair) → HasSeen (plan job.now) certificate.now.lines pairs seen.now
         → CertHolds (plan job.now) (with_pairs certificate.now pairs) × (order.items ≡ certificate.now.order)) }
@@ -82,27 +82,28 @@ fn examine(
         → IsRefused (plan job.now) (with_pairs certificate.now pairs) no) }
 {
     let order = order_of(alloc, job, certificate)?;
-    if let Some(k) = bad_line(job, certificate) {
+    if let Some(k) = bad_line {
         return Err(CheckNo::BadLine(k));
     }
-    check_pairs(alloc, job, seen)?;
+    check_pairs(missing?, seen.bad())?;
     Ok(order)
 }
 
-/// What was examined, with the job.
+/// What a check answers of the certificate with the pair lines that were seen, where its least line that doesn't hold
+/// is this, and the first packets that lack pair lines are these.
 pub fn conclude(
+    alloc: Global,
     job: Job,
     certificate: &Certificate,
     seen: &SeenPairs,
-    examined: Result<Vec<u16>, CheckNo>,
+    bad_line: Option<usize>,
+    missing: Result<Option<(u16, u16)>, AllocError>,
 ) -> Result<Accepted, (CheckNo, Job)>
     requires seen { (pairs : List model.Pair) × HasSeen (plan job) certificate.now.lines pairs seen.now }
-    requires ok { IfOk examined
-        (λ order. (pairs : List model.Pair) → HasSeen (plan job) certificate.now.lines pairs seen.now
-        → CertHolds (plan job) (with_pairs certificate.now pairs) × (order.items ≡ certificate.now.order)) }
-    requires refused { IfErr examined
-        (λ no. (pairs : List model.Pair) → HasSeen (plan job) certificate.now.lines pairs seen.now
-        → IsRefused (plan job) (with_pairs certificate.now pairs) no) }
+    requires line { BadLineIs (plan job) certificate.now.lines bad_line }
+    requires missing { IfOk missing
+        (λ found. (c : model.Certificate) → HasSeen (plan job) c.lines c.pairs seen.now
+        → MissingIs (plan job) c found) }
     ensures { (pairs : List model.Pair) → HasSeen (plan job) certificate.now.lines pairs seen.now
         → IsChecked job (with_pairs certificate.now pairs) result }
 {
@@ -110,7 +111,7 @@ pub fn conclude(
     certificates_order();
     order_lists_extend();
     headline_law();
-    match examined {
+    match examine(alloc, &job, certificate, seen, bad_line, missing) {
         Ok(order) => Ok(Accepted::of(job, order)),
         Err(no) => Err((no, job)),
     }
@@ -131,8 +132,9 @@ pub fn check_seen(
     ensures { (pairs : List model.Pair) → HasSeen (plan job) certificate.now.lines pairs seen.now
         → IsChecked job (with_pairs certificate.now pairs) result }
 {
-    let examined = examine(alloc, &job, certificate, seen);
-    conclude(job, certificate, seen, examined)
+    let bad_line = first_bad_line(&job, certificate.lines());
+    let missing = first_missing(alloc, &job, seen);
+    conclude(alloc, job, certificate, seen, bad_line, missing)
 }
 
 /// Accepts the job where the certificate holds. Then every run of the machine, however launches, reads, stores,
@@ -147,7 +149,8 @@ pub fn check_seen(
 pub fn check(alloc: Global, job: Job, certificate: &Certificate) -> Result<Accepted, (CheckNo, Job)>
     ensures { IsChecked job certificate.now result }
 {
-    match SeenPairs::of(alloc, &job, certificate) {
+    let bad_pair = first_bad_pair(&job, certificate.lines(), certificate.pairs());
+    match SeenPairs::of(alloc, &job, certificate, bad_pair) {
         Ok(seen) => check_seen(alloc, job, certificate, &seen),
         Err(_) => Err((CheckNo::Memory, job)),
     }

@@ -8,7 +8,7 @@ ghost use Rattle.hq_model.specs.Certificate as certificate;
 ghost use Rattle.hq_model.specs.Certificate.{Follows, signals};
 ghost use Rattle.hq_model.specs.Certificate.Rule.{Or as OrRule};
 ghost use Rattle.hq_model.specs.Order.{ByAnd, ByBit, ByQueue};
-ghost use Rattle.hq_certcheck.specs.Listed.{HoldsFor, LineFollows, FirstBadLine};
+ghost use Rattle.hq_certcheck.specs.Listed.{HoldsFor, LineFollows, BadLineIs};
 
 use crate::citing::{follower, says};
 use hq_cert::{Citation, Line, Rule};
@@ -134,8 +134,7 @@ pub fn line_holds(job: &Job, lines: &[Line], k: usize) -> bool
 
 /// The least line that doesn't hold.
 pub fn first_bad_line(job: &Job, lines: &[Line]) -> Option<usize>
-    ensures { MatchOption result ((k : ℕ) → LineFollows (plan job.now) (map line_of lines.now) k)
-        (FirstBadLine (plan job.now) (map line_of lines.now)) }
+    ensures { BadLineIs (plan job.now) (map line_of lines.now) result }
 {
     for k in 0..lines.len() {
         if !line_holds(job, lines, k) {

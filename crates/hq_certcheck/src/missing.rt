@@ -5,9 +5,9 @@ ghost use Rattle.hq_job.specs.Plan.{plan};
 ghost use Rattle.hq_bits.specs.Bits.{has};
 ghost use Rattle.hq_model.specs.Fence.{Conflict, Conflicts};
 ghost use Rattle.hq_model.specs.Certificate as model;
-ghost use Rattle.hq_certcheck.specs.Covering.{FirstMissing, has_kind, AreListed, IsPossible};
+ghost use Rattle.hq_certcheck.specs.Covering.{MissingIs, has_kind, AreListed, IsPossible};
 ghost use Rattle.hq_certcheck.specs.Covering.{AreFlagged, IsFlagged, RowFlagged};
-ghost use Rattle.hq_certcheck.specs.Covering.{FirstUnflaggedAfter, FirstUnflagged, NoneMissing};
+ghost use Rattle.hq_certcheck.specs.Covering.{FirstUnflaggedAfter, FirstUnflagged};
 ghost use Rattle.hq_certcheck.specs.Seen.{HasSeen};
 
 use crate::flags::{PACKET_WORDS, flags_of};
@@ -123,7 +123,7 @@ fn missing_by(job: &Job, possible: &Possible, flags: &[u64]) -> Option<(u16, u16
     requires possible { IsPossible (plan job.now) possible.now }
     requires len { length flags.now ≡ length job.now.packets * PACKET_WORDS }
     ensures { (c : model.Certificate) → AreListed c.pairs (length c.pairs) (length job.now.packets) flags.now
-        → MatchOption result (NoneMissing (plan job.now) c) (λ pair. FirstMissing (plan job.now) c pair.0 pair.1) }
+        → MissingIs (plan job.now) c result }
 {
     first_unflagged(job, possible, flags)
 }
@@ -137,7 +137,7 @@ pub fn first_missing(
     requires count { seen.now.count ≡ length job.now.packets }
     ensures { IfOk result
         (λ found. (c : model.Certificate) → HasSeen (plan job.now) c.lines c.pairs seen.now
-        → MatchOption found (NoneMissing (plan job.now) c) (λ pair. FirstMissing (plan job.now) c pair.0 pair.1)) }
+        → MissingIs (plan job.now) c found) }
 {
     job.valid();
     let possible = Possible::of(alloc, job)?;

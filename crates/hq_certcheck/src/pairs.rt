@@ -8,7 +8,7 @@ ghost use Rattle.hq_model.specs.Fence.{FenceReaches, Forwards};
 ghost use Rattle.hq_model.specs.Certificate.{ReleaseHolds, AcquireHolds, FencesHold};
 ghost use Rattle.hq_model.specs.Certificate.Fences.{ForWriteWrite, ForWriteRead, ForWriteWriteChained};
 ghost use Rattle.hq_model.specs.Certificate.Fences.{ForWriteReadChained};
-ghost use Rattle.hq_certcheck.specs.Listed.{PairFollows, PairFollowsAt, FirstBadPair, NeedsSystem};
+ghost use Rattle.hq_certcheck.specs.Listed.{PairFollows, PairFollowsAt, BadPairIs, NeedsSystem};
 
 use crate::citing::{cites, says};
 use hq_cert::{Citation, Fences, Line, Pair, ReadChain, WriteChain};
@@ -271,8 +271,7 @@ pub fn pair_line_holds(job: &Job, lines: &[Line], pairs: &[Pair], k: usize) -> b
 
 /// The packets of the first pair line that doesn't hold.
 pub fn first_bad_pair(job: &Job, lines: &[Line], pairs: &[Pair]) -> Option<(u32, u32)>
-    ensures { MatchOption result (All (PairFollows (plan job.now) (map line_of lines.now)) (map pair_of pairs.now))
-        (λ bad. FirstBadPair (plan job.now) (map line_of lines.now) (map pair_of pairs.now) bad.0 bad.1) }
+    ensures { BadPairIs (plan job.now) (map line_of lines.now) (map pair_of pairs.now) result }
 {
     for pair in pairs {
         if !pair_holds(job, lines, pair) {

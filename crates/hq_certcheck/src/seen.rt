@@ -1,22 +1,20 @@
 //! Pair lines of a certificate, one block behind another.
 
-ghost use Rattle.std.specs.Prelude.{◌≡◌, ◌<◌, [], ◌++◌, ◌*◌, List, IfOk, map, length, MatchOption, All};
+ghost use Rattle.std.specs.Prelude.{◌≡◌, ◌<◌, [], ◌++◌, ◌*◌, List, IfOk, map, length};
 ghost use Rattle.hq_cert.specs.View.{line_of, pair_of};
 ghost use Rattle.hq_job.specs.Plan.{plan};
 ghost use Rattle.hq_model.specs.Job.{Job as JobOf};
 ghost use Rattle.hq_model.specs.Certificate as model;
-ghost use Rattle.hq_certcheck.specs.Listed.{PairFollows, FirstBadPair};
+ghost use Rattle.hq_certcheck.specs.Listed.{BadPairIs};
 ghost use Rattle.hq_certcheck.specs.Seen.{HasSeen};
 
 use crate::flags::{PACKET_WORDS, mark_all};
 use crate::pairs::first_bad_pair;
-use crate::wide_pairs;
 use hq_bits::empty;
 use hq_cert::{Certificate, Line, Pair};
 use hq_job::Job;
 use std::alloc::{AllocError, Global};
 use std::marker::Model;
-use std::thread::Threads;
 
 /// What is known of the pair lines of a certificate, which come block by block and needn't be kept: which kinds of
 /// conflict of which packets have some, and the packets of the first that doesn't hold.
@@ -58,9 +56,7 @@ impl SeenPairs {
     /// Takes in pair lines, of which this is the first that doesn't hold.
     pub fn put(&mut self, pairs: &[Pair], bad: Option<(u32, u32)>)
         ensures { (job : JobOf) (lines : List model.Line) (before : List model.Pair) → HasSeen job lines before self.old
-            → MatchOption bad (All (PairFollows job lines) (map pair_of pairs.now))
-            (λ pair. FirstBadPair job lines (map pair_of pairs.now) pair.0 pair.1)
-            → HasSeen job lines (before ++ map pair_of pairs.now) self.new }
+            → BadPairIs job lines (map pair_of pairs.now) bad → HasSeen job lines (before ++ map pair_of pairs.now) self.new }
     {
         mark_all(&mut self.flags, self.count, pairs);
         self.bad = self.bad.or(bad);
@@ -75,45 +71,18 @@ impl SeenPairs {
         self.put(pairs, bad);
     }
 
-    /// The same, by as many threads as there are processors.
-    fn take_in_wide(
-        &mut self,
-        rt: &(impl Threads + Sync),
-        job: &Job,
-        lines: &[Line],
-        pairs: &[Pair],
-    )
-        ensures { (before : List model.Pair) → HasSeen (plan job.now) (map line_of lines.now) before self.old
-            → HasSeen (plan job.now) (map line_of lines.now) (before ++ map pair_of pairs.now) self.new }
-    {
-        let bad = wide_pairs::first_bad_pair(rt, job, lines, pairs);
-        self.put(pairs, bad);
-    }
-
-    /// All pair lines of a certificate.
+    /// All pair lines of a certificate, of which this is the first that doesn't hold.
     pub(crate) fn of(
         alloc: Global,
         job: &Job,
         certificate: &Certificate,
+        bad: Option<(u32, u32)>,
     ) -> Result<SeenPairs, AllocError>
+        requires { BadPairIs (plan job.now) certificate.now.lines certificate.now.pairs bad }
         ensures { IfOk result (HasSeen (plan job.now) certificate.now.lines certificate.now.pairs) }
     {
         let mut seen = SeenPairs::new(alloc, job)?;
-        seen.take_in(job, certificate.lines(), certificate.pairs());
-        Ok(seen)
-    }
-
-    /// The same, by as many threads as there are processors.
-    pub(crate) fn of_wide(
-        rt: &(impl Threads + Sync),
-        alloc: Global,
-        job: &Job,
-        certificate: &Certificate,
-    ) -> Result<SeenPairs, AllocError>
-        ensures { IfOk result (HasSeen (plan job.now) certificate.now.lines certificate.now.pairs) }
-    {
-        let mut seen = SeenPairs::new(alloc, job)?;
-        seen.take_in_wide(rt, job, certificate.lines(), certificate.pairs());
+        seen.put(certificate.pairs(), bad);
         Ok(seen)
     }
 

@@ -2,8 +2,8 @@
 
 ghost use Rattle.std.specs.Prelude.{◌≡◌, ℕ, ◌*◌, ◌<◌, IsTrue, IfOk, MatchOption, false, length};
 ghost use Rattle.hq_job.specs.Plan.{plan};
-ghost use Rattle.hq_certcheck.specs.Covering.{FirstMissing, AreListed, IsPossible, RowFlagged, FirstUnflaggedRow};
-ghost use Rattle.hq_certcheck.specs.Covering.{FirstUnflagged, NoneMissing};
+ghost use Rattle.hq_certcheck.specs.Covering.{MissingIs, AreListed, IsPossible, RowFlagged, FirstUnflaggedRow};
+ghost use Rattle.hq_certcheck.specs.Covering.{FirstUnflagged};
 ghost use Rattle.hq_certcheck.specs.Seen.{HasSeen};
 ghost use Rattle.hq_model.specs.Certificate as model;
 
@@ -90,7 +90,7 @@ fn missing_by(
     requires possible { IsPossible (plan job.now) possible.now }
     requires len { length flags.now ≡ length job.now.packets * PACKET_WORDS }
     ensures { (c : model.Certificate) → AreListed c.pairs (length c.pairs) (length job.now.packets) flags.now
-        → MatchOption result (NoneMissing (plan job.now) c) (λ pair. FirstMissing (plan job.now) c pair.0 pair.1) }
+        → MissingIs (plan job.now) c result }
 {
     first_unflagged(rt, job, possible, flags)
 }
@@ -105,7 +105,7 @@ pub fn first_missing(
     requires count { seen.now.count ≡ length job.now.packets }
     ensures { IfOk result
         (λ found. (c : model.Certificate) → HasSeen (plan job.now) c.lines c.pairs seen.now
-        → MatchOption found (NoneMissing (plan job.now) c) (λ pair. FirstMissing (plan job.now) c pair.0 pair.1)) }
+        → MissingIs (plan job.now) c found) }
 {
     job.valid();
     let possible = Possible::of(alloc, job)?;

@@ -3,7 +3,7 @@
 ghost use Rattle.std.specs.Prelude.{◌≡◌, ℕ, ◌<◌, IsTrue, MatchOption, All, false, map, length};
 ghost use Rattle.hq_cert.specs.View.{line_of, pair_of};
 ghost use Rattle.hq_job.specs.Plan.{plan};
-ghost use Rattle.hq_certcheck.specs.Listed.{PairFollows, PairFollowsAt, FirstBadPlace, FirstBadPair};
+ghost use Rattle.hq_certcheck.specs.Listed.{PairFollows, PairFollowsAt, FirstBadPlace, BadPairIs};
 
 use crate::pairs::pair_line_holds;
 use hq_cert::{Line, Pair};
@@ -54,8 +54,7 @@ pub fn first_bad_pair(
     lines: &[Line],
     pairs: &[Pair],
 ) -> Option<(u32, u32)>
-    ensures { MatchOption result (All (PairFollows (plan job.now) (map line_of lines.now)) (map pair_of pairs.now))
-        (λ bad. FirstBadPair (plan job.now) (map line_of lines.now) (map pair_of pairs.now) bad.0 bad.1) }
+    ensures { BadPairIs (plan job.now) (map line_of lines.now) (map pair_of pairs.now) result }
 {
     match first_bad_place(rt, job, lines, pairs) {
         Some(k) => {

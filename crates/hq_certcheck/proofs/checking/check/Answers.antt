@@ -1,4 +1,9 @@
+use Rattle.hq_job.specs.Plan.{plan}
+use Rattle.hq_certcheck.proofs.Refusing.{pair_as}
 use Rattle.hq_certcheck.proofs.checking.check.Goals as goal
+
+pub of-requires : goal.of-requires
+of-requires c = pair_as (plan c.args.job) _ c.args.certificate.now.lines _ c.args.certificate.now.pairs c.first_bad_pair-bad_pair.result c.lines.ensures c.pairs.ensures c.first_bad_pair-bad_pair.ensures
 
 pub check_seen-requires : goal.check_seen-requires
 check_seen-requires c = record { seen = (c.args.certificate.now.pairs, c.in-Ok.ensures) }

@@ -1,12 +1,13 @@
-use Rattle.std.proofs.Common.{[]}
-use Rattle.std.specs.Prelude.{map}
-use Rattle.hq_cert.specs.View.{line_of, pair_of}
+use Rattle.std.proofs.Common.{[], List, sym, subst}
 use Rattle.hq_job.specs.Plan.{plan}
-use Rattle.hq_certcheck.proofs.Seeing.{seen_as}
+use Rattle.hq_model.specs.Certificate.{Pair}
+use Rattle.hq_certcheck.specs.Listed.{BadPairIs}
+use Rattle.hq_certcheck.specs.Seen.{HasSeen}
 use Rattle.hq_certcheck.proofs.seen.SeenPairs.of.Goals as goal
 
 pub returns : goal.returns
 returns c =
+    let job = plan c.args.job.now in
     let cert = c.args.certificate.now in
-    let lines = map line_of c.lines.result.now in
-    seen_as (plan c.args.job.now) _ lines cert.lines (map pair_of c.pairs.result.now) cert.pairs c.lines.ensures c.pairs.ensures (c.take_in.ensures [] (c.in_ok-seen.ensures lines))
+    subst (λ (pairs : List Pair). HasSeen job cert.lines pairs c.put.new.self) c.pairs.ensures
+    (c.put.ensures job cert.lines [] (c.in_ok-seen.ensures cert.lines) (subst (λ (pairs : List Pair). BadPairIs job cert.lines pairs c.args.bad) (sym c.pairs.ensures) c.requires))
