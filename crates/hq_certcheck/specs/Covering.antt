@@ -1,6 +1,6 @@
 -- Which conflicts have pair lines.
-use Rattle.std.specs.Prelude.{◌≡◌, ℕ, ◌+◌, ◌*◌, ◌<◌, ◌⊎◌, ◌↔◌, IsTrue, Bool, false, List, [], length, Option, Some, MatchOption}
-use Rattle.std.specs.Prelude.{slice_get}
+use Rattle.std.specs.Prelude.{◌≡◌, ℕ, ◌+◌, ◌*◌, ◌<◌, ◌⊎◌, ◌↔◌, IsTrue, Bool, false, List, [], length}
+use Rattle.std.specs.Prelude.{Option, Some, MatchOption, slice_get}
 use Rattle.hq_bits.specs.Bits.{has}
 use Rattle.hq_bits.specs.declared.TheConstants.{WIDTH}
 use Rattle.hq_footprint.specs.declared.conflicts.Kinds.{Kinds}
@@ -83,7 +83,8 @@ AreFlagged job flags p r = (kind : Conflict) → Conflicts job kind p r → IsTr
 
 -- The same in one direction, for each conflict.
 abbrev pub IsFlagged : Job → List ℕ → ℕ → ℕ → Type 0
-IsFlagged job flags p r = (kind : Conflict) → Conflicts job kind p r → AreFlagged job flags p r ⊎ AreFlagged job flags r p
+IsFlagged job flags p r = (kind : Conflict) → Conflicts job kind p r
+    → AreFlagged job flags p r ⊎ AreFlagged job flags r p
 
 -- Those of p with the packets after it, up to the end, are.
 abbrev pub AllFlagged : Job → List ℕ → ℕ → ℕ → Type 0

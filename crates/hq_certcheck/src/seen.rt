@@ -56,7 +56,8 @@ impl SeenPairs {
     /// Takes in pair lines, of which this is the first that doesn't hold.
     pub fn put(&mut self, pairs: &[Pair], bad: Option<(u32, u32)>)
         ensures { (job : JobOf) (lines : List model.Line) (before : List model.Pair) → HasSeen job lines before self.old
-            → BadPairIs job lines (map pair_of pairs.now) bad → HasSeen job lines (before ++ map pair_of pairs.now) self.new }
+            → BadPairIs job lines (map pair_of pairs.now) bad
+            → HasSeen job lines (before ++ map pair_of pairs.now) self.new }
     {
         mark_all(&mut self.flags, self.count, pairs);
         self.bad = self.bad.or(bad);
