@@ -10,7 +10,7 @@ use Rattle.hex.proofs.Pairs.{prepend, decode_step, decode_err, decode_done}
 use Rattle.hq_packet.specs.Faults.{first_fault}
 use Rattle.hq_packet.specs.declared.fault.PacketFault.{PacketFault}
 use Rattle.hq_lines.specs.declared.fault.LineFault.TheVariants as fault
-use Rattle.hq_lines.specs.Order.{digits_fault, bytes_fault, packet_fault}
+use Rattle.hq_lines.specs.Order.{digits_fault, bytes_fault, packet_fault, decoded, sized_said}
 use Rattle.hq_lines.specs.Decodes.{Decodes}
 
 -- the first pairs are decoded, or some are no digits
@@ -96,6 +96,29 @@ wrong_digit digits len h = by (decode_sized digits 64) (decode_sized-twice digit
   by : (d : Result (List ℕ) FromHexError) → d ≡ decode_pairs 0 digits → bytes_fault d ≡ Some fault.Hex
   by (Ok bytes) e = (let no : false ≡ true = ap result_is_err e ∙ h in absurd cc)
   by (Err f) e = refl
+
+-- ---- so many pairs of digits
+
+even : (digits : List ℕ) (n : ℕ) → length digits ≡ 2 * n → length digits % 2 ≡ 0
+even digits n len = omega (arith, len)
+
+pub sized_wrong_count : (digits : List ℕ) (n : ℕ) → (length digits ≡ 2 * n → ⊥) → sized_said n digits ≡ Err fault.Hex
+unfolding sized_said
+sized_wrong_count digits n ban = by (decode_sized digits n) refl where
+  by : (d : Result (List ℕ) FromHexError) → decode_sized digits n ≡ d → decoded d ≡ Err fault.Hex
+  by (Ok bytes) e = absurd (ban (decode_sized-ok digits n bytes e))
+  by (Err f) e = refl
+
+pub sized_wrong_digit : (digits : List ℕ) (n : ℕ) → length digits ≡ 2 * n → IsErr (decode_pairs 0 digits) → sized_said n digits ≡ Err fault.Hex
+unfolding sized_said
+sized_wrong_digit digits n len h = by (decode_sized digits n) (decode_sized-twice digits n len ∙ decode_of-even digits (even digits n len)) where
+  by : (d : Result (List ℕ) FromHexError) → d ≡ decode_pairs 0 digits → decoded d ≡ Err fault.Hex
+  by (Ok bytes) e = (let no : false ≡ true = ap result_is_err e ∙ h in absurd cc)
+  by (Err f) e = refl
+
+pub sized_right : (digits bytes : List ℕ) (n : ℕ) → length digits ≡ 2 * n → decode_pairs 0 digits ≡ Ok bytes → sized_said n digits ≡ Ok bytes
+unfolding sized_said
+sized_right digits bytes n len h = ap decoded (decode_sized-twice digits n len ∙ decode_of-even digits (even digits n len) ∙ h)
 
 -- a packet's bytes that are refused
 pub refused : (digits bytes : List ℕ) (f : PacketFault) → length digits ≡ 128 → decode_of digits ≡ Ok bytes → first_fault bytes ≡ Some f → digits_fault digits ≡ Some (fault.Packet f)

@@ -69,17 +69,19 @@ fn code_said(word: &[u8]) -> Result<Code, LineFault>
 }
 
 /// The bytes that so many pairs of digits spell.
-#[tactic(auto, unfolding(crate::specs::Order::sized_said))]
 fn sized_said(alloc: Global, len: u64, word: &[u8]) -> Result<Vec<u8>, LineFault>
     requires { len ≤ BUFFER }
     ensures value { Gives (λ v. v.items) result (sized_said len word.now) }
     ensures len { IfOk result (λ v. length v.items ≡ len) }
 {
     let mut bytes = vec![in alloc; 0; len as usize]?;
-    match hex::decode_to_slice(word, &mut bytes) {
-        Ok(()) => Ok(bytes),
-        Err(_) => Err(LineFault::Hex),
+    if word.len() != 2 * bytes.len() {
+        return Err(LineFault::Hex);
     }
+    if !decode_pairs(word, &mut bytes) {
+        return Err(LineFault::Hex);
+    }
+    Ok(bytes)
 }
 
 /// The bytes that digits spell, one or more.
