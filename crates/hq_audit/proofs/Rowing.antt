@@ -38,8 +38,8 @@ upto_none job drafts are = record {
 
 -- the part that stands in the list, where it is there
 pub part_drafted : (job : Job) (first now : List (Option Drafts)) (i : ℕ) (item : Option Drafts) (d : Drafts) → AllMayDraft job first → i < length first
-    → item ≡ slice_index_or now i item → slice_index_or now i item ≡ slice_index_or first i item → item ≡ Some d → DraftsRows job (i * 64) (i * 64 + 64) d
-part_drafted job first now i item d all low is same some = subst (λ (o : Option Drafts). IfSome o (DraftsRows job (i * 64) (i * 64 + 64))) (sym (is ∙ same) ∙ some) (all i item low)
+    → item ≡ slice_index_or now i item → slice_index_or now i item ≡ slice_index_or first i item → item ≡ Some d → DraftsRows job (i * 128) (i * 128 + 128) d
+part_drafted job first now i item d all low is same some = subst (λ (o : Option Drafts). IfSome o (DraftsRows job (i * 128) (i * 128 + 128))) (sym (is ∙ same) ∙ some) (all i item low)
 
 has_behind : (xs ys : List Draft) (p r : ℕ) (kind : Conflict) → HasDraft ys p r kind → HasDraft (xs ++ ys) p r kind
 has_behind xs ys p r kind h = record { k = length xs + h.k; draft = h.draft; there = get_after xs ys h.k ∙ h.there; first = h.first; second = h.second; kind_is = h.kind_is }
@@ -48,26 +48,26 @@ one_behind : (job : Job) (xs ys : List Draft) (p r : ℕ) → HasAll job ys p r 
 one_behind job xs ys p r (inl h) = inl (λ kind c. has_behind xs ys p r kind (h kind c))
 one_behind job xs ys p r (inr h) = inr (λ kind c. has_behind xs ys r p kind (h kind c))
 
-rows_joined : (job : Job) (k : ℕ) (xs ys : List Draft) → RowsPaired job xs (k * 64) → RowsBetween job ys (k * 64) (k * 64 + 64) → RowsPaired job (xs ++ ys) ((k + 1) * 64)
-rows_joined job k xs ys h o = λ q s low above is. elim (cases_lt q (k * 64)) [
+rows_joined : (job : Job) (k : ℕ) (xs ys : List Draft) → RowsPaired job xs (k * 128) → RowsBetween job ys (k * 128) (k * 128 + 128) → RowsPaired job (xs ++ ys) ((k + 1) * 128)
+rows_joined job k xs ys h o = λ q s low above is. elim (cases_lt q (k * 128)) [
   | inl below ↦ one_later job xs (xs ++ ys) q s (longer_front xs ys) (h q s below above is)
   | inr from ↦ one_behind job xs ys q s (o q s from (omega arith) above is)
 ]
 
-pub upto_joined : (job : Job) (k : ℕ) (old part new : Drafts) → DraftsUpto job (k * 64) old → DraftsRows job (k * 64) (k * 64 + 64) part → DraftsJoin job old part new → DraftsUpto job ((k + 1) * 64) new
+pub upto_joined : (job : Job) (k : ℕ) (old part new : Drafts) → DraftsUpto job (k * 128) old → DraftsRows job (k * 128) (k * 128 + 128) part → DraftsJoin job old part new → DraftsUpto job ((k + 1) * 128) new
 upto_joined job k old part new u c j = record {
   are = j.are;
-  paired = subst (λ ds. RowsPaired job ds ((k + 1) * 64)) (sym j.joined) (rows_joined job k (drafts_of old) (drafts_of part) u.paired c.paired);
-  shown = λ q s low above is. elim (cases_lt q (k * 64)) [
+  paired = subst (λ ds. RowsPaired job ds ((k + 1) * 128)) (sym j.joined) (rows_joined job k (drafts_of old) (drafts_of part) u.paired c.paired);
+  shown = λ q s low above is. elim (cases_lt q (k * 128)) [
     | inl below ↦ u.shown q s below above is
     | inr from ↦ c.shown q s from (omega arith) above is
   ];
 }
 
 -- the parts are all that there are
-pub all_drafted : (job : Job) (drafts : Drafts) (count : ℕ) → IsWhole job count → DraftsUpto job (count * 64) drafts → DraftsAll job drafts
+pub all_drafted : (job : Job) (drafts : Drafts) (count : ℕ) → IsWhole job count → DraftsUpto job (count * 128) drafts → DraftsAll job drafts
 all_drafted job drafts count whole h = record {
   are = h.are;
-  paired = λ q s above is. let low : s < length job.packets = is in let w : length job.packets < count * 64 = whole in h.paired q s (omega arith) above is;
-  shown = λ q s above is. let low : s < length job.packets = is in let w : length job.packets < count * 64 = whole in h.shown q s (omega arith) above is;
+  paired = λ q s above is. let low : s < length job.packets = is in let w : length job.packets < count * 128 = whole in h.paired q s (omega arith) above is;
+  shown = λ q s above is. let low : s < length job.packets = is in let w : length job.packets < count * 128 = whole in h.shown q s (omega arith) above is;
 }

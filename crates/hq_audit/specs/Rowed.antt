@@ -1,5 +1,5 @@
--- What is known of the drafts of some packets with those above them: part k has those of the packets from 64 * k on,
--- 64 of them.
+-- What is known of the drafts of some packets with those above them: part k has those of the packets from 128 * k on,
+-- 128 of them.
 use Rattle.std.specs.Prelude.{ℕ, ◌+◌, ◌*◌, ◌<◌, ◌≤◌, ◌⊎◌, List, IfSome, Option, length, slice_index_or}
 use Rattle.hq_model.specs.Job.{Job, IsPacket}
 use Rattle.hq_audit.specs.declared.draft.Draft.{Draft}
@@ -26,7 +26,7 @@ pub record DraftsRows (job : Job) (a b : ℕ) (drafts : Drafts) : Type 0 where
 
 -- so are those of each part, where it is there
 abbrev pub MayDraft : Job → ℕ → Option Drafts → Type 0
-MayDraft job k drafts = IfSome drafts (DraftsRows job (k * 64) (k * 64 + 64))
+MayDraft job k drafts = IfSome drafts (DraftsRows job (k * 128) (k * 128 + 128))
 
 -- so it is for all of these parts
 abbrev pub AllMayDraft : Job → List (Option Drafts) → Type 0
@@ -34,7 +34,7 @@ AllMayDraft job parts = (k : ℕ) (d : Option Drafts) → k < length parts → M
 
 -- there are all parts of a job
 abbrev pub IsWhole : Job → ℕ → Type 0
-IsWhole job count = length job.packets < count * 64
+IsWhole job count = length job.packets < count * 128
 
 -- the drafts of all packets up to one
 pub record DraftsUpto (job : Job) (a : ℕ) (drafts : Drafts) : Type 0 where

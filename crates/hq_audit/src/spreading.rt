@@ -15,7 +15,7 @@ use std::thread;
 use std::thread::Threads;
 
 /// How many packets a part has, whose pairs with those above them are judged in a thread of their own.
-const ROWS: usize = 64;
+const ROWS: usize = 128;
 
 /// The drafts of the packets from one on, up to another, with those above them. The error says nothing of
 /// packets ahead of these.
@@ -90,7 +90,7 @@ fn no_drafts(alloc: Global, before: &Before) -> Option<Drafts>
 fn join(alloc: Global, all: &mut Drafts, before: &Before, parts: &mut [Option<Drafts>]) -> bool
     requires parts { AllMayDraft before.now parts.old }
     requires are { AreDrafts before.now all.old }
-    ensures { IsTrue result → DraftsUpto before.now (length parts.old * 64) all.new }
+    ensures { IsTrue result → DraftsUpto before.now (length parts.old * 128) all.new }
 {
     for part in parts.iter_mut() {
         let Some(drafts) = part else {

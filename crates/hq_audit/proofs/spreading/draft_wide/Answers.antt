@@ -7,4 +7,4 @@ pub returns-then-join : goal.returns-then-join
 returns-then-join g c =
     let job = c.args.before.now in
     all_drafted job c.join.new.all (length c.in_ok-drafted.drafted.items) c.in_ok-drafted.ensures.whole
-    (subst (λ xs. DraftsUpto job (length xs * 64) c.join.new.all) c.deref_mut.ensures.value (c.join.ensures c.if-join.true))
+    (subst (λ xs. DraftsUpto job (length xs * 128) c.join.new.all) c.deref_mut.ensures.value (c.join.ensures c.if-join.true))

@@ -33,4 +33,4 @@ loop-part-init c = record {
 pub returns : goal.returns
 returns c = λ t.
     let all : c.loop-part.part-index ≡ length c.args.parts.now = omega (arith, c.loop-part-test.false, c.loop-part.invariant.len) in
-    subst (λ n. DraftsUpto c.args.before.now (n * 64) c.loop-part.all) all c.loop-part.invariant.upto
+    subst (λ n. DraftsUpto c.args.before.now (n * 128) c.loop-part.all) all c.loop-part.invariant.upto

@@ -7,5 +7,5 @@ abbrev pub invariant-loop-part : goal.invariant-loop-part
 invariant-loop-part l = record {
   len : length l.parts ≡ length l.fn.parts;
   rest : (k : ℕ) (d : Option Drafts) → l.part-index ≤ k → slice_index_or l.parts k d ≡ slice_index_or l.fn.parts k d;
-  upto : DraftsUpto l.before (l.part-index * 64) l.all;
+  upto : DraftsUpto l.before (l.part-index * 128) l.all;
 }
