@@ -1,5 +1,5 @@
 -- Flags, a bit for each kind of conflict of two packets.
-use Rattle.std.proofs.Common.{◌≡◌, ℕ, ◌+◌, ◌*◌, ◌<◌, ◌≤◌, ◌↔◌, inl, inr, IsTrue, List, length, sym, ◌∙◌, ap, subst, arith, Option, None, Some, MatchOption, slice_get, refl, ◌==◌, ◌||◌}
+use Rattle.std.proofs.Common.{◌≡◌, ℕ, zero, suc, ◌+◌, ◌*◌, ◌<◌, ◌≤◌, ◌↔◌, ◌⊎◌, inl, inr, IsTrue, List, [], ◌∷◌, ◌++◌, length, sym, ◌∙◌, ap, subst, arith, Option, None, Some, MatchOption, slice_get, refl, ◌==◌, ◌||◌}
 use Rattle.std.proofs.lemmas.Bool.{cases_lt, cases_eq}
 use Rattle.hq_bits.specs.Bits.{has}
 use Rattle.hq_bits.proofs.Walked.{mark_bit}
@@ -12,6 +12,7 @@ use Rattle.hq_model.specs.Certificate.{Certificate, Pair, kind_of, HasPair, HasP
 use Rattle.hq_certcheck.specs.Covering.{Covered, NoneMissing, FirstMissing, has_kind, has_flag, row_of, IsFor, AreListed, IsMarked, AreFlagged, IsFlagged, AllFlagged, RowFlagged, FirstUnflagged}
 use Rattle.std.proofs.lemmas.Option.{slice_get_within}
 use Rattle.hq_ordercheck.proofs.Options.{some_same}
+use Rattle.hq_certcheck.proofs.Seeing.{got_left, got_right, each_in}
 
 pub by_kinds : (P : Conflict → Type 0) → P WriteRead → P WriteWrite → P ReadWrite → (kind : Conflict) → P kind
 by_kinds P wr ww rw WriteRead = wr
@@ -61,18 +62,22 @@ marked pair count old new few r_is set p r l m kind =
       ]),
     )
 
-pub listed_next : (pairs : List Pair) (i count : ℕ) (old new : List ℕ) (pair : Pair) → AreListed pairs i count old → IsMarked pair count old new → slice_get pairs i ≡ Some pair → AreListed pairs (i + 1) count new
-listed_next pairs i count old new pair a m here p r l n kind = (
+only_one : (pair x : Pair) (j : ℕ) → slice_get (pair ∷ []) j ≡ Some x → pair ≡ x
+only_one pair x zero e = some_same pair x e
+only_one pair x (suc j) e = let there : None ≡ Some x = e in absurd cc
+
+-- one more pair line, behind those whose flags are there
+pub listed_next : (pairs : List Pair) (count : ℕ) (old new : List ℕ) (pair : Pair) → AreListed pairs count old → IsMarked pair count old new → AreListed (pairs ++ pair ∷ []) count new
+listed_next pairs count old new pair a m p r l n kind = (
   λ t. elim ((m p r l n kind).0 t) [
     | inl before ↦
         let x = (a p r l n kind).0 before in
-        record { k = x.k; below = omega (arith, x.below); pair = x.pair; there = x.there; is_for = x.is_for }
-    | inr f ↦ record { k = i; below = omega arith; pair = pair; there = here; is_for = f }
+        record { k = x.k; pair = x.pair; there = got_left pairs (pair ∷ []) x.k (slice_get_within pairs x.k x.pair x.there) ∙ x.there; is_for = x.is_for }
+    | inr f ↦ record { k = length pairs + 0; pair = pair; there = got_right pairs (pair ∷ []) 0; is_for = f }
   ],
-  λ x. (m p r l n kind).1 (elim (cases_eq x.k i) [
-    | inl same ↦ inr (subst (λ y. IsFor y p r kind) (some_same x.pair pair (sym x.there ∙ ap (slice_get pairs) same ∙ here)) x.is_for)
-    | inr apart ↦ inl ((a p r l n kind).1 (record { k = x.k; below = omega (arith, x.below, apart); pair = x.pair; there = x.there; is_for = x.is_for }))
-  ]),
+  λ x. (m p r l n kind).1 (each_in (λ y. IsFor y p r kind → IsTrue (has_flag kind old p r) ⊎ IsFor pair p r kind) pairs (pair ∷ []) x.k x.pair x.there
+      (λ low there f. inl ((a p r l n kind).1 (record { k = x.k; pair = x.pair; there = there; is_for = f })))
+      (λ j at there f. inr (subst (λ y. IsFor y p r kind) (sym (only_one pair x.pair j there)) f)) x.is_for),
 )
 
 -- ---- flags read
@@ -114,17 +119,11 @@ flagged_one_more job flags p r h here s above below = elim (cases_eq s r) [
 
 -- ---- flags as pair lines
 
-module _ (job : Job) (c : Certificate) (limit : ℕ) (flags : List ℕ) (whole : limit ≡ length c.pairs) (listed : AreListed c.pairs limit (length job.packets) flags) where
+module _ (job : Job) (c : Certificate) (flags : List ℕ) (listed : AreListed c.pairs (length job.packets) flags) where
   pair_of_flag : (p r : ℕ) → IsPacket job p → IsPacket job r → (kind : Conflict) → IsTrue (has_flag kind flags p r) ↔ HasPair c p r kind
   pair_of_flag p r p_is r_is kind = (
     λ t. let x = (listed p r p_is r_is kind).0 t in record { k = x.k; pair = x.pair; there = x.there; first = x.is_for.first; second = x.is_for.second; kind_is = x.is_for.kind_is },
-    λ x. (listed p r p_is r_is kind).1 (record {
-      k = x.k;
-      below = omega (arith, whole, slice_get_within c.pairs x.k x.pair x.there);
-      pair = x.pair;
-      there = x.there;
-      is_for = record { first = x.first; second = x.second; kind_is = x.kind_is };
-    }),
+    λ x. (listed p r p_is r_is kind).1 (record { k = x.k; pair = x.pair; there = x.there; is_for = record { first = x.first; second = x.second; kind_is = x.kind_is } }),
   )
 
   pairs_of : (p r : ℕ) → IsPacket job p → IsPacket job r → AreFlagged job flags p r ↔ HasPairs job c p r

@@ -1,7 +1,8 @@
 -- Pair lines that were seen, with more behind them.
-use Rattle.std.proofs.Common.{◌≡◌, ℕ, zero, suc, ◌+◌, ◌-◌, ◌<◌, ◌⊎◌, inl, inr, List, [], ◌∷◌, ◌++◌, length, sym, ◌∙◌, ap, subst, refl, arith, Option, None, Some, MatchOption, slice_get, All}
+use Rattle.std.proofs.Common.{◌≡◌, ℕ, zero, suc, ◌+◌, ◌-◌, ◌<◌, ◌⊎◌, inl, inr, List, [], ◌∷◌, ◌++◌, length, sym, ◌∙◌, ap, subst, refl, arith, Option, None, Some, MatchOption, slice_get, All, take, append_assoc}
 use Rattle.std.specs.Option.{option_or}
 use Rattle.std.proofs.lemmas.Bool.{cases_lt}
+use Rattle.std.proofs.lemmas.List.{take_more}
 use Rattle.std.proofs.lemmas.List.Elements.{All-append}
 use Rattle.std.proofs.lemmas.Option.{slice_get_within, get_or_from_slice_get}
 use Rattle.hq_model.specs.Job.{Job}
@@ -29,13 +30,11 @@ each_in P xs ys k x e front back = elim (cases_lt k (length xs)) [
   | inr high ↦ (let at : k ≡ length xs + (k - length xs) = omega (arith, high) in back (k - length xs) at (sym (got_right xs ys (k - length xs)) ∙ ap (slice_get (xs ++ ys)) (sym at) ∙ e))
 ]
 
--- ---- flags
-
-pub listed_longer : (pairs more : List Pair) (count : ℕ) (flags : List ℕ) → AreListed pairs (length pairs) count flags → AreListed (pairs ++ more) (length pairs) count flags
-listed_longer pairs more count flags h p r l m kind = (
-  λ t. let x = (h p r l m kind).0 t in record { k = x.k; below = x.below; pair = x.pair; there = got_left pairs more x.k x.below ∙ x.there; is_for = x.is_for },
-  λ x. (h p r l m kind).1 (record { k = x.k; below = x.below; pair = x.pair; there = sym (got_left pairs more x.k x.below) ∙ x.there; is_for = x.is_for }),
-)
+-- the first so many of a list, behind others, with the next one
+pub with_next : {X : Type 0} (before found : List X) (i : ℕ) (x : X) → slice_get found i ≡ Some x → before ++ take (i + 1) found ≡ before ++ take i found ++ x ∷ []
+with_next before found i x e =
+    ap (λ ys. before ++ ys) (take_more found i x (slice_get_within found i x e) ∙ ap (λ y. take i found ++ y ∷ []) (get_or_from_slice_get found i x x e))
+    ∙ sym (append_assoc before (take i found) (x ∷ []))
 
 -- ---- the first pair line that doesn't hold
 
@@ -99,11 +98,11 @@ pub seen_as : (job : Job) (s : Seen) (lines others : List Line) (pairs same : Li
 seen_as job s lines others pairs same e k h = subst (λ (ls : List Line). HasSeen job ls same s) e (subst (λ (ps : List Pair). HasSeen job lines ps s) k h)
 
 -- pair lines behind those that were seen, of which it is known which is the first that doesn't hold
-pub seen_more : (job : Job) (lines : List Line) (before more : List Pair) (old new : Seen) (found : Option (ℕ × ℕ)) → new.count ≡ old.count → (AreListed before (length before) old.count old.flags → AreListed (before ++ more) (length (before ++ more)) old.count new.flags)
+pub seen_more : (job : Job) (lines : List Line) (before more : List Pair) (old new : Seen) (found : Option (ℕ × ℕ)) → new.count ≡ old.count → (AreListed before old.count old.flags → AreListed (before ++ more) old.count new.flags)
     → new.bad ≡ option_or old.bad found → MatchOption found (All (PairFollows job lines) more) (λ f. FirstBadPair job lines more f.0 f.1) → HasSeen job lines before old → HasSeen job lines (before ++ more) new
 seen_more job lines before more old new found count listed bad told h = record {
   count = count ∙ h.count;
-  listed = subst (λ n. AreListed (before ++ more) (length (before ++ more)) n new.flags) (sym count) (listed h.listed);
+  listed = subst (λ n. AreListed (before ++ more) n new.flags) (sym count) (listed h.listed);
   bad = subst (λ (b : Option (ℕ × ℕ)). MatchOption b (All (PairFollows job lines) (before ++ more)) (λ f. FirstBadPair job lines (before ++ more) f.0 f.1)) (sym bad) (by old.bad h.bad);
 }
   where

@@ -59,18 +59,17 @@ pub record IsFor (pair : Pair) (p r : ℕ) (kind : Conflict) : Type 0 where
   pub second : pair.r ≡ r
   pub kind_is : kind_of pair.fences ≡ kind
 
--- One of the first pair lines, below the limit, is.
-pub record IsListed (pairs : List Pair) (limit p r : ℕ) (kind : Conflict) : Type 0 where
+-- One of the pair lines is for this kind of conflict of p with r.
+pub record IsListed (pairs : List Pair) (p r : ℕ) (kind : Conflict) : Type 0 where
   pub k : ℕ
-  pub below : k < limit
   pub pair : Pair
   pub there : slice_get pairs k ≡ Some pair
   pub is_for : IsFor pair p r kind
 
--- Two of so many packets have a flag exactly where one of the first pair lines is for it.
-abbrev pub AreListed : List Pair → ℕ → ℕ → List ℕ → Type 0
-AreListed pairs limit count flags = (p r : ℕ) → p < count → r < count → (kind : Conflict)
-    → IsTrue (has_flag kind flags p r) ↔ IsListed pairs limit p r kind
+-- Two of so many packets have a flag exactly where one of the pair lines is for it.
+abbrev pub AreListed : List Pair → ℕ → List ℕ → Type 0
+AreListed pairs count flags = (p r : ℕ) → p < count → r < count → (kind : Conflict)
+    → IsTrue (has_flag kind flags p r) ↔ IsListed pairs p r kind
 
 -- The flags are those that there were and that of the pair line.
 abbrev pub IsMarked : Pair → ℕ → List ℕ → List ℕ → Type 0

@@ -36,7 +36,7 @@ pub record IsTable (s : Inside) : Type 0 where
 -- exactly where one of them is for it, and the first of them that doesn't hold is known.
 pub record HasSeen (job : Job) (lines : List Line) (pairs : List Pair) (s : Seen) : Type 0 where
   pub count : s.count ≡ length job.packets
-  pub listed : AreListed pairs (length pairs) s.count s.flags
+  pub listed : AreListed pairs s.count s.flags
   pub bad : BadPairIs job lines pairs s.bad
 
 -- the certificate with these pair lines in the place of its own

@@ -59,8 +59,8 @@ pub fn mark_all(flags: &mut [u64], count: usize, pairs: &[Pair])
     requires few { count ≤ PACKETS }
     requires len { length flags.old ≡ count * PACKET_WORDS }
     ensures len { length flags.new ≡ count * PACKET_WORDS }
-    ensures marked { (before : List model.Pair) → AreListed before (length before) count flags.old
-        → let all = before ++ map pair_of pairs.now in AreListed all (length all) count flags.new }
+    ensures marked { (before : List model.Pair) → AreListed before count flags.old
+        → AreListed (before ++ map pair_of pairs.now) count flags.new }
 {
     for pair in pairs {
         mark(flags, count, pair);

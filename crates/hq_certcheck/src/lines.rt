@@ -1,6 +1,6 @@
 //! Lines of a certificate, one by one.
 
-ghost use Rattle.std.specs.Prelude.{ℕ, ◌<◌, ◌↔◌, IsTrue, map, length, MatchOption};
+ghost use Rattle.std.specs.Prelude.{ℕ, ◌<◌, ◌↔◌, IsTrue, map, length};
 ghost use Rattle.std.specs.List.{AllZip};
 ghost use Rattle.hq_cert.specs.View.{line_of, rule_of, cited};
 ghost use Rattle.hq_job.specs.Plan.{plan};

@@ -122,7 +122,7 @@ fn first_unflagged(job: &Job, possible: &Possible, flags: &[u64]) -> Option<(u16
 fn missing_by(job: &Job, possible: &Possible, flags: &[u64]) -> Option<(u16, u16)>
     requires possible { IsPossible (plan job.now) possible.now }
     requires len { length flags.now ≡ length job.now.packets * PACKET_WORDS }
-    ensures { (c : model.Certificate) → AreListed c.pairs (length c.pairs) (length job.now.packets) flags.now
+    ensures { (c : model.Certificate) → AreListed c.pairs (length job.now.packets) flags.now
         → MissingIs (plan job.now) c result }
 {
     first_unflagged(job, possible, flags)

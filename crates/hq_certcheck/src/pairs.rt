@@ -1,6 +1,6 @@
 //! Pair lines of a certificate, one by one.
 
-ghost use Rattle.std.specs.Prelude.{◌<◌, ◌↔◌, IsTrue, Some, None, map, length, MatchOption, All};
+ghost use Rattle.std.specs.Prelude.{◌<◌, ◌↔◌, IsTrue, Some, None, map, length};
 ghost use Rattle.hq_cert.specs.View.{line_of, pair_of, fences_of, cited};
 ghost use Rattle.hq_job.specs.Plan.{plan};
 ghost use Rattle.hq_model.specs.Job.{packet, IsPacket};

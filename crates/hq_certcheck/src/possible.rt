@@ -84,7 +84,12 @@ fn suspect(found: &mut [u64], is_first: bool, others: &[u64], able: &[u64], flag
 }
 
 impl Possible {
-    /// Those of a job.
+    /// What tells which packets of the job may conflict: the parts of memory that each touches, and which of them read
+    /// something and which write something.
+    ///
+    /// # Errors
+    ///
+    /// `AllocError` where there is no memory.
     pub fn of(alloc: Global, job: &Job) -> Result<Possible, AllocError>
         ensures { IfOk result (IsPossible (plan job.now)) }
     {

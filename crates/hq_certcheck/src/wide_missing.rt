@@ -89,7 +89,7 @@ fn missing_by(
 ) -> Option<(u16, u16)>
     requires possible { IsPossible (plan job.now) possible.now }
     requires len { length flags.now ≡ length job.now.packets * PACKET_WORDS }
-    ensures { (c : model.Certificate) → AreListed c.pairs (length c.pairs) (length job.now.packets) flags.now
+    ensures { (c : model.Certificate) → AreListed c.pairs (length job.now.packets) flags.now
         → MissingIs (plan job.now) c result }
 {
     first_unflagged(rt, job, possible, flags)

@@ -1,9 +1,9 @@
 //! Pair lines of a certificate, in many threads.
 
-ghost use Rattle.std.specs.Prelude.{◌≡◌, ℕ, ◌<◌, IsTrue, MatchOption, All, false, map, length};
+ghost use Rattle.std.specs.Prelude.{◌≡◌, ℕ, ◌<◌, IsTrue, MatchOption, false, map, length};
 ghost use Rattle.hq_cert.specs.View.{line_of, pair_of};
 ghost use Rattle.hq_job.specs.Plan.{plan};
-ghost use Rattle.hq_certcheck.specs.Listed.{PairFollows, PairFollowsAt, FirstBadPlace, BadPairIs};
+ghost use Rattle.hq_certcheck.specs.Listed.{PairFollowsAt, FirstBadPlace, BadPairIs};
 
 use crate::pairs::pair_line_holds;
 use hq_cert::{Line, Pair};

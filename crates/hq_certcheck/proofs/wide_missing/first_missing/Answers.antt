@@ -1,4 +1,4 @@
-use Rattle.std.proofs.Common.{◌*◌, ℕ, List, length, sym, subst, ap, ◌∙◌}
+use Rattle.std.proofs.Common.{◌*◌, ℕ, List, sym, subst, ap, ◌∙◌}
 use Rattle.hq_certcheck.specs.Covering.{AreListed}
 use Rattle.hq_certcheck.proofs.wide_missing.first_missing.Goals as goal
 
@@ -7,5 +7,5 @@ missing_by-requires-clause-len g c κs lives = c.flags.ensures.len ∙ ap (λ n.
 
 pub returns : goal.returns
 returns g c cert h =
-    c.missing_by.ensures cert (subst (λ n. AreListed cert.pairs (length cert.pairs) n c.flags.result.now) c.requires.count
-    (subst (λ (flags : List ℕ). AreListed cert.pairs (length cert.pairs) c.args.seen.now.count flags) (sym c.flags.ensures.flags) h.listed))
+    c.missing_by.ensures cert (subst (λ n. AreListed cert.pairs n c.flags.result.now) c.requires.count
+    (subst (λ (flags : List ℕ). AreListed cert.pairs c.args.seen.now.count flags) (sym c.flags.ensures.flags) h.listed))

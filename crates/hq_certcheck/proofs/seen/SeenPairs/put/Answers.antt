@@ -16,5 +16,5 @@ returns c job lines before h told =
     let old : Seen = record { count = c.self.inside.count; flags = flags.items; bad = c.self.inside.bad } in
     subst (λ (s : Seen). HasSeen job lines (before ++ found) s) (ap (λ (xs : List ℕ). record { count = c.self.inside.count; flags = xs; bad = c.or-self-inside.result }) (sym (with_items_is flags new long)))
     (seen_more job lines before found old (record { count = c.self.inside.count; flags = new; bad = c.or-self-inside.result }) c.args.bad refl
-    (subst (λ (xs : List ℕ). AreListed before (length before) c.self.inside.count xs → AreListed (before ++ found) (length (before ++ found)) c.self.inside.count new) c.deref_mut.ensures.value (c.mark_all.ensures.marked before))
+    (subst (λ (xs : List ℕ). AreListed before c.self.inside.count xs → AreListed (before ++ found) c.self.inside.count new) c.deref_mut.ensures.value (c.mark_all.ensures.marked before))
     c.or-self-inside.ensures told (subst (λ (s : Seen). HasSeen job lines before s) (sym c.self.view_is) h))
