@@ -1,8 +1,7 @@
 //! A certificate as far as it is read.
 
 ghost use Rattle.std.specs.Prelude.{◌≡◌, ◌↔◌, ◌&&◌, ◌<◌, true, false, [], map, length};
-ghost use Rattle.std.specs.Prelude.{IfOk, IfErr, IfSome, OnOk, OnErr};
-ghost use Rattle.std.specs.Prelude.{IsTrue};
+ghost use Rattle.std.specs.Prelude.{IfOk, IfErr, IfSome, IsTrue, OnOk, OnErr};
 ghost use Rattle.hq_certread.specs.Ahead.{with_more};
 ghost use Rattle.hq_certread.specs.LineTests.{head_said, order_said};
 ghost use Rattle.hq_certread.specs.TextFaults.{start, add_head, add_order, add_line, add_pair, add_end, add_behind};

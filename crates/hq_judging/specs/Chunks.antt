@@ -1,11 +1,11 @@
 -- Chunks of a certificate's text that wait, so that several threads read them ahead and check their pair lines.
-use Rattle.std.specs.Prelude.{◌≡◌, ℕ, ◌⊎◌, List, [], ◌∷◌, ◌++◌, MatchOption, All}
+use Rattle.std.specs.Prelude.{◌≡◌, ℕ, ◌⊎◌, List, [], ◌∷◌, ◌++◌}
 use Rattle.hq_text.specs.Lines.{lines_of}
 use Rattle.hq_model.specs.Job.{Job}
 use Rattle.hq_certread.specs.Ahead.{IsAhead, pairs_ahead}
 use Rattle.hq_certread.specs.SoFar.{IsClosed, lines_in}
 use Rattle.hq_certread.specs.declared.progress.Progress.{Progress}
-use Rattle.hq_certcheck.specs.Listed.{PairFollows, FirstBadPair}
+use Rattle.hq_certcheck.specs.Listed.{BadPairIs}
 use Rattle.hq_judging.specs.Checking.{HasChecked}
 use Rattle.hq_judging.specs.declared.chunk.Chunk.{Chunk}
 use Rattle.hq_judging.specs.declared.chunks.Chunks.{Chunks}
@@ -19,8 +19,7 @@ lines_in_all (chunk ∷ chunks) = lines_of chunk.text.items ++ lines_in_all chun
 -- Where it has pair lines, no more lines could come.
 pub record IsLookedAt (job : Job) (at : Progress) (chunk : Chunk) : Type 0 where
   pub ahead : IsAhead chunk.text.items chunk.ahead
-  pub bad : MatchOption chunk.bad (All (PairFollows job (lines_in at)) (pairs_ahead chunk.ahead))
-      (λ pair. FirstBadPair job (lines_in at) (pairs_ahead chunk.ahead) pair.0 pair.1)
+  pub bad : BadPairIs job (lines_in at) (pairs_ahead chunk.ahead) chunk.bad
   pub closed : (pairs_ahead chunk.ahead ≡ []) ⊎ IsClosed at
 
 -- Behind the first, these lines were taken in, or wait.

@@ -1,6 +1,8 @@
 //! `hsaq audit`: from a job's bytes to a certificate's bytes.
 
-ghost use Rattle.std.specs.Prelude.{◌⊎◌, codes};
+ghost use Rattle.std.specs.Prelude.{◌⊎◌, IfErr, IfOk, codes};
+ghost use Rattle.hq_audit.specs.Audited.{IsAudited};
+ghost use Rattle.hq_audit.specs.Refused.{IsRefused};
 ghost use Rattle.hq_certtext.specs.Printed.{text_of};
 ghost use Rattle.hq_job.specs.Plan.{plan};
 ghost use Rattle.hq_judging.specs.Audit.{JobReport, NoSaid, conflict_text};
@@ -9,7 +11,7 @@ ghost use Rattle.hq_status.specs.Reports.{JobTextReport, ReaderReport, Reported,
 use crate::giving::say_audited;
 use crate::laws::stuck_exactly;
 use crate::stuck::say_stuck;
-use hq_audit::{AuditNo, find};
+use hq_audit::{AuditNo, Audited, find, find_wide};
 use hq_cert::Certificate;
 use hq_certtext::{PrintFault, print};
 use hq_finding::{Kind, Why};
@@ -18,6 +20,7 @@ use hq_status::{Status, let_go, say, say_memory, take_job};
 use std::alloc::Global;
 use std::fmt;
 use std::io::{Read, Write};
+use std::thread::Threads;
 
 /// A conflict that isn't ordered: `conflict`, the packets, the kind and the reason.
 #[derive(Clone, Copy)]
@@ -70,13 +73,20 @@ pub fn say_no_certificate<W: Write>(writer: &mut W, no: AuditNo) -> Status
     }
 }
 
-/// Audits a job, and writes its certificate, or why there is none.
-fn audit_found<W: Write>(alloc: Global, writer: &mut W, job: &Job) -> Status
+/// Writes what an audit found of a job.
+fn say_found<W: Write>(
+    alloc: Global,
+    writer: &mut W,
+    job: &Job,
+    found: Result<Audited, AuditNo>,
+) -> Status
+    requires audited { IfOk found (IsAudited (plan job.now)) }
+    requires refused { IfErr found (λ no. IsRefused (plan job.now) no) }
     ensures { Reported (JobReport (plan job.now)) (W.contents writer.old) (W.contents writer.new) result }
 {
     job.valid();
     stuck_exactly();
-    match find(alloc, job) {
+    match found {
         Ok(audited) => say_audited(alloc, writer, job, audited),
         Err(no) => say_no_certificate(writer, no),
     }
@@ -90,7 +100,29 @@ pub fn audit_engine<R: Read, W: Write>(alloc: Global, reader: &mut R, writer: &m
 {
     match take_job(alloc, reader, writer) {
         Ok(job) => {
-            let status = audit_found(alloc, writer, &job);
+            let found = find(alloc, &job);
+            let status = say_found(alloc, writer, &job, found);
+            let_go(job);
+            status
+        }
+        Err(status) => status,
+    }
+}
+
+/// What `audit_engine` writes, with pairs judged in many threads where many packets may conflict.
+pub fn audit_wide_engine<T: Threads + Sync, R: Read, W: Write>(
+    rt: &T,
+    alloc: Global,
+    reader: &mut R,
+    writer: &mut W,
+) -> Status
+    ensures { Reported (ReaderReport R R.remaining reader.old reader.new (JobTextReport (λ job. JobReport (plan job))))
+        (W.contents writer.old) (W.contents writer.new) result }
+{
+    match take_job(alloc, reader, writer) {
+        Ok(job) => {
+            let found = find_wide(rt, alloc, &job);
+            let status = say_found(alloc, writer, &job, found);
             let_go(job);
             status
         }

@@ -10,8 +10,8 @@ ghost use Rattle.hq_judging.specs.Check.{NoSaid, accepted_text, cert_refusal, ba
 ghost use Rattle.hq_judging.specs.Check.{bad_pair_text};
 ghost use Rattle.hq_status.specs.Reports.{JobTextReport, ReaderReport, Reported, Said, with_feed};
 
-use crate::checking::ReadCertificate;
-use crate::checking_wide::take_certificate_wide;
+use crate::checking::{ReadCertificate, take_certificate};
+use crate::readers::Together;
 use hq_certcheck::{Accepted, CheckNo, check_seen_wide};
 use hq_certread::{CertFault, CertReason};
 use hq_job::Job;
@@ -197,7 +197,7 @@ fn check_read<S: Read, W: Write>(
     ensures { Reported (ReaderReport S S.remaining certificate.old certificate.new (CertReport job))
         (W.contents writer.old) (W.contents writer.new) result }
 {
-    match take_certificate_wide(rt, alloc, certificate, writer, job) {
+    match take_certificate(&Together { rt }, alloc, certificate, writer, job) {
         Ok(known) => check_found(rt, alloc, writer, known),
         Err(status) => status,
     }

@@ -9,6 +9,7 @@ ghost use Rattle.hq_status.specs.Reports.{JobTextReport, ReaderReport, Reported}
 
 use crate::check::say_checked;
 use crate::checking::{ReadCertificate, take_certificate};
+use crate::readers::Alone;
 use hq_certcheck::check_seen;
 use hq_job::Job;
 use hq_status::{Status, take_job};
@@ -41,7 +42,7 @@ fn check_read<S: Read, W: Write>(
     ensures { Reported (ReaderReport S S.remaining certificate.old certificate.new (CertReport job))
         (W.contents writer.old) (W.contents writer.new) result }
 {
-    match take_certificate(alloc, certificate, writer, job) {
+    match take_certificate(&Alone, alloc, certificate, writer, job) {
         Ok(known) => check_found(alloc, writer, known),
         Err(status) => status,
     }

@@ -10,6 +10,7 @@ ghost use Rattle.hq_judging.specs.Checking.{FinishedOf, HasChecked, WasRead, Was
 ghost use Rattle.hq_status.specs.Reports.{OfReader, ReaderReport, Reported};
 
 use crate::check::say_faulty_text;
+use crate::readers::ReadsCertificates;
 use hq_cert::Certificate;
 use hq_certcheck::SeenPairs;
 use hq_certread::{CertFault, Progress, ReadFault};
@@ -103,7 +104,7 @@ impl TakesLines for Checking {
 }
 
 /// The certificate that a source gives up to its end, checked as far as that can be while it comes.
-fn read_source<S: Source>(
+pub fn read_source<S: Source>(
     alloc: Global,
     source: &mut S,
     checking: Checking,
@@ -123,8 +124,10 @@ fn read_source<S: Source>(
     }
 }
 
-/// The same of a reader's text; or, where there is no certificate, the status of the refusal, which is written.
-fn read_certificate<R: Read, W: Write>(
+/// The certificate of a reader's text; or, where there is no certificate, the status of the refusal, which is
+/// written.
+fn read_certificate<K: ReadsCertificates, R: Read, W: Write>(
+    by: &K,
     alloc: Global,
     reader: &mut R,
     writer: &mut W,
@@ -139,7 +142,7 @@ fn read_certificate<R: Read, W: Write>(
         (Reported (ReaderReport R R.remaining reader.old reader.new NoCertificate) (W.contents writer.old)
         (W.contents writer.new)) }
 {
-    match read_source(alloc, reader, checking) {
+    match by.read_source(alloc, reader, checking) {
         Ok(known) => Ok(known),
         Err(ReadFault::Reader) => Err(say_file(writer)),
         Err(ReadFault::Text(fault)) => Err(say_faulty_text(writer, fault)),
@@ -148,7 +151,8 @@ fn read_certificate<R: Read, W: Write>(
 
 /// The certificate of a reader's text for a job, whose pair lines were checked as they came; or, where there is none,
 /// the status of the refusal, which is written.
-pub fn take_certificate<R: Read, W: Write>(
+pub fn take_certificate<K: ReadsCertificates, R: Read, W: Write>(
+    by: &K,
     alloc: Global,
     reader: &mut R,
     writer: &mut W,
@@ -163,7 +167,7 @@ pub fn take_certificate<R: Read, W: Write>(
         (W.contents writer.new)) }
 {
     match Checking::new(alloc, job) {
-        Ok(checking) => read_certificate(alloc, reader, writer, checking),
+        Ok(checking) => read_certificate(by, alloc, reader, writer, checking),
         Err(job) => {
             let_go(job);
             Err(say_memory(writer))

@@ -6,7 +6,6 @@
 #![tactic(auto)]
 
 mod audit;
-mod audit_wide;
 mod check;
 mod check_alone;
 mod checking;
@@ -15,9 +14,9 @@ mod chunk;
 mod chunks;
 mod giving;
 pub mod laws;
+mod readers;
 mod stuck;
 
-pub use audit::{audit_engine, say_no_certificate};
-pub use audit_wide::audit_wide_engine;
+pub use audit::{audit_engine, audit_wide_engine, say_no_certificate};
 pub use check::check_engine;
 pub use check_alone::check_alone_engine;

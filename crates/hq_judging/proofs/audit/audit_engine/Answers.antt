@@ -9,4 +9,4 @@ returns-in-Err g c = job_missing _ g.R.Read.remaining c.args.reader.now c.take_j
 
 pub returns-in-Ok : goal.returns-in-Ok
 returns-in-Ok g c =
-    job_found _ g.R.Read.remaining c.args.reader.now c.take_job.new.reader c.in-Ok.job (λ job. JobReport (plan job)) _ _ _ c.audit_found-status.result c.in-Ok.ensures.found (ap g.W.Write.contents c.in-Ok.ensures.unwritten) c.audit_found-status.ensures
+    job_found _ g.R.Read.remaining c.args.reader.now c.take_job.new.reader c.in-Ok.job (λ job. JobReport (plan job)) _ _ _ c.say_found-status.result c.in-Ok.ensures.found (ap g.W.Write.contents c.in-Ok.ensures.unwritten) c.say_found-status.ensures
