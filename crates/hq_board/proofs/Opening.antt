@@ -1,5 +1,5 @@
 -- What is known of every job that was read is what the rule asks of a job.
-use Rattle.std.proofs.Common.{◌≡◌, ◌⊎◌, inl, inr, zero, suc, slice_index, ℕ, ◌+◌, ◌*◌, ◌<◌, ◌^◌, ◌++◌, replicate, length-append, List, [], ◌∷◌, length, get_or, slice_get, Option, Some, None, refl, sym, ◌∙◌, ap, subst, arith, All, IfSome}
+use Rattle.std.proofs.Common.{◌≡◌, ◌⊎◌, inl, inr, zero, suc, slice_index, ℕ, ◌+◌, ◌<◌, ◌++◌, replicate, length-append, List, [], ◌∷◌, length, get_or, slice_get, Option, Some, None, refl, sym, ◌∙◌, ap, subst, arith, All, IfSome}
 use Rattle.std.proofs.lemmas.List.{length-map, length-replicate, get_or-map}
 use Rattle.std.proofs.lemmas.Option.{get_or_from_slice_get, slice_get_within}
 use Rattle.hq_job.specs.Plan.{plan, planned}
@@ -7,7 +7,7 @@ use Rattle.hq_job.specs.Value.{JobValue}
 use Rattle.hq_job.specs.View.{PacketIsRead, WithinLimits}
 use Rattle.hq_tables.specs.declared.rows.Placed.{Placed}
 use Rattle.hq_model.specs.Job as model
-use Rattle.hq_model.specs.Job.{Dependency, Decrements, IsPacket, no_packet, packet}
+use Rattle.hq_model.specs.Job.{no_packet, packet}
 use Rattle.hq_model.specs.Theorems.{Valid}
 use Rattle.hq_events.proofs.Jobs.{done_within}
 use mathlib.Core.Option.{some, some-injective, some-ne-none}

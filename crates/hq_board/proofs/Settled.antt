@@ -1,11 +1,10 @@
 -- A signal that is settled by a queue's own list is 0.
-use Rattle.std.proofs.Common.{◌≡◌, ℕ, ◌+◌, ◌<◌, inl, inr, Bool, true, false, cond, List, length, refl, sym, ◌∙◌, ap, subst, arith}
-use Rattle.hq_model.specs.Job.{Job, packet, Dependency, Decrements, completes_on, decrementers}
+use Rattle.std.proofs.Common.{◌≡◌, ℕ, ◌<◌, inl, inr, Bool, true, false, cond, List, length, refl, sym, ◌∙◌, ap, subst, arith}
+use Rattle.hq_model.specs.Job.{Job, packet, Dependency, Decrements, completes_on}
 use Rattle.hq_model.specs.Machine.{is_complete}
 use Rattle.hq_model.specs.Machine.Phase.{Complete}
-use Rattle.hq_model.specs.Theorems.{Balanced}
-use Rattle.hq_model.proofs.Sums.{sum_to, sum_same}
-use Rattle.hq_model.proofs.Kept.{KeptBy, completions, count_at, one_at, decrementers_are, signal_of}
+use Rattle.hq_model.proofs.Sums.{sum_same}
+use Rattle.hq_model.proofs.Kept.{count_at, one_at, decrementers_are, signal_of}
 use Rattle.hq_board.specs.declared.entry.Entry.{Entry}
 use Rattle.hq_board.specs.declared.entry.View.{View}
 use Rattle.hq_board.specs.History.{after, Legal, Right, part}

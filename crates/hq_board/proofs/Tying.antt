@@ -1,24 +1,24 @@
 -- What the owner of a seat knows stays true with each of its steps.
-use Rattle.std.proofs.Common.{◌≡◌, ◌≢◌, ℕ, zero, suc, ◌+◌, ◌-◌, ◌<◌, ◌≤◌, ◌⊎◌, inl, inr, Bool, true, false, cond, List, [], ◌∷◌, length, get_or, set, refl, sym, ◌∙◌, ap, subst, arith, count_by, IsTrue, length-set}
+use Rattle.std.proofs.Common.{◌≡◌, ◌≢◌, ℕ, zero, suc, ◌+◌, ◌-◌, ◌<◌, inl, inr, Bool, true, false, cond, List, [], ◌∷◌, length, get_or, set, refl, sym, ◌∙◌, ap, subst, arith, count_by, length-set}
 use Rattle.std.proofs.lemmas.Bool.{cases_eq, true≢false}
 use Rattle.std.proofs.lemmas.List.{get_or-set_same, get_or-set_other}
-use Rattle.hq_model.specs.Job.{Job, packet, IsPacket, IsBarrier, Earlier}
+use Rattle.hq_model.specs.Job.{Job, IsBarrier, Earlier}
 use Rattle.hq_model.specs.Machine as machine
-use Rattle.hq_model.specs.Machine.{MayLaunch, is_launched, is_complete, put, put2}
+use Rattle.hq_model.specs.Machine.{MayLaunch, is_launched, is_complete, put}
 use Rattle.hq_model.specs.Machine.Phase.{Waiting, InQueue, Launched, Active, Complete}
-use Rattle.hq_model.proofs.Sums.{put_same, put_other, put2_same, put2_other}
+use Rattle.hq_model.proofs.Sums.{put_same, put_other}
 use Rattle.hq_job.specs.Access.{AreOfQueue}
 use Rattle.hq_events.specs.Phases.{named}
 use Rattle.hq_events.specs.declared.phase.Phase.{Phase}
 use Rattle.hq_events.specs.declared.phase.Phase.TheVariants as own
 use Rattle.hq_board.specs.declared.entry.Entry.{Entry}
-use Rattle.hq_board.specs.declared.entry.Entry.TheVariants.{DidLaunch, DidObserve, DidEnter, DidComplete, Looked}
+use Rattle.hq_board.specs.declared.entry.Entry.TheVariants.{DidLaunch}
 use Rattle.hq_board.specs.declared.entry.View.{View}
 use Rattle.hq_board.specs.declared.known.Known.{Known}
 use Rattle.hq_board.specs.History.{after, next}
 use Rattle.hq_board.specs.Rule.{added}
 use Rattle.hq_board.specs.Known.{Tied, is_done, log_of, phase_at}
-use Rattle.hq_board.proofs.Knowing.{any_default, count_first, count_none, bool, earlier_own}
+use Rattle.hq_board.proofs.Knowing.{earlier_own}
 
 -- the seat has one entry more; which packets it is of stays
 pub record Moved (old new : Known) (x : Entry) : Type 0 where

@@ -1,6 +1,6 @@
 -- The board as its callers see it, and what each call does to its seat's list.
-use Rattle.std.specs.Prelude.{◌≡◌, ℕ, ◌-◌, ◌<◌, List, ◌∷◌, length, All, slice_index, slice_get, Option, Some, None}
-use Rattle.std.specs.Prelude.{map, []}
+use Rattle.std.specs.Prelude.{◌≡◌, ℕ, ◌-◌, ◌<◌, List, ◌∷◌, length, slice_index, slice_get, Some}
+use Rattle.std.specs.Prelude.{[]}
 use Rattle.atomic_table.specs.Seated.{TableId}
 use Rattle.hq_job.specs.Plan.{plan}
 use Rattle.hq_job.specs.Value.{JobValue}
@@ -10,7 +10,7 @@ use Rattle.hq_board.specs.declared.entry.Entry.{Entry}
 use Rattle.hq_board.specs.declared.entry.Entry.TheVariants.{DidLaunch, DidObserve, DidEnter, DidComplete, Looked}
 use Rattle.hq_board.specs.declared.entry.View.{View}
 use Rattle.hq_board.specs.declared.fault.BoardFault.{BoardFault}
-use Rattle.hq_board.specs.declared.fault.BoardFault.TheVariants.{NotNext, NotZero, NotEntered, Memory}
+use Rattle.hq_board.specs.declared.fault.BoardFault.TheVariants.{NotNext, NotZero, NotEntered}
 use Rattle.hq_board.specs.declared.known.Known.{Known}
 use Rattle.hq_board.specs.History.{after, May, Legal, Right, part}
 use Rattle.hq_board.specs.Known.{Tied, log_of}

@@ -1,7 +1,7 @@
 -- What the owner of a seat knows of its queue's packets is what its list says.
 use Rattle.std.specs.Prelude.{◌≡◌, ◌≢◌, ℕ, suc, ◌+◌, ◌<◌, ◌≤◌, List, length, slice_index_or, slice_get, false, []}
 use Rattle.std.specs.Prelude.{IsTrue, Option, Some, Bool, count_by}
-use Rattle.hq_model.specs.Job.{Job, Kind, packet, IsPacket, IsBarrier}
+use Rattle.hq_model.specs.Job.{Job, Kind, packet, IsBarrier}
 use Rattle.hq_model.specs.Job.Kind.{Work, BarrierAnd, BarrierOr}
 use Rattle.hq_model.specs.Machine as machine
 use Rattle.hq_job.specs.Access.{AreOfQueue}

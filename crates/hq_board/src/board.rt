@@ -1,6 +1,6 @@
 //! The board and its calls.
 
-ghost use Rattle.std.specs.Prelude.{◌≡◌, ◌↔◌, ◌<◌, ℕ, length, false, IsTrue, MatchResult, IfOk, IfErr, OnOk, OnErr};
+ghost use Rattle.std.specs.Prelude.{◌≡◌, ◌↔◌, ◌<◌, length, false, IsTrue, MatchResult, IfOk, IfErr, OnOk, OnErr};
 ghost use Rattle.std.specs.Prelude.{All};
 ghost use Rattle.hq_board.specs.Calls.{AreInOrder, Closed, Completes, CompleteRefused, Enters, EnterRefused};
 ghost use Rattle.hq_board.specs.Calls.{HasNoList, IsSeatOf, Launches, LaunchRefused, Observes, ObserveRefused, job_of};

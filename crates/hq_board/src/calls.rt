@@ -1,13 +1,11 @@
 //! What the owner of a seat may do with the board's words. Each call takes one step on one word, or none where it
 //! is refused.
 
-ghost use Rattle.std.specs.Prelude.{◌≡◌, ◌<◌, ◌+◌, ℕ, length, MatchResult, slice_set, slice_index_or, [], true};
+ghost use Rattle.std.specs.Prelude.{◌≡◌, ◌<◌, ◌+◌, MatchResult, true};
 ghost use Rattle.hq_job.specs.Plan.{plan};
-ghost use Rattle.hq_model.specs.Machine.{MayLaunch};
 ghost use Rattle.hq_board.specs.Calls.{Completes, CompleteRefused, Enters, EnterRefused, Launches, LaunchRefused};
 ghost use Rattle.hq_board.specs.Calls.{Observes, ObserveRefused};
-ghost use Rattle.hq_board.specs.History.{after};
-ghost use Rattle.hq_board.specs.Known.{Tied, log_of};
+ghost use Rattle.hq_board.specs.Known.{Tied};
 
 use crate::fault::BoardFault;
 use crate::known::{Known, may_complete, may_enter, may_look, next_launch};

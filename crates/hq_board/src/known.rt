@@ -1,7 +1,7 @@
 //! What the owner of a seat knows of its queue's packets, beside the token whose list says so.
 
-ghost use Rattle.std.specs.Prelude.{◌≡◌, ◌≤◌, ◌+◌, ℕ, ◌<◌, length, true, MatchOption, MatchBool, IfOk, replicate};
-ghost use Rattle.std.specs.Prelude.{IsTrue, false, ◌↔◌, slice_index_or};
+ghost use Rattle.std.specs.Prelude.{◌≡◌, ◌+◌, ℕ, ◌<◌, length, true, MatchOption, IfOk, replicate};
+ghost use Rattle.std.specs.Prelude.{IsTrue, false, ◌↔◌};
 ghost use Rattle.hq_job.specs.Plan.{plan};
 ghost use Rattle.hq_tables.specs.Kinds.{kind_of};
 ghost use Rattle.hq_model.specs.Job.{packet as packet_of, Dependency};

@@ -1,6 +1,6 @@
 //! The seat of a queue.
 
-ghost use Rattle.std.specs.Prelude.{◌≡◌, ◌<◌, ◌++◌, [], false, length, IfOk};
+ghost use Rattle.std.specs.Prelude.{◌≡◌, ◌<◌, false, length, IfOk};
 ghost use Rattle.hq_board.specs.Known.{Tied};
 ghost use Rattle.hq_board.specs.Rule.{newcomer};
 ghost use Rattle.hq_job.specs.Plan.{plan};

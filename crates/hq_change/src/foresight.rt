@@ -5,7 +5,7 @@ ghost use Rattle.hq_job.specs.Plan.{plan};
 ghost use Rattle.hq_model.specs.Fence.{Ordered};
 ghost use Rattle.hq_model.specs.Job.{IsPacket};
 ghost use Rattle.hq_bits.specs.Bits.{has};
-ghost use Rattle.hq_rows.specs.Matrix.{IsSquare, Marks, row, words_for};
+ghost use Rattle.hq_rows.specs.Matrix.{Marks, row, words_for};
 ghost use Rattle.hq_order.specs.View.{AreOf};
 ghost use Rattle.hq_parts.specs.Parts.{AreParts};
 ghost use Rattle.hq_fence.specs.Judgement.{HaveConflict};

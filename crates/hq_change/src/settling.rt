@@ -1,6 +1,6 @@
 //! All heads lowered at one level, as far as the job stays ordered.
 
-ghost use Rattle.std.specs.Prelude.{◌≡◌, IfOk, OnOk};
+ghost use Rattle.std.specs.Prelude.{IfOk, OnOk};
 ghost use Rattle.hq_job.specs.Heads.{SameButHeads};
 ghost use Rattle.hq_job.specs.Plan.{plan};
 ghost use Rattle.hq_parts.specs.Parts.{AreParts};

@@ -1,5 +1,5 @@
 -- What is drawn of one more event.
-use Rattle.std.proofs.Common.{◌≡◌, ◌<◌, ◌+◌, ℕ, zero, suc, Bool, List, [], ◌∷◌, ◌++◌, Option, None, Some, length, take, slice_index_or, ap, refl, sym, subst, ◌∙◌, arith, append_assoc, append-nil, add-one, Result, Ok, Err, OnOk}
+use Rattle.std.proofs.Common.{◌≡◌, ◌<◌, ◌+◌, ℕ, zero, suc, Bool, List, [], ◌∷◌, ◌++◌, Option, None, Some, length, take, slice_index_or, ap, sym, subst, ◌∙◌, arith, append_assoc, append-nil, add-one, Result, Ok, Err, OnOk}
 use Rattle.std.specs.Io.KnownBytes.{Appends}
 use Rattle.hq_job.specs.Value.{JobValue}
 use Rattle.hq_events.specs.declared.event.Event.{Event}

@@ -1,6 +1,6 @@
 //! `hsaq chart`: a picture of a timeline.
 
-ghost use Rattle.std.specs.Prelude.{◌⊎◌, Bool, codes};
+ghost use Rattle.std.specs.Prelude.{◌⊎◌, codes};
 ghost use Rattle.hq_chart.specs.Chart.{chart_text};
 ghost use Rattle.hq_job.specs.Plan.{plan};
 ghost use Rattle.hq_timeline.specs.Replays.{NotReplayed};

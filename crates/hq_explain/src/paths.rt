@@ -1,14 +1,13 @@
 //! Why packets are before others, step by step.
 
-ghost use Rattle.std.specs.Prelude.{◌≡◌, ◌<◌, OnOk, Some, length};
+ghost use Rattle.std.specs.Prelude.{◌<◌, OnOk, Some, length};
 ghost use Rattle.std.specs.Io.KnownBytes.{Appends};
-ghost use Rattle.hq_job.specs.Plan.{plan};
 ghost use Rattle.hq_model.specs.Order as order;
 ghost use Rattle.hq_order.specs.Rounds.{IsFirstWithin};
 ghost use Rattle.hq_graph.specs.Graph.{Where, Wrote, named_by};
-ghost use Rattle.hq_graph.specs.Order.{HasRule, IsRule};
+ghost use Rattle.hq_graph.specs.Order.{HasRule};
 ghost use Rattle.hq_explain.specs.Explain.{PathText, StepsText};
-ghost use Rattle.hq_explain.specs.Texts.{path_title, rule_text, step_line, step_text};
+ghost use Rattle.hq_explain.specs.Texts.{path_title, rule_text, step_line};
 
 use hq_graph::{NameWord, Rule, named_by, rule_in};
 use hq_job::Job;

@@ -1,6 +1,6 @@
 //! The bytes that two packets share, and where they lie.
 
-ghost use Rattle.std.specs.Prelude.{◌≡◌, ◌∷◌, []};
+ghost use Rattle.std.specs.Prelude.{◌≡◌};
 ghost use Rattle.hq_explain.specs.Shared.{common, first_common, run_between, run_of};
 
 use hq_finding::Kind;

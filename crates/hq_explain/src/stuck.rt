@@ -10,7 +10,7 @@ ghost use Rattle.hq_graph.specs.Known.{TellsStuck};
 ghost use Rattle.hq_graph.specs.Order.{Awaits};
 ghost use Rattle.hq_graph.specs.declared.wait.Wait.{Wait as By};
 ghost use Rattle.hq_explain.specs.Explained.{IsFirstWait, StuckLine, StuckPart, StuckText};
-ghost use Rattle.hq_explain.specs.Texts.{stuck_line, wait_text, waiting_text, waiting_words, waits_line};
+ghost use Rattle.hq_explain.specs.Texts.{stuck_line, wait_text, waiting_words, waits_line};
 ghost use Rattle.hq_explain.specs.declared.fault.ExplainFault.TheVariants.{Memory};
 
 use crate::fault::ExplainFault;

@@ -5,7 +5,7 @@ ghost use Rattle.std.specs.Io.KnownBytes.{Appends};
 ghost use Rattle.hq_model.specs.Job.{IsPacket};
 ghost use Rattle.hq_model.specs.Order as order;
 ghost use Rattle.hq_graph.specs.Graph.{ConflictText, PairText, Wrote, acquire_text, awaited_by, awaited_text};
-ghost use Rattle.hq_graph.specs.Graph.{break_text, fault_text, kinds_text, named_by, name_of, open_text};
+ghost use Rattle.hq_graph.specs.Graph.{break_text, fault_text, kinds_text, named_by, open_text};
 ghost use Rattle.hq_graph.specs.Graph.{ordered_text, release_text, rule_text, rw_text, step_text, wait_line};
 ghost use Rattle.hq_graph.specs.Graph.{wait_text, wr_text, ww_text};
 ghost use Rattle.hq_graph.specs.Known.{Sees};

@@ -1,8 +1,8 @@
 //! Queues and their packets.
 
-ghost use Rattle.std.specs.Prelude.{◌≡◌, OnOk, Some, codes, length, slice_get, if◌then◌else◌};
+ghost use Rattle.std.specs.Prelude.{◌≡◌, OnOk, Some, codes, length, if◌then◌else◌};
 ghost use Rattle.std.specs.Io.KnownBytes.{Appends};
-ghost use Rattle.hq_graph.specs.Graph.{ClusterText, ClustersText, Each, Is, NodeText, Then, Wrote, agent_name};
+ghost use Rattle.hq_graph.specs.Graph.{ClusterText, ClustersText, Each, NodeText, Wrote, agent_name};
 ghost use Rattle.hq_graph.specs.Graph.{bit_text, cluster_text, color_text, head_text, kernel_of, kernel_place};
 ghost use Rattle.hq_graph.specs.Graph.{label_text, node_of, node_text, node_there, queue_label, queue_line};
 ghost use Rattle.hq_graph.specs.Graph.{queue_text, work_of, work_of_kernel, work_text};

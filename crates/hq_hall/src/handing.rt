@@ -1,6 +1,6 @@
 //! The pieces that packets are handed, and those that they bring back.
 
-ghost use Rattle.std.specs.Prelude.{◌≡◌, ◌<◌, ◌≤◌, ◌+◌, ◌^◌, ◌++◌, ◌∷◌, [], ℕ, ◌↔◌, IsTrue, IfOk, OnOk, All};
+ghost use Rattle.std.specs.Prelude.{◌≡◌, ◌<◌, ◌≤◌, ◌+◌, ◌++◌, ◌∷◌, [], IfOk, OnOk, All};
 ghost use Rattle.std.specs.Prelude.{length, map, replicate};
 ghost use Rattle.hq_footprint.specs.Bytes.{bytes_of, read_entries};
 ghost use Rattle.hq_hall.specs.Handing.{piece, pieces_of, read_pieces, write_pieces};

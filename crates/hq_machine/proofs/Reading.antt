@@ -1,5 +1,5 @@
 -- Reads.
-use Rattle.std.proofs.Common.{◌≡◌, ℕ, ◌<◌, ◌≤◌, MatchOption, inl, inr, List, [], cond, eqb, Option, Some, None, IsSome, is_some, length, set, get_or, slice_index, sym, ◌∙◌, ap, subst, arith, length-set, get_or-set_same, get_or-set_other}
+use Rattle.std.proofs.Common.{◌≡◌, ℕ, ◌<◌, ◌≤◌, MatchOption, inl, inr, List, [], Option, Some, None, IsSome, is_some, length, set, get_or, slice_index, sym, ◌∙◌, ap, subst, arith, length-set, get_or-set_same, get_or-set_other}
 use Rattle.std.proofs.lemmas.Bool.{cases_eq, cases_lt, true≢false}
 use Rattle.hq_model.specs.Job.{Job, packet, IsPacket}
 use Rattle.hq_model.specs.Machine.{State, bytes_stored, lane_sees, put2}

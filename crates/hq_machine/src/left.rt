@@ -1,6 +1,6 @@
 //! The work that is left.
 
-ghost use Rattle.std.specs.Prelude.{◌≡◌, ◌<◌, ℕ, length, MatchOption};
+ghost use Rattle.std.specs.Prelude.{◌<◌, ℕ, length, MatchOption};
 ghost use Rattle.hq_job.specs.Plan.{plan};
 ghost use Rattle.hq_model.specs.Job.{IsPacket, packet as packet_of};
 ghost use Rattle.hq_model.specs.Machine.{NoWorkLeft, Event as Step};

@@ -1,6 +1,6 @@
 //! `hsaq run`: a job's buffers after a run of its queues, each by a thread of its own.
 
-ghost use Rattle.std.specs.Prelude.{◌≡◌, ◌⊎◌, ◌++◌, [], Some, MatchOption, length, codes};
+ghost use Rattle.std.specs.Prelude.{◌≡◌, ◌⊎◌, [], Some, MatchOption, length, codes};
 ghost use Rattle.hq_job.specs.Plan.{plan};
 ghost use Rattle.hq_kernels.specs.Kits.{KitsFit, bodies_of};
 ghost use Rattle.hq_timeline.specs.Printed.{text_of};

@@ -1,6 +1,6 @@
 //! A run from its start to its end.
 
-ghost use Rattle.std.specs.Prelude.{◌≡◌, IfOk, IfErr, length};
+ghost use Rattle.std.specs.Prelude.{IfOk, IfErr};
 ghost use Rattle.hq_job.specs.Plan.{plan};
 ghost use Rattle.hq_kernels.specs.Kits.{KitsFit, bodies_of};
 ghost use Rattle.hq_runner.specs.Journals.{IsOneByOne, IsWhole};

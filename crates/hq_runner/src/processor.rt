@@ -1,15 +1,12 @@
 //! What a queue's processor does for a packet.
 
-ghost use Rattle.std.specs.Prelude.{◌≡◌, ℕ, ◌<◌, ◌≤◌, ◌++◌, ◌∷◌, [], true, take, IfOk, OnOk, length, map};
-ghost use Rattle.hq_footprint.specs.declared.task.Task.{Task};
-ghost use Rattle.hq_job.specs.Plan.{plan};
+ghost use Rattle.std.specs.Prelude.{◌≡◌, ◌<◌, ◌++◌, ◌∷◌, [], true, IfOk, OnOk, map};
 ghost use Rattle.hq_kernels.specs.Kits.{value_of};
 ghost use Rattle.hq_events.specs.Events.{coarse_of};
 ghost use Rattle.hq_model.specs.Journal.Coarse.{One, Complete};
 ghost use Rattle.hq_model.specs.Journal.{observations};
 ghost use Rattle.hq_model.specs.Machine as machine;
-ghost use Rattle.hq_runner.specs.Kits.{AllRan, tasks_of};
-ghost use Rattle.hq_runner.specs.Lists.{ByOne, Did, work_events};
+ghost use Rattle.hq_runner.specs.Lists.{ByOne, work_events};
 ghost use Rattle.hq_runner.specs.Pieces.{AreFor, IsWorked};
 
 use crate::asking::{Desk, ask, ask_all, ask_deliver, ask_fetch, ask_one};

@@ -1,6 +1,6 @@
 //! What a queue's processor does for all packets of its queue.
 
-ghost use Rattle.std.specs.Prelude.{◌≡◌, ℕ, ◌<◌, ◌≤◌, [], take, IfOk, OnOk, length};
+ghost use Rattle.std.specs.Prelude.{◌≡◌, ◌<◌, ◌≤◌, [], take, IfOk, OnOk, length};
 ghost use Rattle.hq_job.specs.Plan.{plan};
 ghost use Rattle.hq_runner.specs.Ended.{Done};
 ghost use Rattle.hq_runner.specs.Kits.{AllRan, tasks_of};

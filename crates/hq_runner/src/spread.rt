@@ -1,6 +1,6 @@
 //! One call for each job, each in a thread of its own.
 
-ghost use Rattle.std.specs.Prelude.{◌≡◌, IfOk};
+ghost use Rattle.std.specs.Prelude.{IfOk};
 ghost use denote.Param.Send.{IsSend, IsSync};
 ghost use Rattle.hq_runner.specs.Spread.{Accepts, Gives};
 

@@ -1,6 +1,6 @@
 //! A thread for each queue, and one for the host.
 
-ghost use Rattle.std.specs.Prelude.{◌≡◌, ℕ, ◌<◌, ◌≤◌, IfOk, false, length, map};
+ghost use Rattle.std.specs.Prelude.{◌≡◌, ◌<◌, ◌≤◌, IfOk, false, length, map};
 ghost use Rattle.hq_job.specs.Plan.{plan};
 ghost use Rattle.hq_runner.specs.Ended.{AllDone, Done};
 ghost use Rattle.hq_runner.specs.Hosted.{HostDone};

@@ -1,4 +1,4 @@
-use Rattle.std.proofs.Common.{◌≡◌, sym, ◌∙◌, subst, Option, Some, None}
+use Rattle.std.proofs.Common.{◌≡◌, sym, ◌∙◌, subst, Some, None}
 use Rattle.hq_job.specs.Plan.{plan}
 use Rattle.hq_board.specs.History.{after}
 use Rattle.hq_board.specs.Known.{IsOpen, log_of}

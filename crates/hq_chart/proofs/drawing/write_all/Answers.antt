@@ -1,4 +1,4 @@
-use Rattle.std.proofs.Common.{length, codes, subst, ◌++◌, List, ℕ}
+use Rattle.std.proofs.Common.{length, codes, subst, ◌++◌}
 use Rattle.std.specs.Io.KnownBytes.{Appends}
 use Rattle.hq_chart.specs.Chart.{head_text, rows_text, agents_drawn, agents_text, events_text, left_text, end_text}
 use Rattle.hq_chart.specs.Rows.{rows_after}

@@ -1,4 +1,4 @@
-use Rattle.std.proofs.Common.{◌≡◌, ◌/◌, arith, subst}
+use Rattle.std.proofs.Common.{arith, subst}
 use Rattle.hq_copies.proofs.Finds.{RunsPassed, runs_none, runs_one, found_outside, found_inside}
 use Rattle.hq_copies.proofs.runs.find.Goals as goal
 

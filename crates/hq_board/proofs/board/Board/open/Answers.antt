@@ -1,5 +1,5 @@
 use Rattle.std.proofs.lemmas.Grind.{common_steps}
-use Rattle.std.proofs.Common.{refl, ◌∙◌, ◌+◌, ◌++◌, ◌∷◌, [], subst, sym, ap, arith}
+use Rattle.std.proofs.Common.{◌∙◌, ◌+◌, ◌++◌, ◌∷◌, [], subst, sym, ap, arith}
 use Rattle.std.specs.Prelude.{All, if◌then◌else◌, is_ok}
 use Rattle.std.proofs.lemmas.List.Elements.{All-append}
 use Rattle.hq_board.specs.declared.entry.View.{View}

@@ -1,4 +1,4 @@
-use Rattle.std.proofs.Common.{rules, refl, ◌∙◌, sym, ap}
+use Rattle.std.proofs.Common.{rules, refl}
 use Rattle.hq_job.specs.Plan.{plan}
 use Rattle.hq_board.proofs.Knowing.{new_tied, queue_near, span_from}
 use Rattle.hq_board.proofs.known.Known.new.Goals as goal

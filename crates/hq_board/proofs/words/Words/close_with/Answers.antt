@@ -1,4 +1,4 @@
-use Rattle.std.proofs.Common.{sym, subst, ◌∙◌}
+use Rattle.std.proofs.Common.{subst, ◌∙◌}
 use Rattle.std.specs.Slots.{slots_items}
 use Rattle.hq_job.specs.Plan.{plan}
 use Rattle.hq_board.specs.Rule.{HasHistory}

@@ -1,7 +1,6 @@
-use Rattle.std.proofs.Common.{refl, sym, ◌∙◌, ap, subst, arith, ◌∷◌}
+use Rattle.std.proofs.Common.{refl, ◌∙◌, ap, subst, arith, ◌∷◌}
 use Rattle.hq_job.specs.Plan.{plan}
 use Rattle.hq_model.specs.Job.{packet}
-use Rattle.hq_board.specs.declared.entry.Entry.TheVariants.{Looked}
 use Rattle.hq_board.specs.Known.{log_of}
 use Rattle.hq_board.specs.Rule.{IsSettled}
 use Rattle.hq_board.proofs.Knowing.{own_packet}

@@ -1,4 +1,4 @@
-use Rattle.std.proofs.Common.{◌≡◌, ℕ}
+use Rattle.std.proofs.Common.{◌≡◌}
 use Rattle.hq_job.specs.Plan.{plan}
 use Rattle.hq_board.specs.Rule.{IsSettled, seen}
 use Rattle.hq_board.proofs.words.Words.observe.Given as goal

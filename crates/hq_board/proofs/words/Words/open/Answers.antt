@@ -1,4 +1,4 @@
-use Rattle.std.proofs.Common.{◌∙◌, sym, ap}
+use Rattle.std.proofs.Common.{◌∙◌}
 use Rattle.hq_job.specs.Plan.{plan}
 use Rattle.hq_board.proofs.Opening.{fits, word_count}
 use Rattle.hq_board.proofs.Steps.{opens}

@@ -1,4 +1,4 @@
-use Rattle.std.proofs.Common.{◌+◌, ◌≤◌, ◌<◌, inl, inr, arith, length}
+use Rattle.std.proofs.Common.{◌+◌, ◌<◌, inl, inr, arith, length}
 use Rattle.std.proofs.lemmas.Bool.{cases_lt}
 use Rattle.hq_machine.proofs.state.State.behind_launched.Goals as goal
 
