@@ -1,9 +1,10 @@
--- What is known of the drafts of some packets with those above them: part k has those of the packets from 128 * k on,
--- 128 of them.
+-- What is known of the drafts of some packets with those above them: part k has those of ROWS packets, from packet
+-- k * ROWS on.
 use Rattle.std.specs.Prelude.{ℕ, ◌+◌, ◌*◌, ◌<◌, ◌≤◌, ◌⊎◌, List, IfSome, Option, length, slice_index_or}
 use Rattle.hq_model.specs.Job.{Job, IsPacket}
 use Rattle.hq_audit.specs.declared.draft.Draft.{Draft}
 use Rattle.hq_audit.specs.declared.drafting.Drafts.{Drafts}
+use Rattle.hq_audit.specs.declared.spreading.TheConstants.{ROWS}
 use Rattle.hq_audit.specs.Drafted.{drafts_of, AreDrafts}
 use Rattle.hq_audit.specs.Paired.{HasAll, RowsPaired, AllPaired}
 use Rattle.hq_audit.specs.Refused.{ShownOneWay, RowsShown, AllShown}
@@ -26,15 +27,15 @@ pub record DraftsRows (job : Job) (a b : ℕ) (drafts : Drafts) : Type 0 where
 
 -- so are those of each part, where it is there
 abbrev pub MayDraft : Job → ℕ → Option Drafts → Type 0
-MayDraft job k drafts = IfSome drafts (DraftsRows job (k * 128) (k * 128 + 128))
+MayDraft job k drafts = IfSome drafts (DraftsRows job (k * ROWS) (k * ROWS + ROWS))
 
 -- so it is for all of these parts
 abbrev pub AllMayDraft : Job → List (Option Drafts) → Type 0
 AllMayDraft job parts = (k : ℕ) (d : Option Drafts) → k < length parts → MayDraft job k (slice_index_or parts k d)
 
--- there are all parts of a job
+-- so many parts have all packets of a job
 abbrev pub IsWhole : Job → ℕ → Type 0
-IsWhole job count = length job.packets < count * 128
+IsWhole job count = length job.packets ≤ count * ROWS
 
 -- the drafts of all packets up to one
 pub record DraftsUpto (job : Job) (a : ℕ) (drafts : Drafts) : Type 0 where

@@ -1,14 +1,14 @@
 //! Drafts of pair lines with the numbers of the lines that these cite.
 
-ghost use Rattle.std.specs.Prelude.{◌≡◌, IfOk, OnOk, MatchOption, IsTrue, false, true, length, map};
+ghost use Rattle.std.specs.Prelude.{◌≡◌, IfOk, OnOk, MatchOption, false, true, length, map};
 ghost use Rattle.hq_job.specs.Plan.{plan};
-ghost use Rattle.hq_model.specs.Certificate.{Cites, FencesHold, kind_of};
+ghost use Rattle.hq_model.specs.Certificate.{Cites, FencesHold};
 ghost use Rattle.hq_model.specs.Certificate.Fences.{ForWriteWriteChained, ForWriteReadChained};
 ghost use Rattle.hq_cert.specs.View.{cited, fences_of, pair_of};
 ghost use Rattle.hq_fence.specs.Judgement.{IsRelease, IsAcquire, ReleasesBefore, ReleasesToAcquire};
 ghost use Rattle.hq_fence.specs.declared.shown.Release.TheVariants as release;
 ghost use Rattle.hq_fence.specs.declared.shown.Acquire.TheVariants as acquire;
-ghost use Rattle.hq_derive.specs.Gathered.{lines_of, AllEntered};
+ghost use Rattle.hq_derive.specs.Gathered.{lines_of};
 ghost use Rattle.hq_derive.specs.Needed.{HasLine};
 ghost use Rattle.hq_audit.specs.Drafted.{is_chained, listed, Upto, KnownForRelease, KnownForAcquire, KnownFor, IsDraft};
 ghost use Rattle.hq_audit.specs.Drafted.{AllDrafts};
@@ -45,8 +45,7 @@ pub struct CitedAcquire {
 /// The citation that p is x, or before it.
 #[inline(always)]
 fn cite(lines: &Lines, p: usize, x: usize) -> Citation
-    requires entered { AllEntered lines.now }
-    requires there { Upto (HasLine (lines_of lines.now)) p x }
+    requires { Upto (HasLine (lines_of lines.now)) p x }
     ensures { Cites (lines_of lines.now) (length (lines_of lines.now)) (cited result) p x }
 {
     if p == x {
@@ -58,7 +57,6 @@ fn cite(lines: &Lines, p: usize, x: usize) -> Citation
 /// Two writes, of which x alone releases the first.
 #[inline(always)]
 fn write_write(lines: &Lines, job: &Job, p: usize, r: usize, x: u16) -> Fences
-    requires entered { AllEntered lines.now }
     requires released { ReleasesBefore (plan job.now) p r (release.Alone x) }
     requires from { Upto (HasLine (lines_of lines.now)) p x }
     requires on { HasLine (lines_of lines.now) x r }
@@ -76,7 +74,6 @@ fn write_write(lines: &Lines, job: &Job, p: usize, r: usize, x: u16) -> Fences
 /// A write and a read, where x alone releases and y alone acquires.
 #[inline(always)]
 fn write_read(lines: &Lines, job: &Job, p: usize, r: usize, x: u16, y: u16) -> Fences
-    requires entered { AllEntered lines.now }
     requires fences { ReleasesToAcquire (plan job.now) p r (release.Alone x, acquire.Alone y) }
     requires from { Upto (HasLine (lines_of lines.now)) p x }
     requires between { HasLine (lines_of lines.now) x y }
@@ -96,7 +93,6 @@ fn write_read(lines: &Lines, job: &Job, p: usize, r: usize, x: u16, y: u16) -> F
 
 /// Two writes, of which x, and then x2, release the first.
 fn write_chain(lines: &Lines, job: &Job, p: usize, r: usize, x: u16, x2: u16) -> WriteChain
-    requires entered { AllEntered lines.now }
     requires released { ReleasesBefore (plan job.now) p r (release.Chained x x2) }
     requires from { Upto (HasLine (lines_of lines.now)) p x }
     requires link { HasLine (lines_of lines.now) x x2 }
@@ -115,7 +111,6 @@ fn write_chain(lines: &Lines, job: &Job, p: usize, r: usize, x: u16, x2: u16) ->
 
 /// What is cited for a release of p.
 fn cite_release(lines: &Lines, job: &Job, p: usize, r: usize, release: Release) -> CitedRelease
-    requires entered { AllEntered lines.now }
     requires release { IsRelease (plan job.now) p r release }
     requires known { KnownForRelease (HasLine (lines_of lines.now)) p release }
     ensures { ReleaseCited (plan job.now) (lines_of lines.now) p r release result }
@@ -138,7 +133,6 @@ fn cite_release(lines: &Lines, job: &Job, p: usize, r: usize, release: Release) 
 
 /// What is cited for an acquire for r.
 fn cite_acquire(lines: &Lines, job: &Job, p: usize, r: usize, acquire: Acquire) -> CitedAcquire
-    requires entered { AllEntered lines.now }
     requires acquire { IsAcquire (plan job.now) p r acquire }
     requires known { KnownForAcquire (HasLine (lines_of lines.now)) r acquire }
     ensures { AcquireCited (plan job.now) (lines_of lines.now) p r acquire result }
@@ -168,7 +162,6 @@ fn read_chain(
     release: Release,
     acquire: Acquire,
 ) -> ReadChain
-    requires entered { AllEntered lines.now }
     requires fences { ReleasesToAcquire (plan job.now) p r (release, acquire) }
     requires known { KnownFor (HasLine (lines_of lines.now)) p r (Means.WriteRead release acquire) }
     requires chained { is_chained (Means.WriteRead release acquire) ≡ true }
@@ -194,8 +187,7 @@ fn read_chain(
 /// The fences of a draft that isn't chained, with what they cite.
 #[inline(always)]
 fn plain_fences(lines: &Lines, job: &Job, draft: Draft) -> Option<Fences>
-    requires entered { AllEntered lines.now }
-    requires is { IsDraft (plan job.now) (HasLine (lines_of lines.now)) draft }
+    requires { IsDraft (plan job.now) (HasLine (lines_of lines.now)) draft }
     ensures { MatchOption result (is_chained draft.means ≡ true)
         (λ f. HoldFor (plan job.now) (lines_of lines.now) draft.p draft.r draft.means (fences_of f)
         × IsPlain (fences_of f)) }
@@ -214,8 +206,7 @@ fn plain_fences(lines: &Lines, job: &Job, draft: Draft) -> Option<Fences>
 
 /// The fences of a draft, with what they cite. Chained ones take memory of their own.
 fn fences(alloc: Global, lines: &Lines, job: &Job, draft: Draft) -> Result<Fences, AllocError>
-    requires entered { AllEntered lines.now }
-    requires is { IsDraft (plan job.now) (HasLine (lines_of lines.now)) draft }
+    requires { IsDraft (plan job.now) (HasLine (lines_of lines.now)) draft }
     ensures { IfOk result
         (λ f. HoldFor (plan job.now) (lines_of lines.now) draft.p draft.r draft.means (fences_of f)) }
 {
@@ -239,7 +230,6 @@ fn fences(alloc: Global, lines: &Lines, job: &Job, draft: Draft) -> Result<Fence
 /// The pair line of a draft that isn't chained.
 #[inline(always)]
 pub fn plain_pair(lines: &Lines, job: &Job, draft: Draft) -> Pair
-    requires entered { AllEntered lines.now }
     requires is { IsDraft (plan job.now) (HasLine (lines_of lines.now)) draft }
     requires plain { is_chained draft.means ≡ false }
     ensures is { IsPairOf (plan job.now) (lines_of lines.now) draft (pair_of result) }
@@ -254,8 +244,7 @@ pub fn plain_pair(lines: &Lines, job: &Job, draft: Draft) -> Pair
 
 /// The pair line of a draft.
 fn pair(alloc: Global, lines: &Lines, job: &Job, draft: Draft) -> Result<Pair, AllocError>
-    requires entered { AllEntered lines.now }
-    requires is { IsDraft (plan job.now) (HasLine (lines_of lines.now)) draft }
+    requires { IsDraft (plan job.now) (HasLine (lines_of lines.now)) draft }
     ensures { IfOk result (λ pair. IsPairOf (plan job.now) (lines_of lines.now) draft (pair_of pair)) }
 {
     Ok(Pair {
@@ -273,8 +262,7 @@ fn cite_list(
     job: &Job,
     drafts: &[Packed],
 ) -> Result<(), AllocError>
-    requires entered { AllEntered lines.now }
-    requires are { AllDrafts (plan job.now) (HasLine (lines_of lines.now)) (map unpacked drafts.now) }
+    requires { AllDrafts (plan job.now) (HasLine (lines_of lines.now)) (map unpacked drafts.now) }
     ensures { OnOk result
         (PairsGo (plan job.now) (lines_of lines.now) (map unpacked drafts.now) pairs.old pairs.new) }
 {
@@ -291,8 +279,7 @@ pub fn cite_all(
     job: &Job,
     lists: &[Vec<Packed>],
 ) -> Result<Vec<Pair>, AllocError>
-    requires entered { AllEntered lines.now }
-    requires are { AllDrafts (plan job.now) (HasLine (lines_of lines.now)) (listed lists.now) }
+    requires { AllDrafts (plan job.now) (HasLine (lines_of lines.now)) (listed lists.now) }
     ensures { IfOk result
         (λ pairs. ArePairsOf (plan job.now) (lines_of lines.now) (listed lists.now) (pairs_of pairs)) }
 {

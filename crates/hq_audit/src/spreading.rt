@@ -1,6 +1,6 @@
 //! Drafts as pairs are judged in many threads.
 
-ghost use Rattle.std.specs.Prelude.{◌≡◌, ◌+◌, ◌*◌, ◌<◌, IfOk, IfSome, IsTrue, length};
+ghost use Rattle.std.specs.Prelude.{◌+◌, ◌*◌, ◌<◌, IfOk, IfSome, IsTrue, length};
 ghost use Rattle.hq_parts.specs.Parts.{AreParts};
 ghost use Rattle.hq_audit.specs.Drafted.{AreDrafts};
 ghost use Rattle.hq_audit.specs.Rowed.{DraftsRows, DraftsUpto, DraftsAll, MayDraft, AllMayDraft, IsWhole};
@@ -15,7 +15,7 @@ use std::thread;
 use std::thread::Threads;
 
 /// How many packets a part has, whose pairs with those above them are judged in a thread of their own.
-const ROWS: usize = 128;
+pub const ROWS: usize = 128;
 
 /// The drafts of the packets from one on, up to another, with those above them. The error says nothing of
 /// packets ahead of these.
@@ -60,7 +60,7 @@ fn draft_parts<R: Threads + Sync>(
     ensures whole { IfSome result (λ all. IsWhole before.now (length all.items)) }
 {
     before.job().valid();
-    let count = before.len() / ROWS + 1;
+    let count = before.len().div_ceil(ROWS);
     let drafted = thread::map_indices(
         rt,
         alloc,
@@ -90,7 +90,7 @@ fn no_drafts(alloc: Global, before: &Before) -> Option<Drafts>
 fn join(alloc: Global, all: &mut Drafts, before: &Before, parts: &mut [Option<Drafts>]) -> bool
     requires parts { AllMayDraft before.now parts.old }
     requires are { AreDrafts before.now all.old }
-    ensures { IsTrue result → DraftsUpto before.now (length parts.old * 128) all.new }
+    ensures { IsTrue result → DraftsUpto before.now (length parts.old * ROWS) all.new }
 {
     for part in parts.iter_mut() {
         let Some(drafts) = part else {

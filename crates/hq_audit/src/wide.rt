@@ -22,11 +22,12 @@ use std::alloc::Global;
 use std::thread;
 use std::thread::Threads;
 
-/// Of how many packets one is looked at to tell how much there is to be judged.
-const STEP: usize = 16;
+/// Of how many packets one is looked at to tell how much there is to be judged. What packets do mostly comes again
+/// after an even number of them, so it is an odd one.
+const STEP: usize = 13;
 
 /// How many packets each one may conflict with, at the mean, where judging is worth more than one thread.
-const MANY: u32 = 256;
+const MANY: u32 = 64;
 
 /// Whether there are processors for more than one thread.
 fn has_processors(rt: &impl Threads) -> bool {

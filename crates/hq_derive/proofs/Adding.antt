@@ -1,5 +1,5 @@
 -- A line is added.
-use Rattle.std.proofs.Common.{◌≡◌, ℕ, ◌+◌, ◌-◌, ◌^◌, ◌<◌, inl, inr, List, [], ◌∷◌, ◌++◌, length, refl, sym, ◌∙◌, ap, subst, arith, Some, slice_get, slice_index_or, length-append}
+use Rattle.std.proofs.Common.{◌≡◌, ℕ, ◌+◌, ◌^◌, ◌<◌, inl, inr, List, [], ◌∷◌, ◌++◌, length, refl, sym, ◌∙◌, ap, subst, arith, Some, slice_get, length-append}
 use Rattle.std.proofs.lemmas.Bool.{cases_lt}
 use Rattle.std.proofs.lemmas.Option.{slice_get_within, same_Some}
 use Rattle.hq_job.proofs.Grouped.{get_before, get_after}
@@ -8,17 +8,15 @@ use Rattle.hq_cert.specs.View.{rule_of}
 use Rattle.hq_model.specs.Job.{Job, IsPacket}
 use Rattle.hq_model.specs.Certificate as model
 use Rattle.hq_model.specs.Certificate.{Says, Follows}
-use Rattle.std.specs.Prelude.{All}
-use Rattle.hq_derive.specs.declared.lines.Entry.{Entry}
 use Rattle.hq_derive.specs.declared.lines.Lines.{Lines}
-use Rattle.hq_derive.specs.Gathered.{lines_of, AllEntered, AllFollow, EntrySays, AreSound, Grown, Goes, Numbered}
-use Rattle.hq_derive.proofs.Growing.{grown_same, grown_more, grown_by, says_more, follows_more}
+use Rattle.hq_derive.specs.Gathered.{lines_of, AllFollow, AreSound, Grown, Goes, AddsLine, Numbered}
+use Rattle.hq_derive.proofs.Growing.{grown_same, grown_more, grown_by, follows_more}
 
 pub goes_same : (job : Job) (l : Lines) → AreSound job l → Goes job l l
-goes_same job l k = record { kept = k; grown = grown_same (lines_of l) }
+goes_same job l k = record { kept = k; grown = grown_same (lines_of l); slots = refl }
 
 pub goes_more : (job : Job) (a b c : Lines) → Goes job a b → Goes job b c → Goes job a c
-goes_more job a b c g h = record { kept = h.kept; grown = grown_more (lines_of a) (lines_of b) (lines_of c) g.grown h.grown }
+goes_more job a b c g h = record { kept = h.kept; grown = grown_more (lines_of a) (lines_of b) (lines_of c) g.grown h.grown; slots = h.slots ∙ g.slots }
 
 pub last_there : (lines : List model.Line) (x : model.Line) → slice_get (lines ++ x ∷ []) (length lines) ≡ Some x
 last_there lines x = let e : length lines ≡ length lines + 0 = omega arith in ap (slice_get (lines ++ x ∷ [])) e ∙ get_after lines (x ∷ []) 0
@@ -44,7 +42,7 @@ line_by p r rule = record { p = p; r = r; rule = rule_of rule }
 pub record Added (old new : Lines) (p r : ℕ) (rule : Rule) (k : ℕ) : Type 0 where
   pub lines : lines_of new ≡ lines_of old ++ line_by p r rule ∷ []
   pub number : k ≡ length (lines_of old)
-  pub entered : AllEntered old → AllEntered new
+  pub slots : new.slots ≡ old.slots
 
 grown_added : (old new : Lines) (p r : ℕ) (rule : Rule) (k : ℕ) → Added old new p r rule k → Grown (lines_of old) (lines_of new)
 grown_added old new p r rule k a = subst (Grown (lines_of old)) (sym a.lines) (grown_by (lines_of old) (line_by p r rule ∷ []))
@@ -59,23 +57,19 @@ says_added old new p r rule k a = record {
 }
 
 pub kept_added : (job : Job) (old new : Lines) (p r : ℕ) (rule : Rule) → AreSound job old → Follows job (lines_of old) (length (lines_of old)) p r (rule_of rule)
-    → lines_of new ≡ lines_of old ++ line_by p r rule ∷ [] → (AllEntered old → AllEntered new) → AreSound job new
-kept_added job old new p r rule kept f added entered = record {
+    → lines_of new ≡ lines_of old ++ line_by p r rule ∷ [] → AreSound job new
+kept_added job old new p r rule kept f added = record {
   few = kept.few;
   follow = subst (AllFollow job) (sym added) (follow_more job (lines_of old) (line_by p r rule) kept.follow f);
-  entered = entered kept.entered;
 }
-
--- the numbers at slots stay right as lines are added
-entered_more : (old new : List model.Line) (entries : List Entry) → Grown old new → All (EntrySays old) entries → All (EntrySays new) entries
-entered_more old new entries g all = λ k d low. λ there. let e = slice_index_or entries k d in says_more old new (length old) (length new) (e.next - 1) e.p e.r g g.len (all k d low there)
 
 pub numbered_added : (job : Job) (old new : Lines) (p r : ℕ) (rule : Rule) (k : ℕ) → AreSound job old → IsPacket job p → IsPacket job r
     → Follows job (lines_of old) (length (lines_of old)) p r (rule_of rule) → Added old new p r rule k → k + 1 < 2 ^ 32 → Numbered job old new p r k
 numbered_added job old new p r rule k kept a b f added small = record {
   goes = record {
-    kept = kept_added job old new p r rule kept f added.lines added.entered;
+    kept = kept_added job old new p r rule kept f added.lines;
     grown = grown_added old new p r rule k added;
+    slots = added.slots;
   };
   says = says_added old new p r rule k added;
   small = small;
@@ -84,16 +78,13 @@ numbered_added job old new p r rule k kept a b f added small = record {
 pub numbered_from : (job : Job) (a b c : Lines) (p r k : ℕ) → Goes job a b → Numbered job b c p r k → Numbered job a c p r k
 numbered_from job a b c p r k g n = record { goes = goes_more job a b c g n.goes; says = n.says; small = n.small }
 
--- ---- a line is pushed
+-- ---- a line that cites none
 
-pub says_pushed : (old new : List model.Line) (x : model.Line) (k : ℕ) → new ≡ old ++ x ∷ [] → k ≡ length old → Says new (length new) k x.p x.r
-says_pushed old new x k e at = record {
-  lower = omega (arith, ap length e, length-append old (x ∷ []), at);
-  line = x;
-  there = ap (λ ls. slice_get ls k) e ∙ ap (slice_get (old ++ x ∷ [])) at ∙ last_there old x;
-  first = refl;
-  second = refl;
-}
-
-pub entered_pushed : (old new : List model.Line) (x : model.Line) (entries : List Entry) → new ≡ old ++ x ∷ [] → All (EntrySays old) entries → All (EntrySays new) entries
-entered_pushed old new x entries e all = entered_more old new entries (subst (Grown old) (sym e) (grown_by old (x ∷ []))) all
+pub adds_line : (job : Job) (old new : Lines) (p r : ℕ) (rule : Rule) → AreSound job old → Follows job (lines_of old) (length (lines_of old)) p r (rule_of rule)
+    → lines_of new ≡ lines_of old ++ line_by p r rule ∷ [] → length (lines_of old) + 1 < 2 ^ 32 → new.slots ≡ old.slots → AddsLine job old new p r
+adds_line job old new p r rule kept f e small same =
+    let added : Added old new p r rule (length (lines_of old)) = record { lines = e; number = refl; slots = same } in
+    record {
+      goes = record { kept = kept_added job old new p r rule kept f e; grown = grown_added old new p r rule (length (lines_of old)) added; slots = same };
+      there = (length (lines_of old), (says_added old new p r rule (length (lines_of old)) added, small));
+    }

@@ -13,7 +13,7 @@ use Rattle.hq_model.specs.Certificate.Rule.{Or as OrRule, Through as ThroughRule
 use Rattle.hq_order.specs.Rounds.{ByOr}
 use Rattle.hq_derive.specs.declared.lines.Lines.{Lines}
 use Rattle.hq_derive.specs.Rests.{Below, ByBranch}
-use Rattle.hq_derive.specs.Gathered.{lines_of, AllEntered, Grown, Goes, Numbered, CitesBranch, Branched, AllBranched}
+use Rattle.hq_derive.specs.Gathered.{lines_of, Grown, Goes, Numbered, CitesBranch, Branched, AllBranched}
 use Rattle.hq_derive.proofs.Growing.{zip_more, cites_more, says_more}
 use Rattle.hq_derive.proofs.Adding.{goes_more, numbered_added, numbered_from, line_by}
 
@@ -78,8 +78,8 @@ pub add_answers : {E : Type 0} (job : Job) (a b d : Lines) (p r : ℕ) (rule : R
     → IfOk result (λ _. lines_of d ≡ lines_of b ++ line_by p r rule ∷ [])
     → IfOk result (λ k. k ≡ length (lines_of b))
     → IfOk result (λ k. k + 1 < 2 ^ 32)
-    → IfOk result (λ _. AllEntered b → AllEntered d)
+    → IfOk result (λ _. d.slots ≡ b.slots)
     → IfOk result (λ k. Numbered job a d p r k)
-add_answers job a b d p r rule (Ok k) g p_is r_is f l i s t =
-    numbered_from job a b d p r k g (numbered_added job b d p r rule k g.kept p_is r_is f (record { lines = l; number = i; entered = t }) s)
-add_answers job a b d p r rule (Err e) g p_is r_is f l i s t = tt
+add_answers job a b d p r rule (Ok k) g p_is r_is f l i s e =
+    numbered_from job a b d p r k g (numbered_added job b d p r rule k g.kept p_is r_is f (record { lines = l; number = i; slots = e }) s)
+add_answers job a b d p r rule (Err x) g p_is r_is f l i s e = tt

@@ -1,5 +1,5 @@
 -- Lines that hold go on holding as lines are added.
-use Rattle.std.proofs.Common.{ℕ, ◌<◌, ◌≤◌, List, [], ◌∷◌, ◌++◌, length, ◌∙◌, arith, Option, Some, None, length-append}
+use Rattle.std.proofs.Common.{ℕ, ◌/◌, ◌%◌, ◌<◌, ◌≤◌, List, [], ◌∷◌, ◌++◌, length, ◌∙◌, arith, Option, Some, None, length-append}
 use Rattle.std.specs.List.{AllZip}
 use Rattle.std.proofs.lemmas.Option.{slice_get_within}
 use Rattle.hq_job.proofs.Grouped.{get_before}
@@ -7,6 +7,7 @@ use Rattle.hq_model.specs.Job.{Job, packet, Decrements}
 use Rattle.hq_model.specs.Certificate.{Line, Rule, Says, Cites, Follows, signals}
 use Rattle.hq_model.specs.Certificate.Rule.{Bit, Queue, And, Or, Through}
 use Rattle.hq_derive.specs.Gathered.{Grown}
+use Rattle.hq_derive.specs.Needed.{BitsThere, HasLine, IsNumber}
 
 pub grown_same : (lines : List Line) → Grown lines lines
 grown_same lines = record { len = omega arith; lines = λ k line e. e }
@@ -31,6 +32,15 @@ says_more old new a b k p r g l s = record {
   first = s.first;
   second = s.second;
 }
+
+number_more : (old new : List Line) (p r k : ℕ) → Grown old new → IsNumber old p r k → IsNumber new p r k
+number_more old new p r k g h = (says_more old new (length old) (length new) k p r g g.len h.0, h.1)
+
+pub has_more : (old new : List Line) (p r : ℕ) → Grown old new → HasLine old p r → HasLine new p r
+has_more old new p r g h = (h.0, number_more old new p r h.0 g h.1)
+
+pub bits_grown : (old new : List Line) (bits : List ℕ) → Grown old new → BitsThere old bits → BitsThere new bits
+bits_grown old new bits g there = λ n h. has_more old new (n / 1024) (n % 1024) g (there n h)
 
 pub cites_more : (old new : List Line) (a b : ℕ) (c : Option ℕ) (p r : ℕ) → Grown old new → a ≤ b → Cites old a c p r → Cites new b c p r
 cites_more old new a b None p r g l s = s

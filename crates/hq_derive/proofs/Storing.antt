@@ -2,15 +2,19 @@
 use Rattle.std.proofs.Common.{◌≡◌, ℕ, zero, suc, ◌+◌, ◌*◌, ◌/◌, ◌%◌, ◌<◌, ◌≤◌, List, [], ◌∷◌, ◌++◌, length, refl, sym, ◌∙◌, ap, subst, arith, map, Some, slice_get, slice_index_or, length-append, take, Result, Ok, Err}
 use Rattle.std.specs.Prelude.{OnOk}
 use Rattle.std.specs.Option.{option_map}
-use Rattle.std.proofs.lemmas.List.{map-append, take_more}
+use Rattle.std.proofs.lemmas.List.{length-map, map-append, take_more}
 use Rattle.std.proofs.lemmas.List.Elements.{All-push}
 use Rattle.std.proofs.lemmas.Option.{slice_get-map, slice_get-get_or, slice_get_within, get_or_from_slice_get}
 use Rattle.hq_job.proofs.Grouped.{get_before, get_after}
 use Rattle.hq_cert.specs.declared.certificate.Line.{Line}
 use Rattle.hq_cert.specs.View.{line_of}
 use Rattle.hq_model.specs.Certificate as model
+use Rattle.hq_model.specs.Certificate.{Says}
+use Rattle.hq_derive.specs.declared.lone.Lone.{Lone}
 use Rattle.hq_derive.specs.declared.short.Short.{Short}
-use Rattle.hq_derive.specs.Short.{form_of, p_of, r_of, first_of, second_of, if_kept, line_by, line_in, IsPlaced, ArePlaced, PutsLine, StayPlaced}
+use Rattle.hq_derive.specs.Needed.{IsNumber}
+use Rattle.hq_derive.specs.Short.{form_of, p_of, r_of, first_of, second_of, if_kept, line_by, line_in, lone_line, IsPlaced, ArePlaced, PutsLine, StayPlaced}
+use Rattle.hq_derive.proofs.Noting.{says_here}
 
 -- ---- one line
 
@@ -78,6 +82,24 @@ line_put form p r a b old new s e f g h i j = λ kept. words_pushed kept old new
 pub stay_placed : (form a : ℕ) (old new : List Short) (s : Short) → new ≡ old ++ s ∷ [] → form_of s ≡ form → first_of s ≡ a → StayPlaced form a old new
 stay_placed form a old new s e f i = λ kept there all. placed_push kept old new s e all (λ four. subst (λ n. n < length kept) (sym i) (there (subst (λ n. 3 < n) f four)))
 
+-- ---- of which packets a line is that isn't kept
+
+by_form : (kept : List Line) (form p r a b : ℕ) → form < 4 → ((line_by kept form p r a b).p ≡ p) × ((line_by kept form p r a b).r ≡ r)
+by_form kept zero p r a b l = (refl, refl)
+by_form kept (suc zero) p r a b l = (refl, refl)
+by_form kept (suc (suc zero)) p r a b l = (refl, refl)
+by_form kept (suc (suc (suc zero))) p r a b l = (refl, refl)
+by_form kept (suc (suc (suc (suc form)))) p r a b l = absurd (omega (arith, l))
+
+pub word_says : (kept : List Line) (words : List Short) (lines : List model.Line) (k p r : ℕ) (s : Short) → map (line_in kept) words ≡ lines → slice_get words k ≡ Some s → form_of s < 4 → p_of s ≡ p → r_of s ≡ r
+    → Says lines (length lines) k p r
+word_says kept words lines k p r s e at low first second =
+    let within : k < length words = slice_get_within words k s at in
+    let long : length lines ≡ length words = sym (ap length e) ∙ length-map words (line_in kept) in
+    let here : slice_get lines k ≡ Some (line_in kept s) = ap (λ v. slice_get v k) (sym e) ∙ slice_get-map (line_in kept) words k ∙ ap (option_map (line_in kept)) at in
+    let of = by_form kept (form_of s) (p_of s) (r_of s) (first_of s) (second_of s) low in
+    says_here lines k p r (line_in kept s) (omega (arith, within, long)) here (of.0 ∙ first) (of.1 ∙ second)
+
 -- ---- the line of a barrier-OR is kept
 
 pub kept_lines : (kept more : List Line) (x : Line) (old new : List Short) (p r a : ℕ) → more ≡ kept ++ x ∷ [] → ArePlaced kept old → PutsLine 4 p r a 0 old new → a ≡ length kept → map (line_in more) new ≡ map (line_in kept) old ++ line_of x ∷ []
@@ -93,6 +115,17 @@ kept_placed kept more x old new a e placed stay at =
 pub on_ok : {T E P Q : Type 0} (r : Result T E) → (P → Q) → OnOk r P → OnOk r Q
 on_ok (Ok x) f p = f p
 on_ok (Err e) f p = tt
+
+-- ---- a line that cites none
+
+pub lone_number : (lone : List Lone) (words lines : List model.Line) (k p r : ℕ) (l : Lone) → map lone_line lone ++ words ≡ lines → length lone + length words ≤ 1048576 → slice_get lone k ≡ Some l
+    → (lone_line l).p ≡ p → (lone_line l).r ≡ r → IsNumber lines p r k
+lone_number lone words lines k p r l e few at first second =
+    let low : k < length lone = slice_get_within lone k l at in
+    let same : length (map lone_line lone) ≡ length lone = length-map lone lone_line in
+    let long : length lines ≡ length lone + length words = sym (ap length e) ∙ length-append (map lone_line lone) words ∙ ap (λ n. n + length words) same in
+    let here : slice_get lines k ≡ Some (lone_line l) = ap (λ v. slice_get v k) (sym e) ∙ get_before (map lone_line lone) words k (omega (arith, low, same)) ∙ slice_get-map lone_line lone k ∙ ap (option_map lone_line) at in
+    (says_here lines k p r (lone_line l) (omega (arith, low, long)) here first second, omega (arith, low, few))
 
 -- ---- lines are told one by one
 

@@ -1,5 +1,5 @@
 -- What is known of lines as they are gathered.
-use Rattle.std.specs.Prelude.{◌≡◌, ℕ, ◌+◌, ◌-◌, ◌^◌, ◌<◌, ◌≤◌, List, length, Some, slice_get, All}
+use Rattle.std.specs.Prelude.{◌≡◌, ℕ, ◌+◌, ◌^◌, ◌<◌, ◌≤◌, List, length, map, Some, slice_get}
 use Rattle.std.specs.List.{AllZip}
 use Rattle.hq_cert.specs.declared.certificate.Rule.{Rule}
 use Rattle.hq_cert.specs.declared.citation.Citation.{Citation}
@@ -8,8 +8,9 @@ use Rattle.hq_model.specs.Job.{Job, Decrements}
 use Rattle.hq_model.specs.declared.limits.TheConstants.{PACKETS}
 use Rattle.hq_model.specs.Certificate as model
 use Rattle.hq_model.specs.Certificate.{Says, Cites, Follows, signals}
-use Rattle.hq_derive.specs.declared.lines.Entry.{Entry}
 use Rattle.hq_derive.specs.declared.lines.Lines.{Lines}
+use Rattle.hq_derive.specs.declared.slots.Slots.{Slots}
+use Rattle.hq_derive.specs.Needed.{HasLine}
 
 -- the lines so far, as the model has them
 abbrev pub lines_of : Lines → List model.Line
@@ -20,30 +21,30 @@ abbrev pub AllFollow : Job → List model.Line → Type 0
 AllFollow job lines = (k : ℕ) (line : model.Line) → slice_get lines k ≡ Some line
     → Follows job lines k line.p line.r line.rule
 
--- The number that stands at a slot, if there is one, is that of a line that says what stands beside it.
-abbrev pub EntrySays : List model.Line → Entry → Type 0
-EntrySays lines e = 0 < e.next → Says lines (length lines) (e.next - 1) e.p e.r
-
--- so it is at each slot
-abbrev pub AllEntered : Lines → Type 0
-AllEntered l = All (EntrySays (lines_of l)) l.entries.items
-
--- Each line follows from lines of lower number, the numbers at slots are right, and there are as few packets as a job
--- may have.
+-- Each line follows from lines of lower number, and there are as few packets as a job may have.
 pub record AreSound (job : Job) (l : Lines) : Type 0 where
   pub few : length job.packets ≤ PACKETS
   pub follow : AllFollow job (lines_of l)
-  pub entered : AllEntered l
 
 -- No line was lost.
 pub record Grown (old new : List model.Line) : Type 0 where
   pub len : length old ≤ length new
   pub lines : (k : ℕ) (line : model.Line) → slice_get old k ≡ Some line → slice_get new k ≡ Some line
 
+-- the bits of the needed lines of round 0, row by row
+abbrev pub firsts_of : Slots → List ℕ
+firsts_of slots = map (λ place. place.first) slots.places.items
+
 -- what one more step of the gathering keeps
 pub record Goes (job : Job) (old new : Lines) : Type 0 where
   pub kept : AreSound job new
   pub grown : Grown (lines_of old) (lines_of new)
+  pub slots : new.slots ≡ old.slots
+
+-- one more step, behind which there is a line that p is before r
+pub record AddsLine (job : Job) (old new : Lines) (p r : ℕ) : Type 0 where
+  pub goes : Goes job old new
+  pub there : HasLine (lines_of new) p r
 
 -- the line of this number concludes that p is before r
 pub record Numbered (job : Job) (old new : Lines) (p r k : ℕ) : Type 0 where

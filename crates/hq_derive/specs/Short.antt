@@ -1,12 +1,14 @@
 -- Lines in one number each.
-use Rattle.std.specs.Prelude.{◌≡◌, ℕ, ◌/◌, ◌%◌, ◌<◌, List, [], ◌∷◌, ◌++◌, Option, None, Some, map, slice_get, zero, suc, length, All}
+use Rattle.std.specs.Prelude.{◌≡◌, ℕ, ◌/◌, ◌%◌, ◌<◌, List, [], ◌∷◌, ◌++◌, Option, None, Some}
+use Rattle.std.specs.Prelude.{map, slice_get, zero, suc, length, All}
 use Rattle.hq_cert.specs.declared.certificate.Line.{Line}
 use Rattle.hq_cert.specs.View.{line_of}
 use Rattle.hq_model.specs.Certificate as model
 use Rattle.hq_model.specs.Certificate.Rule.{Bit, Queue, And, Through}
 use Rattle.hq_derive.specs.declared.short.Short.{Short}
-use Rattle.hq_derive.specs.declared.store.Told.{Told}
-use Rattle.hq_derive.specs.declared.store.Told.TheVariants.{Made, Kept}
+use Rattle.hq_derive.specs.declared.lone.Lone.{Lone}
+use Rattle.hq_derive.specs.declared.told.Told.{Told}
+use Rattle.hq_derive.specs.declared.told.Told.TheVariants.{Made, Kept}
 
 -- the parts of such a number
 abbrev pub form_of : Short → ℕ
@@ -58,6 +60,24 @@ PutsLine form p r first second old new = (kept : List Line)
 abbrev pub StayPlaced : (form first : ℕ) → List Short → List Short → Type 0
 StayPlaced form first old new = (kept : List Line) → (3 < form → first < length kept) → ArePlaced kept old
     → ArePlaced kept new
+
+-- ---- lines that cite no line
+
+-- the rule of such a line, by its form and the packet or the slot that it names
+abbrev pub rule_by : (form named : ℕ) → model.Rule
+rule_by zero named = Bit named
+rule_by (suc zero) named = Queue
+rule_by (suc (suc form)) named = And named
+
+-- the line that such a number is for
+abbrev pub lone_line : Lone → model.Line
+lone_line l = record {
+  p = l.word / 4 % 1024;
+  r = l.word / 4 / 1024 % 1024;
+  rule = rule_by (l.word % 4) (l.word / 4 / 1024 / 1024);
+}
+
+-- ---- lines as they are told
 
 -- the line that is told
 abbrev pub told : Told → model.Line

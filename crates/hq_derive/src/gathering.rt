@@ -1,20 +1,21 @@
 //! A line for each that is needed.
 
-ghost use Rattle.std.specs.Prelude.{All, IfOk, OnOk, ◌+◌, ◌<◌, ◌≤◌};
+ghost use Rattle.std.specs.Prelude.{All, IfOk, IsTrue, OnOk, ◌+◌, ◌<◌, ◌≤◌};
 ghost use Rattle.hq_model.specs.Job.{IsPacket};
 ghost use Rattle.hq_derive.specs.Derived.{AllDerived, IsDerived};
-ghost use Rattle.hq_derive.specs.Gathered.{lines_of, AreSound};
-ghost use Rattle.hq_derive.specs.Needed.{HasRoom, AllThere};
+ghost use Rattle.hq_derive.specs.Gathered.{firsts_of, lines_of, AreSound, Goes};
+ghost use Rattle.hq_derive.specs.Needed.{AllThere, BitsThere, HasLine, HasRoom, WordThere};
 
 use crate::grounds::rule_alone;
 use crate::lines::Lines;
 use crate::needs::Needs;
 use crate::resting::{Derivations, Derived, derive_all};
+use crate::slots::Slots;
 use hq_bits::{WIDTH, WORDS, lowest, without};
 use hq_order::Before;
 use std::alloc::{AllocError, Global};
 
-/// Adds the line that p is before r, if that is so; those that it cites are there.
+/// Adds the line that p is before r; answers whether that is so.
 #[inline(always)]
 fn add_one(
     lines: &mut Lines,
@@ -22,38 +23,43 @@ fn add_one(
     before: &Before,
     p: usize,
     r: usize,
-) -> Result<(), AllocError>
+) -> Result<bool, AllocError>
     requires kept { AreSound before.now lines.old }
     requires p_is { IsPacket before.now p }
-    ensures { OnOk result (AreSound before.now lines.new) }
+    ensures goes { OnOk result (Goes before.now lines.old lines.new) }
+    ensures there { IfOk result (λ is. IsTrue is → HasLine (lines_of lines.new) p r) }
 {
     if r >= before.len() {
-        return Ok(());
+        return Ok(false);
     }
     match rule_alone(before.job(), p, r) {
-        Some(rule) => lines.add_alone(before, p, r, rule),
-        None => add_by_round(lines, alloc, before, p, r),
+        Some(rule) => lines.add_alone(before, p, r, rule)?,
+        None => return add_by_round(lines, alloc, before, p, r),
     }
+    Ok(true)
 }
 
-/// Adds the line that p is before r, if that is so, by the round in which it comes first.
+/// Adds the line that p is before r, by the round in which that comes first; answers whether it is so.
 fn add_by_round(
     lines: &mut Lines,
     alloc: Global,
     before: &Before,
     p: usize,
     r: usize,
-) -> Result<(), AllocError>
+) -> Result<bool, AllocError>
     requires { AreSound before.now lines.old }
-    ensures { OnOk result (AreSound before.now lines.new) }
+    ensures goes { OnOk result (Goes before.now lines.old lines.new) }
+    ensures there { IfOk result (λ is. IsTrue is → HasLine (lines_of lines.new) p r) }
 {
-    if let Some(round) = before.round(p, r) {
-        lines.numbered(alloc, before, round, p, r)?;
-    }
-    Ok(())
+    let Some(round) = before.round(p, r) else {
+        return Ok(false);
+    };
+    lines.numbered(alloc, before, round, p, r)?;
+    Ok(true)
 }
 
-/// Does so for each packet r of a word; the word's first bit is that of packet `first`.
+/// Adds the lines that p is before the packets of a word, as long as that is so; answers whether it is so of all. The
+/// word's first bit is that of packet `first`.
 fn add_word(
     lines: &mut Lines,
     alloc: Global,
@@ -61,58 +67,46 @@ fn add_word(
     p: usize,
     word: u64,
     first: usize,
-) -> Result<(), AllocError>
+) -> Result<bool, AllocError>
     requires first { first + 64 ≤ WIDTH }
     requires p_is { IsPacket before.now p }
     requires kept { AreSound before.now lines.old }
-    ensures { OnOk result (AreSound before.now lines.new) }
+    ensures goes { OnOk result (Goes before.now lines.old lines.new) }
+    ensures there { IfOk result (λ are. IsTrue are → WordThere (lines_of lines.new) p word first) }
 {
     let mut rest = word;
     'each: while rest != 0 {
         let bit = lowest(rest);
-        add_one(lines, alloc, before, p, first + bit)?;
+        if !add_one(lines, alloc, before, p, first + bit)? {
+            return Ok(false);
+        }
         rest = without(rest, bit);
     }
-    Ok(())
+    Ok(true)
 }
 
-/// Adds the needed lines that p is before others, of those that come first in this round.
-fn add_row(
+/// Adds the needed lines of round 0, by the first packet and then by the second, as long as they are so; answers
+/// whether all are.
+fn add_first(
     lines: &mut Lines,
     alloc: Global,
     before: &Before,
-    round: usize,
-    p: usize,
-) -> Result<(), AllocError>
-    requires p_is { IsPacket before.now p }
+    slots: &Slots,
+) -> Result<bool, AllocError>
     requires kept { AreSound before.now lines.old }
-    ensures { OnOk result (AreSound before.now lines.new) }
+    ensures goes { OnOk result (Goes before.now lines.old lines.new) }
+    ensures there { IfOk result (λ are. IsTrue are → BitsThere (lines_of lines.new) (firsts_of slots.now)) }
 {
-    for place in 0..WORDS {
-        let needed = lines.word(p * WORDS + place);
-        if needed != 0 {
-            let word = needed & before.fresh(round, p, place);
-            add_word(lines, alloc, before, p, word, place * 64)?;
+    for (place, marks) in slots.places().iter().enumerate() {
+        let p = place / WORDS;
+        if p >= before.len() {
+            return Ok(false);
+        }
+        if !add_word(lines, alloc, before, p, marks.first, place % WORDS * 64)? {
+            return Ok(false);
         }
     }
-    Ok(())
-}
-
-/// Adds the needed lines of a round, by the first packet and then by the second.
-fn add_round(
-    lines: &mut Lines,
-    alloc: Global,
-    before: &Before,
-    round: usize,
-) -> Result<(), AllocError>
-    requires { AreSound before.now lines.old }
-    ensures { OnOk result (AreSound before.now lines.new) }
-{
-    before.job().valid();
-    for p in 0..before.len() {
-        add_row(lines, alloc, before, round, p)?;
-    }
-    Ok(())
+    Ok(true)
 }
 
 /// Adds a line that is derived.
@@ -125,13 +119,17 @@ fn add_line(
 ) -> Result<(), AllocError>
     requires kept { AreSound before.now lines.old }
     requires derived { IsDerived before.now round line }
-    ensures { OnOk result (AreSound before.now lines.new) }
+    ensures { OnOk result (Goes before.now lines.old lines.new) }
 {
     let (p, r) = (line.p as usize, line.r as usize);
-    let Some(m) = line.middle else {
-        return add_by_round(lines, alloc, before, p, r);
-    };
-    lines.between(alloc, before, round, p, m as usize, r)?;
+    match line.middle {
+        Some(m) => {
+            lines.between(alloc, before, round, p, m as usize, r)?;
+        }
+        None => {
+            add_by_round(lines, alloc, before, p, r)?;
+        }
+    }
     Ok(())
 }
 
@@ -145,7 +143,7 @@ fn add_derived(
 ) -> Result<(), AllocError>
     requires kept { AreSound before.now lines.old }
     requires derived { All (IsDerived before.now round) derived.now }
-    ensures { OnOk result (AreSound before.now lines.new) }
+    ensures { OnOk result (Goes before.now lines.old lines.new) }
 {
     for line in derived {
         add_line(lines, alloc, before, round, *line)?;
@@ -162,7 +160,7 @@ fn add_rounds(
 ) -> Result<(), AllocError>
     requires kept { AreSound before.now lines.old }
     requires derived { All (AllDerived before.now) rounds.now }
-    ensures { OnOk result (AreSound before.now lines.new) }
+    ensures { OnOk result (Goes before.now lines.old lines.new) }
 {
     for behind in 0..rounds.len() {
         let derived = &rounds[rounds.len() - 1 - behind];
@@ -184,10 +182,14 @@ pub fn lines_for(alloc: Global, before: &Before, needs: &Needs) -> Result<Lines,
 {
     let mut all = needs.copied(alloc)?;
     let rounds = derive_all(alloc, &mut all, before)?;
-    let mut lines = Lines::new(alloc, before, all)?;
-    add_round(&mut lines, alloc, before, 0)?;
+    let slots = Slots::new(alloc, before, &all)?;
+    let mut lines = Lines::new(alloc, before, slots.first(), slots.later())?;
+    if !add_first(&mut lines, alloc, before, &slots)? {
+        return Err(AllocError);
+    }
+    lines.number_by(slots);
     add_rounds(&mut lines, alloc, before, &rounds)?;
-    if lines.has_all(before, needs) {
+    if lines.has_all(needs) {
         Ok(lines)
     } else {
         Err(AllocError)

@@ -9,14 +9,17 @@
 mod gathering;
 mod grounds;
 mod lines;
+mod lone;
 mod needs;
 mod resting;
 mod short;
 mod slots;
 mod store;
 mod there;
+mod told;
+mod words;
 
 pub use gathering::lines_for;
 pub use lines::Lines;
 pub use needs::Needs;
-pub use store::Told;
+pub use told::Told;

@@ -1,7 +1,7 @@
 //! The lines of a certificate, gathered.
 
 ghost use Rattle.std.specs.Prelude.{◌≡◌, ℕ, ◌+◌, ◌*◌, ◌^◌, ◌<◌, ◌++◌, ◌∷◌, [], IfOk, IfSome, MatchOption, OnOk, Some};
-ghost use Rattle.std.specs.Prelude.{IsTrue, ◌↔◌};
+ghost use Rattle.std.specs.Prelude.{IsTrue};
 ghost use Rattle.std.specs.Prelude.{length, map, slice_get};
 ghost use Rattle.hq_cert.specs.View.{rule_of, line_of};
 ghost use Rattle.hq_model.specs.Job.{packet};
@@ -10,58 +10,33 @@ ghost use Rattle.hq_model.specs.Certificate.{Says, signals};
 ghost use Rattle.hq_model.specs.Order as order;
 ghost use Rattle.hq_order.specs.Rounds.{IsFirstWithin, Reaches, ByOr};
 ghost use Rattle.hq_derive.specs.Rests.{Below, ByMiddle, FollowsAlone};
-ghost use Rattle.hq_derive.specs.Gathered.{lines_of, AllEntered, AreSound, Numbered, Ruled};
+ghost use Rattle.hq_derive.specs.Gathered.{firsts_of, lines_of, AreSound, AddsLine, Numbered, Ruled};
 ghost use Rattle.hq_derive.specs.Short.{told};
 ghost use Rattle.hq_derive.specs.Gathered.{Branched, AllBranched};
-ghost use Rattle.hq_derive.specs.Needed.{AllThere, HasLine, HasRoom, IsNumber};
+ghost use Rattle.hq_derive.specs.Needed.{AllThere, BitsThere, HasLine, IsNumber};
 
 use crate::grounds::{Ground, branch_of, ground_of};
 use crate::needs::Needs;
-use crate::slots::Slots;
-use crate::store::{Store, Told};
+use crate::slots::{Slot, Slots};
+use crate::store::Store;
 use crate::there::are_there;
+use crate::told::Told;
 use hq_bits::WIDTH;
 use hq_cert::{Branches, Citation, Line, Rule};
 use hq_order::Before;
 use std::alloc::{AllocError, Global};
 
-/// More lines than there can be.
-const LIMIT: usize = 1_048_576;
+/// The number at a slot whose line isn't there yet: no line has it.
+const NONE: u32 = u32::MAX;
 
-/// What stands at the slot of a line: its number, beside what it says, that p is before r.
-#[derive(Clone, Copy, Debug)]
-pub struct Entry {
-    pub p: u16,
-    pub r: u16,
-    /// One more than the line's number, or 0 where the line isn't there yet.
-    pub next: u32,
-}
-
-/// The lines so far.
+/// The lines so far. Where the number of a line is found is only a guess: whether it is that line's is told by the line
+/// itself.
 #[derive(Drop)]
 pub struct Lines {
     slots: Slots,
-    entries: Vec<Entry>,
+    /// The numbers of the lines of later rounds, at their slots.
+    numbers: Vec<u32>,
     lines: Store,
-}
-
-/// What stands at a slot whose line isn't there yet.
-fn no_entry() -> Entry
-    ensures { result.next ≡ 0 }
-{
-    Entry {
-        p: 0,
-        r: 0,
-        next: 0,
-    }
-}
-
-/// Whether a line says that p is before r.
-fn says(one: &Told<'_>, p: usize, r: usize) -> bool
-    ensures { IsTrue result ↔ (((told one.now).p ≡ p) × ((told one.now).r ≡ r)) }
-{
-    let line = one.line();
-    line.p as usize == p && line.r as usize == r
 }
 
 /// The first round in which p is before r.
@@ -72,40 +47,30 @@ pub fn round_of(before: &Before, p: usize, r: usize) -> usize
     before.round(p, r).unwrap()
 }
 
-impl Entry {
-    /// The line's number, if it is there and says that p is before r.
-    #[inline(always)]
-    fn number_of(self, p: usize, r: usize) -> Option<u32>
-        ensures { MatchOption result (Unit {0})
-            (λ k. (self.next ≡ k + 1) × (self.p ≡ p) × (self.r ≡ r) × (k + 1 < 2 ^ 32)) }
-    {
-        if self.p as usize != p || self.r as usize != r || self.next == 0 {
-            return None;
-        }
-        Some(self.next - 1)
-    }
-}
-
 impl Lines {
-    /// No lines, with room for those that are needed.
-    pub(crate) fn new(alloc: Global, before: &Before, needs: Needs) -> Result<Lines, AllocError>
+    /// No lines, with room for so many of round 0 and so many of later rounds.
+    pub(crate) fn new(
+        alloc: Global,
+        before: &Before,
+        first: usize,
+        later: usize,
+    ) -> Result<Lines, AllocError>
         ensures { IfOk result (λ l. AreSound before.now l) }
     {
         before.job().valid();
-        let slots = Slots::new(alloc, needs)?;
-        let room = slots.count();
-        let entries = vec![in alloc; no_entry(); room]?;
-        let lines = Store::new(alloc, room)?;
         Ok(Lines {
-            slots,
-            entries,
-            lines,
+            slots: Slots::none(alloc),
+            numbers: vec![in alloc; NONE; later]?,
+            lines: Store::new(alloc, first, later)?,
         })
     }
 
-    /// The bits of the needed lines at a place.
-    pub(crate) fn word(&self, place: usize) -> u64 {
-        self.slots.word(place)
+    /// Lines have their numbers by these slots.
+    pub(crate) fn number_by(&mut self, slots: Slots)
+        ensures lines { self.new.lines ≡ self.old.lines }
+        ensures slots { self.new.slots ≡ slots }
+    {
+        self.slots = slots;
     }
 
     /// How many lines there are.
@@ -135,48 +100,42 @@ impl Lines {
         self.lines.into_lines(alloc)
     }
 
-    /// The bits of the needed lines at a place, and the slot of the first of these.
-    pub(crate) fn row(&self, place: usize) -> (u64, usize) {
-        (self.slots.word(place), self.slots.start(place))
-    }
-
-    /// The number of the line at a slot, if it is there and says that p is before r.
-    #[inline(always)]
-    pub(crate) fn at(&self, slot: usize, p: usize, r: usize) -> Option<u32>
-        requires { AllEntered self.now }
+    /// This number, if it is that of a line that p is before r.
+    #[inline(never)]
+    fn if_said(&self, number: u32, p: usize, r: usize) -> Option<u32>
         ensures { MatchOption result (Unit {0}) (IsNumber (lines_of self.now) p r) }
     {
-        let entry = *self.entries.get(slot)?;
-        entry.number_of(p, r)
+        if self.lines.says(number as usize, p, r) {
+            Some(number)
+        } else {
+            None
+        }
     }
 
     /// The number of the line that p is before r, if there is one.
     #[inline(always)]
     pub fn known(&self, p: usize, r: usize) -> Option<u32>
-        requires { AllEntered self.now }
         ensures { MatchOption result (Unit {0}) (IsNumber (lines_of self.now) p r) }
     {
-        let slot = self.slots.slot(p, r)?;
-        self.at(slot, p, r)
+        match self.slots.slot(p, r)? {
+            Slot::Number(number) if self.lines.is_lone(number as usize, p, r) => Some(number),
+            Slot::Number(number) => self.if_said(number, p, r),
+            Slot::Later(slot) => {
+                let number = *self.numbers.get(slot as usize)?;
+                self.if_said(number, p, r)
+            }
+        }
     }
 
     /// Notes the number of the line that p is before r.
     #[inline(always)]
     fn remember(&mut self, p: usize, r: usize, number: u32)
-        requires p_is { p < WIDTH }
-        requires r_is { r < WIDTH }
-        requires number { number + 1 < 2 ^ 32 }
-        requires says { Says (lines_of self.old) (length (lines_of self.old)) number p r }
         ensures lines { self.new.lines ≡ self.old.lines }
-        ensures entered { AllEntered self.old → AllEntered self.new }
+        ensures slots { self.new.slots ≡ self.old.slots }
     {
-        if let Some(slot) = self.slots.slot(p, r) {
-            if let Some(entry) = self.entries.get_mut(slot) {
-                *entry = Entry {
-                    p: p as u16,
-                    r: r as u16,
-                    next: number + 1,
-                };
+        if let Some(Slot::Later(slot)) = self.slots.slot(p, r) {
+            if let Some(place) = self.numbers.get_mut(slot as usize) {
+                *place = number;
             }
         }
     }
@@ -190,14 +149,10 @@ impl Lines {
             (λ _. lines_of self.new ≡ lines_of self.old ++ record { p = p; r = r; rule = rule_of rule } ∷ []) }
         ensures number { IfOk result (λ k. k ≡ length (lines_of self.old)) }
         ensures small { IfOk result (λ k. k + 1 < 2 ^ 32) }
-        ensures entered { IfOk result (λ _. AllEntered self.old → AllEntered self.new) }
+        ensures slots { IfOk result (λ _. self.new.slots ≡ self.old.slots) }
     {
-        let number = self.lines.len();
-        if number >= LIMIT {
-            return Err(AllocError);
-        }
+        let number = self.lines.len() as u32;
         self.lines.push(p, r, rule)?;
-        let number = number as u32;
         self.remember(p, r, number);
         Ok(number)
     }
@@ -215,26 +170,24 @@ impl Lines {
         requires p_is { IsPacket before.now p }
         requires r_is { IsPacket before.now r }
         requires rule { FollowsAlone before.now p r rule }
-        ensures { OnOk result (AreSound before.now self.new) }
+        ensures { OnOk result (AddsLine before.now self.old self.new p r) }
     {
-        self.add(p, r, rule)?;
+        self.lines.push(p, r, rule)?;
         Ok(())
     }
 
-    /// Whether each line is there that is noted as needed.
-    pub fn has_all(&self, before: &Before, needs: &Needs) -> bool
-        requires sound { AreSound before.now self.now }
-        requires room { HasRoom before.now needs.now }
+    /// Whether each line is there that is noted as needed. Those of round 0 are.
+    pub fn has_all(&self, needs: &Needs) -> bool
+        requires { BitsThere (lines_of self.now) (firsts_of self.now.slots) }
         ensures { IsTrue result → AllThere needs.now (lines_of self.now) }
     {
-        are_there(self, needs)
+        are_there(self, &self.slots, needs)
     }
 
     /// The number of a line that is there, which says that p is before r.
     #[inline(always)]
     pub fn number(&self, p: usize, r: usize) -> u32
-        requires entered { AllEntered self.now }
-        requires there { HasLine (lines_of self.now) p r }
+        requires { HasLine (lines_of self.now) p r }
         ensures { IsNumber (lines_of self.now) p r result }
     {
         match self.known(p, r) {
@@ -251,7 +204,7 @@ impl Lines {
         ensures { IsNumber (lines_of self.now) p r result }
     {
         let mut k = 0;
-        'lines: while !says(&self.lines.line(k), p, r) {
+        'lines: while !self.lines.line(k).says(p, r) {
             k += 1;
         }
         k as u32
@@ -279,7 +232,6 @@ impl Lines {
     /// The numbers of the lines that p is before m, and m before r, if both are there.
     #[inline(always)]
     fn both_known(&self, p: usize, m: usize, r: usize) -> Option<(u32, u32)>
-        requires { AllEntered self.now }
         ensures { IfSome result
             (λ n. Says (lines_of self.now) (length (lines_of self.now)) n.0 p m
             × Says (lines_of self.now) (length (lines_of self.now)) n.1 m r) }

@@ -46,11 +46,6 @@ impl Needs {
     }
 
     /// The bits, row by row.
-    pub(crate) fn into_bits(self) -> Vec<u64> {
-        self.bits
-    }
-
-    /// The bits, row by row.
     pub(crate) fn bits(&self) -> &[u64]
         ensures { result.now ≡ self.now.bits.items }
     {

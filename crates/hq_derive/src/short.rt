@@ -1,6 +1,6 @@
 //! Lines in eight bytes each.
 
-ghost use Rattle.std.specs.Prelude.{◌≡◌, ◌<◌};
+ghost use Rattle.std.specs.Prelude.{◌≡◌, ◌<◌, IsTrue};
 ghost use Rattle.hq_derive.specs.Short.{form_of, p_of, r_of, first_of, second_of};
 
 use hq_bits::WIDTH;
@@ -60,6 +60,15 @@ impl Short {
         ensures { result ≡ r_of self }
     {
         (self.word / FORMS / WIDTH as u64 % WIDTH as u64) as u32
+    }
+
+    /// Whether it is between p and r.
+    #[inline(always)]
+    pub fn is_of(self, p: usize, r: usize) -> bool
+        ensures { IsTrue result → (p_of self ≡ p) × (r_of self ≡ r) }
+    {
+        let packets = self.word / FORMS;
+        packets % WIDTH as u64 == p as u64 && packets / WIDTH as u64 % WIDTH as u64 == r as u64
     }
 
     #[inline(always)]

@@ -1,97 +1,59 @@
 //! Whether the lines are there that are needed.
 
-ghost use Rattle.std.specs.Prelude.{◌≡◌, ◌==◌, ℕ, ◌+◌, ◌*◌, ◌/◌, ◌%◌, ◌<◌, ◌≤◌, IsTrue, length};
-ghost use Rattle.std.specs.Int.{bit_at};
-ghost use Rattle.hq_bits.specs.Bits.{has};
-ghost use Rattle.hq_derive.specs.Gathered.{lines_of, AllEntered};
-ghost use Rattle.hq_derive.specs.Needed.{HasLine, AllThere};
+ghost use Rattle.std.specs.Prelude.{◌+◌, ◌≤◌, ◌/◌, ◌%◌, ◌*◌, IsTrue, slice_index, ◌≡◌};
+ghost use Rattle.hq_derive.specs.Gathered.{firsts_of, lines_of};
+ghost use Rattle.hq_derive.specs.Needed.{AllThere, BitsThere, WordThere};
 
 use crate::lines::Lines;
 use crate::needs::Needs;
+use crate::slots::Slots;
 use hq_bits::{WIDTH, WORDS, less, lowest, without};
 
-/// Whether a word has a bit.
-#[inline(always)]
-fn has_bit(word: u64, bit: usize) -> bool
-    requires { bit < 64 }
-    ensures { result ≡ (bit_at word bit == 1) }
+/// Whether the lines are there that p is before the packets of a word; its first bit is that of packet `first`.
+fn word_is_there(lines: &Lines, p: usize, word: u64, first: usize) -> bool
+    requires { first + 64 ≤ WIDTH }
+    ensures { IsTrue result → WordThere (lines_of lines.now) p word first }
 {
-    word >> bit & 1 == 1
-}
-
-/// Whether what a slot has says that p is before r, where that is asked for.
-#[inline(always)]
-fn is_there(lines: &Lines, slot: usize, p: usize, r: usize, asked: bool) -> bool
-    requires { AllEntered lines.now }
-    ensures { IsTrue result → IsTrue asked → HasLine (lines_of lines.now) p r }
-{
-    if !asked {
-        return true;
-    }
-    match lines.at(slot, p, r) {
-        Some(_) => true,
-        None => false,
-    }
-}
-
-/// Whether the entries from a slot on, one for each bit of all that there are, say that p is before the packets of a
-/// word; its first bit is that of packet `first`.
-fn row_is_there(lines: &Lines, slot: usize, p: usize, all: u64, word: u64, first: usize) -> bool
-    requires entered { AllEntered lines.now }
-    requires first { first + 64 ≤ WIDTH }
-    ensures { IsTrue result → (bit : ℕ) → bit < 64 → bit_at word bit ≡ 1 → bit_at all bit ≡ 1
-        → HasLine (lines_of lines.now) p (first + bit) }
-{
-    let mut slot = slot;
-    let mut rest = all;
+    let mut rest = word;
     'bits: while rest != 0 {
         let bit = lowest(rest);
-        if !is_there(lines, slot, p, first + bit, has_bit(word, bit)) {
+        if lines.known(p, first + bit).is_none() {
             return false;
         }
         rest = without(rest, bit);
-        slot = slot.wrapping_add(1);
     }
     true
 }
 
-/// Whether those are there that a word stands for, which stands at this place.
-fn word_is_there(lines: &Lines, word: u64, place: usize) -> bool
-    requires entered { AllEntered lines.now }
-    requires place { place < 16384 }
-    ensures { IsTrue result → (bit : ℕ) → bit < 64 → bit_at word bit ≡ 1
-        → HasLine (lines_of lines.now) (place / WORDS) (place % WORDS * 64 + bit) }
+/// The bits of the needed lines of round 0 at a place, or none where there is no such place.
+#[inline(always)]
+fn first_at(slots: &Slots, place: usize) -> u64
+    ensures { result ≡ slice_index (firsts_of slots.now) place }
 {
-    if word == 0 {
-        return true;
+    match slots.places().get(place) {
+        Some(place) => place.first,
+        None => 0,
     }
-    let (all, slot) = lines.row(place);
-    if less(word, all) != 0 {
-        return false;
-    }
-    row_is_there(lines, slot, place / WORDS, all, word, place % WORDS * 64)
 }
 
-/// Whether those are there that the bits stand for.
-fn words_are_there(lines: &Lines, bits: &[u64]) -> bool
-    requires entered { AllEntered lines.now }
-    requires few { length bits.now ≤ 16384 }
-    ensures { IsTrue result → (n : ℕ) → IsTrue (has bits.now n)
-        → HasLine (lines_of lines.now) (n / WIDTH) (n % WIDTH) }
+/// Whether those are there that the bits stand for; those of round 0 are.
+fn words_are_there(lines: &Lines, slots: &Slots, bits: &[u64]) -> bool
+    requires { BitsThere (lines_of lines.now) (firsts_of slots.now) }
+    ensures { IsTrue result → BitsThere (lines_of lines.now) bits.now }
 {
     for (place, word) in bits.iter().enumerate() {
-        if !word_is_there(lines, *word, place) {
+        let rest = less(*word, first_at(slots, place));
+        if !word_is_there(lines, place / WORDS, rest, place % WORDS * 64) {
             return false;
         }
     }
     true
 }
 
-/// Whether each line is there that is noted as needed.
-pub fn are_there(lines: &Lines, needs: &Needs) -> bool
-    requires entered { AllEntered lines.now }
-    requires few { length needs.now.bits.items ≤ 16384 }
+/// Whether each line is there that is noted as needed; those of round 0 are.
+pub fn are_there(lines: &Lines, slots: &Slots, needs: &Needs) -> bool
+    requires { BitsThere (lines_of lines.now) (firsts_of slots.now) }
     ensures { IsTrue result → AllThere needs.now (lines_of lines.now) }
 {
-    words_are_there(lines, needs.bits())
+    words_are_there(lines, slots, needs.bits())
 }

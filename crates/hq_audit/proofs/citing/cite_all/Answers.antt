@@ -9,14 +9,14 @@ use Rattle.hq_audit.specs.Paired.{pairs_of, ArePairsOf}
 use Rattle.hq_audit.proofs.Listing.{each_of_list, lists_more}
 use Rattle.hq_audit.proofs.citing.cite_all.Goals as goal
 
-pub cite_list-requires-clause-are : goal.cite_list-requires-clause-are
-cite_list-requires-clause-are c =
+pub cite_list-requires : goal.cite_list-requires
+cite_list-requires c =
     let Is = IsDraft (plan c.args.job.now) (HasLine (lines_of c.args.lines.now)) in
     let lists = c.args.lists.now in
     let i = c.loop-list.list-index in
     let list = c.list-item.result in
     let is : list ≡ slice_index_or lists i list = search rules in
-    subst (λ ws. All Is (map unpacked ws)) (sym c.deref.ensures.value) (each_of_list Is lists i list c.loop-list-test.true is c.requires.are)
+    subst (λ ws. All Is (map unpacked ws)) (sym c.deref.ensures.value) (each_of_list Is lists i list c.loop-list-test.true is c.requires)
 
 pub loop-list-preserved : goal.loop-list-preserved
 loop-list-preserved c =

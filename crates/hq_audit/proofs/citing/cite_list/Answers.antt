@@ -23,5 +23,5 @@ loop-packed-preserved c =
     pairs_go job lines (map unpacked drafts) i c.draft.result pair c.args.pairs.now c.loop-packed.pairs c.push.new.self low c.loop-packed.invariant
     (packed_pair job lines drafts i _ c.draft.result (pair_of pair) c.loop-packed-test.true c.draft.ensures c.in_ok-pair.ensures) c.in_ok-push.ensures.items
 
-pub pair-requires-clause-is : goal.pair-requires-clause-is
-pair-requires-clause-is c = packed_draft (IsDraft (plan c.args.job.now) (HasLine (lines_of c.args.lines.now))) c.args.drafts.now c.loop-packed.packed-index _ c.draft.result c.loop-packed-test.true c.draft.ensures c.requires.are
+pub pair-requires : goal.pair-requires
+pair-requires c = packed_draft (IsDraft (plan c.args.job.now) (HasLine (lines_of c.args.lines.now))) c.args.drafts.now c.loop-packed.packed-index _ c.draft.result c.loop-packed-test.true c.draft.ensures c.requires

@@ -2,6 +2,7 @@ use Rattle.std.proofs.Common.{◌≡◌, ◌*◌, ◌<◌, ◌∙◌, refl, subs
 use Rattle.std.proofs.lemmas.List.{length-set, get_or-set_other}
 use Rattle.hq_audit.specs.Rowed.{DraftsUpto}
 use Rattle.hq_audit.proofs.Rowing.{part_drafted, upto_none, upto_joined}
+use Rattle.hq_audit.specs.declared.spreading.TheConstants.{ROWS}
 use Rattle.hq_audit.proofs.spreading.join.Goals as goal
 
 pub loop-part-preserved : goal.loop-part-preserved
@@ -33,4 +34,4 @@ loop-part-init c = record {
 pub returns : goal.returns
 returns c = λ t.
     let all : c.loop-part.part-index ≡ length c.args.parts.now = omega (arith, c.loop-part-test.false, c.loop-part.invariant.len) in
-    subst (λ n. DraftsUpto c.args.before.now (n * 128) c.loop-part.all) all c.loop-part.invariant.upto
+    subst (λ n. DraftsUpto c.args.before.now (n * ROWS) c.loop-part.all) all c.loop-part.invariant.upto

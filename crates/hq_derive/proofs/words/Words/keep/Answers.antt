@@ -3,7 +3,7 @@ use Rattle.hq_cert.specs.declared.certificate.Line.{Line}
 use Rattle.hq_cert.specs.declared.certificate.Rule.TheVariants.{Or}
 use Rattle.hq_cert.specs.View.{line_of}
 use Rattle.hq_derive.proofs.Storing.{kept_lines, kept_placed, on_ok}
-use Rattle.hq_derive.proofs.store.Store.keep.Goals as goal
+use Rattle.hq_derive.proofs.words.Words.keep.Goals as goal
 
 pub invariant_of-self-2 : goal.invariant_of-self-2
 invariant_of-self-2 c =
@@ -11,8 +11,8 @@ invariant_of-self-2 c =
     let at : c.len-number.result ≡ length kept.items = c.len-number.ensures ∙ kept.ok.0 in
     kept_placed kept.items c.push.new.self.items _ c.self.inside.words.items c.put.new.words.items c.len-number.result c.in_ok-push.ensures.items c.self.invariant c.put.ensures.placed at
 
-pub returns : goal.returns
-returns c = on_ok c.put.result (λ puts.
+pub returns-clause-puts : goal.returns-clause-puts
+returns-clause-puts c = on_ok c.put.result (λ puts.
     let kept = c.self.inside.kept in
     let at : c.len-number.result ≡ length kept.items = c.len-number.ensures ∙ kept.ok.0 in
     let line : Line = record { p = c.args.p; r = c.args.r; rule = Or c.args.branches } in

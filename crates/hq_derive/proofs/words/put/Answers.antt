@@ -1,5 +1,5 @@
 use Rattle.hq_derive.proofs.Storing.{line_put, stay_placed}
-use Rattle.hq_derive.proofs.store.put.Goals as goal
+use Rattle.hq_derive.proofs.words.put.Goals as goal
 
 pub returns-clause-puts : goal.returns-clause-puts
 returns-clause-puts c =

@@ -1,5 +1,0 @@
-use Rattle.hq_derive.specs.Gathered.{AreSound}
-use Rattle.hq_derive.proofs.gathering.add_round.Given as goal
-
-abbrev pub invariant-loop-p : goal.invariant-loop-p
-invariant-loop-p l = AreSound l.before l.lines
