@@ -27,7 +27,7 @@ use std::thread::Threads;
 const STEP: usize = 13;
 
 /// How many packets each one may conflict with, at the mean, where judging is worth more than one thread.
-const MANY: u32 = 64;
+const MANY: u32 = 256;
 
 /// Whether there are processors for more than one thread.
 fn has_processors(rt: &impl Threads) -> bool {
