@@ -1,6 +1,6 @@
 -- Drafts in lists that stand one behind another.
-use Rattle.std.proofs.Common.{◌≡◌, ℕ, zero, suc, ◌+◌, ◌<◌, List, [], ◌∷◌, ◌++◌, length, refl, sym, ◌∙◌, ap, subst, arith, Bool, true, false, ◌||◌, append_assoc, append-nil, take, map, Some, slice_get, slice_index_or, Result, Ok, Err}
-use Rattle.std.specs.Prelude.{All, OnOk}
+use Rattle.std.proofs.Common.{◌≡◌, ℕ, zero, suc, ◌+◌, ◌<◌, List, [], ◌∷◌, ◌++◌, length, refl, sym, ◌∙◌, ap, subst, arith, Bool, true, false, ◌||◌, append_assoc, append-nil, take, map, Some, slice_get, slice_index_or}
+use Rattle.std.specs.Prelude.{All}
 use Rattle.std.specs.Global.{Vec}
 use Rattle.std.proofs.lemmas.List.{take_more, map-append, get_or-append-add}
 use Rattle.std.proofs.Math.ListN.{get_or-append, length-append}
@@ -85,7 +85,3 @@ drafts_join job old others new are more w taken e f = record {
   are = drafts_behind job old new (drafts_of others) are w (drafts_more (IsNeeded others.needs) (IsNeeded new.needs) taken.needed job (drafts_of others) more.each) e (f ∙ ap (λ b. old.chained || b) more.chained);
   joined = e;
 }
-
-pub on_ok : {T E P Q : Type 0} (r : Result T E) → (P → Q) → OnOk r P → OnOk r Q
-on_ok (Ok x) f p = f p
-on_ok (Err e) f p = tt

@@ -12,7 +12,7 @@ use Rattle.hq_derive.proofs.Branching.{zip_push}
 use Rattle.hq_model.specs.Job.{Job, IsPacket}
 use Rattle.hq_model.specs.Fence.{Conflict}
 use Rattle.hq_model.specs.Certificate as model
-use Rattle.hq_model.specs.Certificate.{FencesHold, kind_of, HasPair}
+use Rattle.hq_model.specs.Certificate.{FencesHold, HasPair}
 use Rattle.hq_audit.specs.declared.draft.Draft.{Draft}
 use Rattle.hq_audit.specs.declared.packed.Packed.{Packed}
 use Rattle.hq_audit.specs.Packed.{unpacked}

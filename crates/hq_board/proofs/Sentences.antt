@@ -2,7 +2,6 @@
 use Rattle.std.proofs.Common.{◌≡◌, ℕ, zero, suc, ◌+◌, ◌-◌, ◌&&◌, count_by, inl, inr, Bool, true, false, cond, List, [], ◌∷◌, length, refl, sym, ◌∙◌, ap, subst, arith}
 use Rattle.std.proofs.lemmas.Bool.{cases_eq, true≢false}
 use Rattle.hq_model.specs.Job.{Job, packet, Dependency, completes_on}
-use Rattle.hq_model.specs.Machine.{Phase}
 use Rattle.std.proofs.lemmas.List.Sums.{sum_by_push}
 use Rattle.hq_model.specs.Machine.{listed}
 use Rattle.hq_model.proofs.Sums.{sum_to, sum_same, put2_other}

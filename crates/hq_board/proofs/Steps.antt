@@ -10,7 +10,7 @@ use Rattle.atomic_table.specs.Table.{State, Me, keeps, Allows, Splits}
 use Rattle.atomic_table.proofs.Lists.{at_set}
 use Rattle.hq_model.specs.Job.{Job, packet, Dependency, completes_on}
 use Rattle.hq_model.specs.Machine as machine
-use Rattle.hq_model.specs.Machine.{MayLaunch, Phase}
+use Rattle.hq_model.specs.Machine.{MayLaunch}
 use Rattle.hq_model.proofs.Kept.{signal_of, signal_is}
 use Rattle.hq_board.specs.declared.entry.Entry.{Entry}
 use Rattle.hq_board.specs.declared.entry.Entry.TheVariants.{DidLaunch, DidEnter, DidObserve, DidComplete, Looked}

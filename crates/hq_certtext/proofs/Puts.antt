@@ -1,6 +1,6 @@
 -- Texts put behind one another in a buffer, and written in between.
-use Rattle.std.proofs.Common.{◌≡◌, ℕ, Bool, false, zero, suc, ◌+◌, ◌<◌, List, [], ◌∷◌, ◌++◌, length, get_or, take, Option, Some, None, refl, sym, ap, subst, ◌∙◌, append_assoc, append-nil, arith, add-one, length-take, Result, Ok, Err}
-use Rattle.std.specs.Prelude.{codes, ◌||◌, map, OnOk}
+use Rattle.std.proofs.Common.{◌≡◌, ℕ, Bool, false, zero, suc, ◌+◌, ◌<◌, List, [], ◌∷◌, ◌++◌, length, get_or, take, Option, Some, None, refl, sym, ap, subst, ◌∙◌, append_assoc, append-nil, arith, add-one, length-take}
+use Rattle.std.specs.Prelude.{codes, ◌||◌, map}
 use Rattle.std.specs.Fmt.{decimal}
 use Rattle.std.specs.List.{list_any}
 use Rattle.std.specs.Io.KnownBytes.{Appends, append_known}
@@ -68,10 +68,6 @@ from_front {u} {v} {a} {b} {t} g = nothing_left u v t (by u (append_known v []) 
   by None w k = tt
   by (Some xs) None k = absurd k
   by (Some xs) (Some ws) k = k ∙ ap (λ r. r ++ t) (append-nil xs)
-
-pub on_ok : {T E P Q : Type 0} (r : Result T E) → (P → Q) → OnOk r P → OnOk r Q
-on_ok (Ok x) f p = f p
-on_ok (Err e) f p = tt
 
 -- ---- lists of texts
 

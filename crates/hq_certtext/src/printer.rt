@@ -1,6 +1,6 @@
 //! Certificates to texts, one line behind another.
 
-ghost use Rattle.std.specs.Prelude.{◌≡◌, ℕ, ◌++◌, IfOk, List, OnOk, Option, codes};
+ghost use Rattle.std.specs.Prelude.{ℕ, ◌++◌, IfOk, List, OnOk, Option, codes};
 ghost use Rattle.std.specs.Io.KnownBytes.{Appends};
 ghost use Rattle.hq_text.specs.Printed.{line_text};
 ghost use Rattle.hq_certtext.specs.Grammar.{line_words, pair_words, head_words, order_words};

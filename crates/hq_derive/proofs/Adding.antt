@@ -13,10 +13,10 @@ use Rattle.hq_derive.specs.Gathered.{lines_of, AllFollow, AreSound, Grown, Goes,
 use Rattle.hq_derive.proofs.Growing.{grown_same, grown_more, grown_by, follows_more}
 
 pub goes_same : (job : Job) (l : Lines) → AreSound job l → Goes job l l
-goes_same job l k = record { kept = k; grown = grown_same (lines_of l); slots = refl }
+goes_same job l k = record { kept = k; grown = grown_same (lines_of l); ranks = refl }
 
 pub goes_more : (job : Job) (a b c : Lines) → Goes job a b → Goes job b c → Goes job a c
-goes_more job a b c g h = record { kept = h.kept; grown = grown_more (lines_of a) (lines_of b) (lines_of c) g.grown h.grown; slots = h.slots ∙ g.slots }
+goes_more job a b c g h = record { kept = h.kept; grown = grown_more (lines_of a) (lines_of b) (lines_of c) g.grown h.grown; ranks = h.ranks ∙ g.ranks }
 
 pub last_there : (lines : List model.Line) (x : model.Line) → slice_get (lines ++ x ∷ []) (length lines) ≡ Some x
 last_there lines x = let e : length lines ≡ length lines + 0 = omega arith in ap (slice_get (lines ++ x ∷ [])) e ∙ get_after lines (x ∷ []) 0
@@ -42,7 +42,7 @@ line_by p r rule = record { p = p; r = r; rule = rule_of rule }
 pub record Added (old new : Lines) (p r : ℕ) (rule : Rule) (k : ℕ) : Type 0 where
   pub lines : lines_of new ≡ lines_of old ++ line_by p r rule ∷ []
   pub number : k ≡ length (lines_of old)
-  pub slots : new.slots ≡ old.slots
+  pub ranks : new.ranks ≡ old.ranks
 
 grown_added : (old new : Lines) (p r : ℕ) (rule : Rule) (k : ℕ) → Added old new p r rule k → Grown (lines_of old) (lines_of new)
 grown_added old new p r rule k a = subst (Grown (lines_of old)) (sym a.lines) (grown_by (lines_of old) (line_by p r rule ∷ []))
@@ -69,7 +69,7 @@ numbered_added job old new p r rule k kept a b f added small = record {
   goes = record {
     kept = kept_added job old new p r rule kept f added.lines;
     grown = grown_added old new p r rule k added;
-    slots = added.slots;
+    ranks = added.ranks;
   };
   says = says_added old new p r rule k added;
   small = small;
@@ -81,10 +81,10 @@ numbered_from job a b c p r k g n = record { goes = goes_more job a b c g n.goes
 -- ---- a line that cites none
 
 pub adds_line : (job : Job) (old new : Lines) (p r : ℕ) (rule : Rule) → AreSound job old → Follows job (lines_of old) (length (lines_of old)) p r (rule_of rule)
-    → lines_of new ≡ lines_of old ++ line_by p r rule ∷ [] → length (lines_of old) + 1 < 2 ^ 32 → new.slots ≡ old.slots → AddsLine job old new p r
+    → lines_of new ≡ lines_of old ++ line_by p r rule ∷ [] → length (lines_of old) + 1 < 2 ^ 32 → new.ranks ≡ old.ranks → AddsLine job old new p r
 adds_line job old new p r rule kept f e small same =
-    let added : Added old new p r rule (length (lines_of old)) = record { lines = e; number = refl; slots = same } in
+    let added : Added old new p r rule (length (lines_of old)) = record { lines = e; number = refl; ranks = same } in
     record {
-      goes = record { kept = kept_added job old new p r rule kept f e; grown = grown_added old new p r rule (length (lines_of old)) added; slots = same };
+      goes = record { kept = kept_added job old new p r rule kept f e; grown = grown_added old new p r rule (length (lines_of old)) added; ranks = same };
       there = (length (lines_of old), (says_added old new p r rule (length (lines_of old)) added, small));
     }

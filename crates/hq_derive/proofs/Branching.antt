@@ -78,8 +78,8 @@ pub add_answers : {E : Type 0} (job : Job) (a b d : Lines) (p r : ℕ) (rule : R
     → IfOk result (λ _. lines_of d ≡ lines_of b ++ line_by p r rule ∷ [])
     → IfOk result (λ k. k ≡ length (lines_of b))
     → IfOk result (λ k. k + 1 < 2 ^ 32)
-    → IfOk result (λ _. d.slots ≡ b.slots)
+    → IfOk result (λ _. d.ranks ≡ b.ranks)
     → IfOk result (λ k. Numbered job a d p r k)
 add_answers job a b d p r rule (Ok k) g p_is r_is f l i s e =
-    numbered_from job a b d p r k g (numbered_added job b d p r rule k g.kept p_is r_is f (record { lines = l; number = i; slots = e }) s)
+    numbered_from job a b d p r k g (numbered_added job b d p r rule k g.kept p_is r_is f (record { lines = l; number = i; ranks = e }) s)
 add_answers job a b d p r rule (Err x) g p_is r_is f l i s e = tt

@@ -11,9 +11,9 @@ use Rattle.hq_bits.proofs.Words.{or_cases, eq_test}
 use Rattle.hq_model.specs.Certificate as model
 use Rattle.hq_model.specs.Certificate.{Says}
 use Rattle.hq_derive.specs.declared.needs.Needs.{Needs}
-use Rattle.hq_derive.specs.declared.slots.Place.{Place}
-use Rattle.hq_derive.specs.declared.slots.Slots.{Slots}
-use Rattle.hq_derive.specs.Gathered.{firsts_of}
+use Rattle.hq_derive.specs.declared.ranks.Place.{Place}
+use Rattle.hq_derive.specs.declared.ranks.Ranks.{Ranks}
+use Rattle.hq_derive.specs.Gathered.{initial_of}
 use Rattle.hq_derive.specs.Needed.{AllThere, BitsThere, HasLine, IsNumber, WordThere}
 
 -- what a row has, it has when bits are put over one of its words
@@ -89,9 +89,9 @@ bits_less lines first bits place n rest here firsts there is h =
         line_of_bit lines place n rest here there (eqb-true (bit_at rest (n % 64)) 1 left)
 
 -- the bits of round 0 at a place
-pub firsts_at : (slots : Slots) (items : List Place) (place : ℕ) (d : Place) → items ≡ slots.places.items → place < length items → (slice_index_or items place d).first ≡ slice_index (firsts_of slots) place
-firsts_at slots items place d is low =
-    ap (λ xs. (slice_index_or xs place d).first) is ∙ sym (get_or-map (λ (x : Place). x.first) slots.places.items place d 0 (subst (λ xs. place < length xs) is low))
+pub initial_is : (ranks : Ranks) (items : List Place) (place : ℕ) (d : Place) → items ≡ ranks.places.items → place < length items → (slice_index_or items place d).initial ≡ slice_index (initial_of ranks) place
+initial_is ranks items place d is low =
+    ap (λ xs. (slice_index_or xs place d).initial) is ∙ sym (get_or-map (λ (x : Place). x.initial) ranks.places.items place d 0 (subst (λ xs. place < length xs) is low))
 
 -- where a number was found there is a line
 pub line_known : (lines : List model.Line) (p r : ℕ) (number : Option ℕ) → MatchOption number (Unit {0}) (IsNumber lines p r) → IsSome number → HasLine lines p r

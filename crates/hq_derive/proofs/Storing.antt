@@ -1,6 +1,5 @@
 -- Lines are packed in numbers.
-use Rattle.std.proofs.Common.{◌≡◌, ℕ, zero, suc, ◌+◌, ◌*◌, ◌/◌, ◌%◌, ◌<◌, ◌≤◌, List, [], ◌∷◌, ◌++◌, length, refl, sym, ◌∙◌, ap, subst, arith, map, Some, slice_get, slice_index_or, length-append, take, Result, Ok, Err}
-use Rattle.std.specs.Prelude.{OnOk}
+use Rattle.std.proofs.Common.{◌≡◌, ℕ, zero, suc, ◌+◌, ◌*◌, ◌/◌, ◌%◌, ◌<◌, ◌≤◌, List, [], ◌∷◌, ◌++◌, length, refl, sym, ◌∙◌, ap, subst, arith, map, Some, slice_get, slice_index_or, length-append, take}
 use Rattle.std.specs.Option.{option_map}
 use Rattle.std.proofs.lemmas.List.{length-map, map-append, take_more}
 use Rattle.std.proofs.lemmas.List.Elements.{All-push}
@@ -111,10 +110,6 @@ pub kept_placed : (kept more : List Line) (x : Line) (old new : List Short) (a :
 kept_placed kept more x old new a e placed stay at =
     let long : length more ≡ length kept + 1 = ap length e ∙ length-append kept (x ∷ []) in
     stay more (λ four. omega (arith, at, long)) (placed_more kept more old (omega (arith, long)) placed)
-
-pub on_ok : {T E P Q : Type 0} (r : Result T E) → (P → Q) → OnOk r P → OnOk r Q
-on_ok (Ok x) f p = f p
-on_ok (Err e) f p = tt
 
 -- ---- a line that cites none
 

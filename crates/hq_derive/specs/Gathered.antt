@@ -9,7 +9,7 @@ use Rattle.hq_model.specs.declared.limits.TheConstants.{PACKETS}
 use Rattle.hq_model.specs.Certificate as model
 use Rattle.hq_model.specs.Certificate.{Says, Cites, Follows, signals}
 use Rattle.hq_derive.specs.declared.lines.Lines.{Lines}
-use Rattle.hq_derive.specs.declared.slots.Slots.{Slots}
+use Rattle.hq_derive.specs.declared.ranks.Ranks.{Ranks}
 use Rattle.hq_derive.specs.Needed.{HasLine}
 
 -- the lines so far, as the model has them
@@ -32,14 +32,14 @@ pub record Grown (old new : List model.Line) : Type 0 where
   pub lines : (k : ℕ) (line : model.Line) → slice_get old k ≡ Some line → slice_get new k ≡ Some line
 
 -- the bits of the needed lines of round 0, row by row
-abbrev pub firsts_of : Slots → List ℕ
-firsts_of slots = map (λ place. place.first) slots.places.items
+abbrev pub initial_of : Ranks → List ℕ
+initial_of ranks = map (λ place. place.initial) ranks.places.items
 
 -- what one more step of the gathering keeps
 pub record Goes (job : Job) (old new : Lines) : Type 0 where
   pub kept : AreSound job new
   pub grown : Grown (lines_of old) (lines_of new)
-  pub slots : new.slots ≡ old.slots
+  pub ranks : new.ranks ≡ old.ranks
 
 -- one more step, behind which there is a line that p is before r
 pub record AddsLine (job : Job) (old new : Lines) (p r : ℕ) : Type 0 where

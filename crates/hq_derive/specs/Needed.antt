@@ -2,6 +2,7 @@
 use Rattle.std.specs.Prelude.{◌≡◌, IsTrue, ℕ, ◌+◌, ◌*◌, ◌/◌, ◌%◌, ◌^◌, ◌<◌, ◌≤◌, List, length}
 use Rattle.std.specs.Int.{bit_at}
 use Rattle.hq_bits.specs.Bits.{has}
+use Rattle.hq_bits.specs.declared.TheConstants.{WORDS}
 use Rattle.hq_model.specs.declared.limits.TheConstants.{PACKETS}
 use Rattle.hq_model.specs.Job.{Job}
 use Rattle.hq_model.specs.Certificate as model
@@ -15,7 +16,7 @@ IsNeeded needs p r = (r < PACKETS) × IsTrue (has needs.bits.items (p * PACKETS 
 -- Each two packets of the job can be noted.
 pub record HasRoom (job : Job) (needs : Needs) : Type 0 where
   pub few : length job.packets ≤ PACKETS
-  pub len : length needs.bits.items ≡ length job.packets * 16
+  pub len : length needs.bits.items ≡ length job.packets * WORDS
 
 -- What was needed still is, and there is room yet.
 pub record Widens (job : Job) (old new : Needs) : Type 0 where

@@ -3,28 +3,32 @@ use Rattle.std.specs.Prelude.{◌≡◌, ℕ, ◌/◌, ◌%◌, ◌<◌, List, [
 use Rattle.std.specs.Prelude.{map, slice_get, zero, suc, length, All}
 use Rattle.hq_cert.specs.declared.certificate.Line.{Line}
 use Rattle.hq_cert.specs.View.{line_of}
+use Rattle.hq_model.specs.declared.limits.TheConstants.{PACKETS}
 use Rattle.hq_model.specs.Certificate as model
 use Rattle.hq_model.specs.Certificate.Rule.{Bit, Queue, And, Through}
 use Rattle.hq_derive.specs.declared.short.Short.{Short}
+use Rattle.hq_derive.specs.declared.short.TheConstants as short
+use Rattle.hq_derive.specs.declared.short.TheConstants.{NUMBERS}
 use Rattle.hq_derive.specs.declared.lone.Lone.{Lone}
+use Rattle.hq_derive.specs.declared.lone.TheConstants as lone
 use Rattle.hq_derive.specs.declared.told.Told.{Told}
 use Rattle.hq_derive.specs.declared.told.Told.TheVariants.{Made, Kept}
 
 -- the parts of such a number
 abbrev pub form_of : Short → ℕ
-form_of s = s.word % 8
+form_of s = s.word % short.FORMS
 
 abbrev pub p_of : Short → ℕ
-p_of s = s.word / 8 % 1024
+p_of s = s.word / short.FORMS % PACKETS
 
 abbrev pub r_of : Short → ℕ
-r_of s = s.word / 8 / 1024 % 1024
+r_of s = s.word / short.FORMS / PACKETS % PACKETS
 
 abbrev pub first_of : Short → ℕ
-first_of s = s.word / 8 / 1024 / 1024 % 1048576
+first_of s = s.word / short.FORMS / PACKETS / PACKETS % NUMBERS
 
 abbrev pub second_of : Short → ℕ
-second_of s = s.word / 8 / 1024 / 1024 / 1048576 % 1048576
+second_of s = s.word / short.FORMS / PACKETS / PACKETS / NUMBERS % NUMBERS
 
 -- a line that is kept as a whole, where it is there
 abbrev pub if_kept : Option Line → model.Line
@@ -72,9 +76,9 @@ rule_by (suc (suc form)) named = And named
 -- the line that such a number is for
 abbrev pub lone_line : Lone → model.Line
 lone_line l = record {
-  p = l.word / 4 % 1024;
-  r = l.word / 4 / 1024 % 1024;
-  rule = rule_by (l.word % 4) (l.word / 4 / 1024 / 1024);
+  p = l.word / lone.FORMS % PACKETS;
+  r = l.word / lone.FORMS / PACKETS % PACKETS;
+  rule = rule_by (l.word % lone.FORMS) (l.word / lone.FORMS / PACKETS / PACKETS);
 }
 
 -- ---- lines as they are told

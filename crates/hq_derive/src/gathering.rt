@@ -3,14 +3,14 @@
 ghost use Rattle.std.specs.Prelude.{All, IfOk, IsTrue, OnOk, ◌+◌, ◌<◌, ◌≤◌};
 ghost use Rattle.hq_model.specs.Job.{IsPacket};
 ghost use Rattle.hq_derive.specs.Derived.{AllDerived, IsDerived};
-ghost use Rattle.hq_derive.specs.Gathered.{firsts_of, lines_of, AreSound, Goes};
+ghost use Rattle.hq_derive.specs.Gathered.{initial_of, lines_of, AreSound, Goes};
 ghost use Rattle.hq_derive.specs.Needed.{AllThere, BitsThere, HasLine, HasRoom, WordThere};
 
 use crate::grounds::rule_alone;
 use crate::lines::Lines;
 use crate::needs::Needs;
+use crate::ranks::Ranks;
 use crate::resting::{Derivations, Derived, derive_all};
-use crate::slots::Slots;
 use hq_bits::{WIDTH, WORDS, lowest, without};
 use hq_order::Before;
 use std::alloc::{AllocError, Global};
@@ -87,22 +87,22 @@ fn add_word(
 
 /// Adds the needed lines of round 0, by the first packet and then by the second, as long as they are so; answers
 /// whether all are.
-fn add_first(
+fn add_initial(
     lines: &mut Lines,
     alloc: Global,
     before: &Before,
-    slots: &Slots,
+    ranks: &Ranks,
 ) -> Result<bool, AllocError>
     requires kept { AreSound before.now lines.old }
     ensures goes { OnOk result (Goes before.now lines.old lines.new) }
-    ensures there { IfOk result (λ are. IsTrue are → BitsThere (lines_of lines.new) (firsts_of slots.now)) }
+    ensures there { IfOk result (λ are. IsTrue are → BitsThere (lines_of lines.new) (initial_of ranks.now)) }
 {
-    for (place, marks) in slots.places().iter().enumerate() {
+    for (place, marks) in ranks.places().iter().enumerate() {
         let p = place / WORDS;
         if p >= before.len() {
             return Ok(false);
         }
-        if !add_word(lines, alloc, before, p, marks.first, place % WORDS * 64)? {
+        if !add_word(lines, alloc, before, p, marks.initial, place % WORDS * 64)? {
             return Ok(false);
         }
     }
@@ -182,12 +182,12 @@ pub fn lines_for(alloc: Global, before: &Before, needs: &Needs) -> Result<Lines,
 {
     let mut all = needs.copied(alloc)?;
     let rounds = derive_all(alloc, &mut all, before)?;
-    let slots = Slots::new(alloc, before, &all)?;
-    let mut lines = Lines::new(alloc, before, slots.first(), slots.later())?;
-    if !add_first(&mut lines, alloc, before, &slots)? {
+    let ranks = Ranks::new(alloc, before, &all)?;
+    let mut lines = Lines::new(alloc, before, ranks.initial(), ranks.later())?;
+    if !add_initial(&mut lines, alloc, before, &ranks)? {
         return Err(AllocError);
     }
-    lines.number_by(slots);
+    lines.number_by(ranks);
     add_rounds(&mut lines, alloc, before, &rounds)?;
     if lines.has_all(needs) {
         Ok(lines)

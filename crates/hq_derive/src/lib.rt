@@ -11,13 +11,13 @@ mod grounds;
 mod lines;
 mod lone;
 mod needs;
+mod ranks;
 mod resting;
 mod short;
-mod slots;
+mod shorts;
 mod store;
 mod there;
 mod told;
-mod words;
 
 pub use gathering::lines_for;
 pub use lines::Lines;

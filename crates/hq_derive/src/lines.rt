@@ -10,14 +10,14 @@ ghost use Rattle.hq_model.specs.Certificate.{Says, signals};
 ghost use Rattle.hq_model.specs.Order as order;
 ghost use Rattle.hq_order.specs.Rounds.{IsFirstWithin, Reaches, ByOr};
 ghost use Rattle.hq_derive.specs.Rests.{Below, ByMiddle, FollowsAlone};
-ghost use Rattle.hq_derive.specs.Gathered.{firsts_of, lines_of, AreSound, AddsLine, Numbered, Ruled};
+ghost use Rattle.hq_derive.specs.Gathered.{initial_of, lines_of, AreSound, AddsLine, Numbered, Ruled};
 ghost use Rattle.hq_derive.specs.Short.{told};
 ghost use Rattle.hq_derive.specs.Gathered.{Branched, AllBranched};
 ghost use Rattle.hq_derive.specs.Needed.{AllThere, BitsThere, HasLine, IsNumber};
 
 use crate::grounds::{Ground, branch_of, ground_of};
 use crate::needs::Needs;
-use crate::slots::{Slot, Slots};
+use crate::ranks::{Rank, Ranks};
 use crate::store::Store;
 use crate::there::are_there;
 use crate::told::Told;
@@ -26,15 +26,15 @@ use hq_cert::{Branches, Citation, Line, Rule};
 use hq_order::Before;
 use std::alloc::{AllocError, Global};
 
-/// The number at a slot whose line isn't there yet: no line has it.
+/// The number where that of a line isn't known yet: no line has it.
 const NONE: u32 = u32::MAX;
 
 /// The lines so far. Where the number of a line is found is only a guess: whether it is that line's is told by the line
 /// itself.
 #[derive(Drop)]
 pub struct Lines {
-    slots: Slots,
-    /// The numbers of the lines of later rounds, at their slots.
+    ranks: Ranks,
+    /// The numbers of the lines of later rounds, by their ranks.
     numbers: Vec<u32>,
     lines: Store,
 }
@@ -52,25 +52,25 @@ impl Lines {
     pub(crate) fn new(
         alloc: Global,
         before: &Before,
-        first: usize,
+        initial: usize,
         later: usize,
     ) -> Result<Lines, AllocError>
         ensures { IfOk result (λ l. AreSound before.now l) }
     {
         before.job().valid();
         Ok(Lines {
-            slots: Slots::none(alloc),
+            ranks: Ranks::none(alloc),
             numbers: vec![in alloc; NONE; later]?,
-            lines: Store::new(alloc, first, later)?,
+            lines: Store::new(alloc, initial, later)?,
         })
     }
 
-    /// Lines have their numbers by these slots.
-    pub(crate) fn number_by(&mut self, slots: Slots)
+    /// The numbers of lines are found by these ranks.
+    pub(crate) fn number_by(&mut self, ranks: Ranks)
         ensures lines { self.new.lines ≡ self.old.lines }
-        ensures slots { self.new.slots ≡ slots }
+        ensures ranks { self.new.ranks ≡ ranks }
     {
-        self.slots = slots;
+        self.ranks = ranks;
     }
 
     /// How many lines there are.
@@ -117,11 +117,11 @@ impl Lines {
     pub fn known(&self, p: usize, r: usize) -> Option<u32>
         ensures { MatchOption result (Unit {0}) (IsNumber (lines_of self.now) p r) }
     {
-        match self.slots.slot(p, r)? {
-            Slot::Number(number) if self.lines.is_lone(number as usize, p, r) => Some(number),
-            Slot::Number(number) => self.if_said(number, p, r),
-            Slot::Later(slot) => {
-                let number = *self.numbers.get(slot as usize)?;
+        match self.ranks.rank(p, r)? {
+            Rank::Initial(number) if self.lines.is_lone(number as usize, p, r) => Some(number),
+            Rank::Initial(number) => self.if_said(number, p, r),
+            Rank::Later(rank) => {
+                let number = *self.numbers.get(rank as usize)?;
                 self.if_said(number, p, r)
             }
         }
@@ -131,11 +131,11 @@ impl Lines {
     #[inline(always)]
     fn remember(&mut self, p: usize, r: usize, number: u32)
         ensures lines { self.new.lines ≡ self.old.lines }
-        ensures slots { self.new.slots ≡ self.old.slots }
+        ensures ranks { self.new.ranks ≡ self.old.ranks }
     {
-        if let Some(Slot::Later(slot)) = self.slots.slot(p, r) {
-            if let Some(place) = self.numbers.get_mut(slot as usize) {
-                *place = number;
+        if let Some(Rank::Later(rank)) = self.ranks.rank(p, r) {
+            if let Some(noted) = self.numbers.get_mut(rank as usize) {
+                *noted = number;
             }
         }
     }
@@ -149,7 +149,7 @@ impl Lines {
             (λ _. lines_of self.new ≡ lines_of self.old ++ record { p = p; r = r; rule = rule_of rule } ∷ []) }
         ensures number { IfOk result (λ k. k ≡ length (lines_of self.old)) }
         ensures small { IfOk result (λ k. k + 1 < 2 ^ 32) }
-        ensures slots { IfOk result (λ _. self.new.slots ≡ self.old.slots) }
+        ensures ranks { IfOk result (λ _. self.new.ranks ≡ self.old.ranks) }
     {
         let number = self.lines.len() as u32;
         self.lines.push(p, r, rule)?;
@@ -177,11 +177,11 @@ impl Lines {
     }
 
     /// Whether each line is there that is noted as needed. Those of round 0 are.
-    pub fn has_all(&self, needs: &Needs) -> bool
-        requires { BitsThere (lines_of self.now) (firsts_of self.now.slots) }
+    pub(crate) fn has_all(&self, needs: &Needs) -> bool
+        requires { BitsThere (lines_of self.now) (initial_of self.now.ranks) }
         ensures { IsTrue result → AllThere needs.now (lines_of self.now) }
     {
-        are_there(self, &self.slots, needs)
+        are_there(self, &self.ranks, needs)
     }
 
     /// The number of a line that is there, which says that p is before r.

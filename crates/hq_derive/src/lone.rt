@@ -8,10 +8,10 @@ use hq_bits::WIDTH;
 use hq_cert::{Line, Rule};
 
 /// How many forms there is room for.
-const FORMS: u32 = 4;
+pub const FORMS: u32 = 4;
 
 /// How many numbers there is room for in each place.
-const PLACE: u32 = WIDTH as u32;
+pub const PLACE: u32 = WIDTH as u32;
 
 /// A line in one number. Its last two bits say by which rule the line concludes that p is before r: 0 by a barrier bit,
 /// 1 by the queue, 2 by a barrier-AND. Before them stand p, r, and the packet or the slot that the rule names, ten bits

@@ -6,7 +6,7 @@ ghost use Rattle.hq_derive.specs.Short.{form_of, p_of, r_of, first_of, second_of
 use hq_bits::WIDTH;
 
 /// How many forms there is room for.
-const FORMS: u64 = 8;
+pub const FORMS: u64 = 8;
 
 /// How many numbers there are that twenty bits can say.
 pub const NUMBERS: u64 = 1 << 20;
@@ -23,11 +23,11 @@ impl Short {
     /// A line of this form.
     #[inline(always)]
     pub fn new(form: u64, p: usize, r: usize, first: u32, second: u32) -> Short
-        requires form { form < 8 }
+        requires form { form < FORMS }
         requires p_is { p < WIDTH }
         requires r_is { r < WIDTH }
-        requires first { first < 1048576 }
-        requires second { second < 1048576 }
+        requires first { first < NUMBERS }
+        requires second { second < NUMBERS }
         ensures form { form_of result ≡ form }
         ensures p { p_of result ≡ p }
         ensures r { r_of result ≡ r }

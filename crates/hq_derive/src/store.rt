@@ -6,34 +6,36 @@ ghost use Rattle.hq_derive.specs.Needed.{IsNumber};
 ghost use Rattle.hq_derive.specs.Short.{told};
 
 use crate::lone::Lone;
+use crate::short::NUMBERS;
+use crate::shorts::Shorts;
 use crate::told::Told;
-use crate::words::Words;
 use hq_bits::WIDTH;
 use hq_cert::{Line, Rule};
 use std::alloc::{AllocError, Global};
 use std::marker::Model;
 
-/// How many lines there can be at most.
-pub const LIMIT: usize = 1_048_576;
+/// How many lines there can be at most: as many as there are numbers to cite them by.
+pub const LIMIT: usize = NUMBERS as usize;
 
 /// Lines by number: in four bytes each as long as none cites another, and in eight from the first one on that does.
 /// Contracts see the model's lines.
 #[derive(Drop)]
 pub struct Store {
     lone: Vec<Lone>,
-    words: Words,
+    shorts: Shorts,
 }
 
 impl Model for Store {
     ghost use Rattle.std.specs.Prelude.{◌+◌, ◌≤◌, ◌++◌, List, length, map};
     ghost use Rattle.hq_model.specs.Certificate as model;
     ghost use Rattle.hq_derive.specs.Short.{lone_line};
+    ghost use Rattle.hq_derive.specs.declared.store.TheConstants.{LIMIT};
 
     ghost Value = { List model.Line };
 
-    ghost view = { λ s. map lone_line s.lone.items ++ s.words };
+    ghost view = { λ s. map lone_line s.lone.items ++ s.shorts };
 
-    ghost invariant = { λ s. length s.lone.items + length s.words ≤ 1048576 };
+    ghost invariant = { λ s. length s.lone.items + length s.shorts ≤ LIMIT };
 }
 
 impl Store {
@@ -42,17 +44,17 @@ impl Store {
         ensures { IfOk result (λ s. s ≡ []) }
     {
         let lone = Vec::with_capacity(alloc, lone)?;
-        let words = Words::new(alloc, others)?;
-        Ok(Store { lone, words })
+        let shorts = Shorts::new(alloc, others)?;
+        Ok(Store { lone, shorts })
     }
 
     /// How many there are.
     #[inline(always)]
     pub fn len(&self) -> usize
         ensures is { result ≡ length self.now }
-        ensures few { result ≤ 1048576 }
+        ensures few { result ≤ LIMIT }
     {
-        self.lone.len() + self.words.len()
+        self.lone.len() + self.shorts.len()
     }
 
     /// Adds a line.
@@ -66,18 +68,18 @@ impl Store {
         requires p_is { p < WIDTH }
         requires r_is { r < WIDTH }
         ensures puts { OnOk result (self.new ≡ self.old ++ record { p = p; r = r; rule = rule_of rule } ∷ []) }
-        ensures few { OnOk result (length self.old < 1048576) }
+        ensures few { OnOk result (length self.old < LIMIT) }
     {
         if self.len() >= LIMIT {
             return Err(AllocError);
         }
-        if self.words.len() == 0 {
+        if self.shorts.len() == 0 {
             if let Some(line) = Lone::of(p, r, &rule) {
                 self.lone.push(line)?;
                 return Ok(());
             }
         }
-        self.words.push(p, r, rule)
+        self.shorts.push(p, r, rule)
     }
 
     /// Line k.
@@ -89,7 +91,7 @@ impl Store {
         if k < self.lone.len() {
             return Told::Made(self.lone[k].line());
         }
-        self.words.line(k - self.lone.len())
+        self.shorts.line(k - self.lone.len())
     }
 
     /// Whether there is a line k that takes four bytes, and it says that p is before r.
@@ -111,7 +113,7 @@ impl Store {
         if k < self.lone.len() {
             return self.is_lone(k, p, r);
         }
-        self.words.says(k - self.lone.len(), p, r)
+        self.shorts.says(k - self.lone.len(), p, r)
     }
 
     /// All lines.

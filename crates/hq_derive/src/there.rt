@@ -1,12 +1,12 @@
 //! Whether the lines are there that are needed.
 
 ghost use Rattle.std.specs.Prelude.{◌+◌, ◌≤◌, ◌/◌, ◌%◌, ◌*◌, IsTrue, slice_index, ◌≡◌};
-ghost use Rattle.hq_derive.specs.Gathered.{firsts_of, lines_of};
+ghost use Rattle.hq_derive.specs.Gathered.{initial_of, lines_of};
 ghost use Rattle.hq_derive.specs.Needed.{AllThere, BitsThere, WordThere};
 
 use crate::lines::Lines;
 use crate::needs::Needs;
-use crate::slots::Slots;
+use crate::ranks::Ranks;
 use hq_bits::{WIDTH, WORDS, less, lowest, without};
 
 /// Whether the lines are there that p is before the packets of a word; its first bit is that of packet `first`.
@@ -27,22 +27,22 @@ fn word_is_there(lines: &Lines, p: usize, word: u64, first: usize) -> bool
 
 /// The bits of the needed lines of round 0 at a place, or none where there is no such place.
 #[inline(always)]
-fn first_at(slots: &Slots, place: usize) -> u64
-    ensures { result ≡ slice_index (firsts_of slots.now) place }
+fn initial_at(ranks: &Ranks, place: usize) -> u64
+    ensures { result ≡ slice_index (initial_of ranks.now) place }
 {
-    match slots.places().get(place) {
-        Some(place) => place.first,
+    match ranks.places().get(place) {
+        Some(place) => place.initial,
         None => 0,
     }
 }
 
 /// Whether those are there that the bits stand for; those of round 0 are.
-fn words_are_there(lines: &Lines, slots: &Slots, bits: &[u64]) -> bool
-    requires { BitsThere (lines_of lines.now) (firsts_of slots.now) }
+fn words_are_there(lines: &Lines, ranks: &Ranks, bits: &[u64]) -> bool
+    requires { BitsThere (lines_of lines.now) (initial_of ranks.now) }
     ensures { IsTrue result → BitsThere (lines_of lines.now) bits.now }
 {
     for (place, word) in bits.iter().enumerate() {
-        let rest = less(*word, first_at(slots, place));
+        let rest = less(*word, initial_at(ranks, place));
         if !word_is_there(lines, place / WORDS, rest, place % WORDS * 64) {
             return false;
         }
@@ -51,9 +51,9 @@ fn words_are_there(lines: &Lines, slots: &Slots, bits: &[u64]) -> bool
 }
 
 /// Whether each line is there that is noted as needed; those of round 0 are.
-pub fn are_there(lines: &Lines, slots: &Slots, needs: &Needs) -> bool
-    requires { BitsThere (lines_of lines.now) (firsts_of slots.now) }
+pub fn are_there(lines: &Lines, ranks: &Ranks, needs: &Needs) -> bool
+    requires { BitsThere (lines_of lines.now) (initial_of ranks.now) }
     ensures { IsTrue result → AllThere needs.now (lines_of lines.now) }
 {
-    words_are_there(lines, slots, needs.bits())
+    words_are_there(lines, ranks, needs.bits())
 }

@@ -8,7 +8,7 @@ use Rattle.std.proofs.lemmas.Option.{get_or_from_slice_get}
 use Rattle.hq_footprint.proofs.RangeBytes.{bytes_apart}
 use Rattle.hq_signals.specs.Table.{OpenSignal, IsUndershot, NeverReachesZero}
 use Rattle.hq_model.specs.Job as model
-use Rattle.hq_model.specs.Job.{Job, packet, no_packet, IsPacket, Dependency, decrementers, is_signal}
+use Rattle.hq_model.specs.Job.{Job, packet, no_packet, IsPacket, Dependency, decrementers}
 use Rattle.hq_model.specs.Machine.{IsByte}
 use Rattle.hq_model.specs.Theorems.{Valid}
 use Rattle.hq_tables.specs.declared.rows.Placed.{Placed}

@@ -1,5 +1,5 @@
 -- Lines taken in, one behind another.
-use Rattle.std.proofs.Common.{◌≡◌, ℕ, zero, suc, ◌≤◌, ◌⊎◌, inl, inr, Bool, true, false, List, [], ◌∷◌, ◌++◌, length, take, refl, sym, ap, subst, arith, if◌then◌else◌, Some}
+use Rattle.std.proofs.Common.{◌≡◌, ℕ, ◌⊎◌, inl, inr, Bool, true, false, List, [], ◌∷◌, ◌++◌, refl, sym, ap, subst, if◌then◌else◌, Some}
 use Rattle.std.specs.List.{list_any}
 use Rattle.hq_lines.specs.Bytes.{is_outside}
 use Rattle.hq_lines.specs.declared.fault.LineFault.{LineFault}

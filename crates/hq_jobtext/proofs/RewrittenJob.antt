@@ -1,7 +1,7 @@
 -- A job's text with other heads is the text of the job with these heads.
-use Rattle.std.proofs.Common.{◌≡◌, ◌≢◌, ℕ, zero, suc, ◌+◌, ◌<◌, ◌≤◌, ◌⊎◌, inl, inr, Bool, true, false, cond, ◌==◌, List, [], ◌∷◌, ◌++◌, length, take, slice_index, slice_index_or, slice_get, filter, map, Option, Some, None, unwrap_or, All, codes, refl, sym, ap, subst, ◌∙◌, arith, append_assoc, append-nil, length-append}
+use Rattle.std.proofs.Common.{◌≡◌, ◌≢◌, ℕ, zero, suc, ◌+◌, ◌<◌, ◌≤◌, ◌⊎◌, inl, inr, Bool, true, false, cond, ◌==◌, List, [], ◌∷◌, ◌++◌, length, take, slice_index, slice_index_or, slice_get, map, Option, Some, None, unwrap_or, refl, sym, ap, subst, ◌∙◌, arith, append_assoc, append-nil, length-append}
 use Rattle.std.specs.Prelude.{IfSome, IfOk, Result, Ok, Err, count_by}
-use Rattle.std.specs.List.{slice_split, flat_map}
+use Rattle.std.specs.List.{slice_split}
 use Rattle.std.proofs.lemmas.List.{take-map}
 use Rattle.std.proofs.lemmas.List.Sums.{sum_by-cons}
 use Rattle.hq_packet.specs.declared.packet.Head.{Head}
@@ -20,13 +20,13 @@ use Rattle.hq_model.specs.Journal.{numbers}
 use Rattle.hq_tables.specs.declared.rows.Placed.{Placed}
 use Rattle.hq_job.specs.Value.{JobValue}
 use Rattle.hq_job.specs.Numbering.{with_key, grouped, number_of, by_number, submissions_of}
-use Rattle.hq_tables.specs.Tables.{Tables, empty, tests, added, NoneApplies, IsFull, packet_tests, placed_of, with_packet}
-use Rattle.hq_jobtext.specs.JobText.{JobText, SaysVersion, one, two, Admits, AdmitsAll, IsEnd}
+use Rattle.hq_tables.specs.Tables.{Tables, empty, tests, added, NoneApplies, packet_tests, placed_of, with_packet}
+use Rattle.hq_jobtext.specs.JobText.{JobText, SaysVersion, one, two, Admits, AdmitsAll}
 use Rattle.hq_job.specs.Ended.{value_of}
 use Rattle.hq_job.specs.Heads.{placed_with_head}
 use Rattle.hq_job.specs.Heads.{with_heads, job_with_heads}
-use Rattle.hq_jobtext.specs.Rewritten.{LineRewritten, stays, packet as rewritten, Rewritten, TextRewritten, RewrittenIsJob}
-use Rattle.hq_jobtext.specs.RewriteSteps.{LineNumbered, no_packet, a_packet, Numbered}
+use Rattle.hq_jobtext.specs.Rewritten.{LineRewritten, stays, packet as rewritten, Rewritten, RewrittenIsJob}
+use Rattle.hq_jobtext.specs.RewriteSteps.{no_packet, a_packet, Numbered}
 use Rattle.hq_job.proofs.Grouped.{numbered, get_number, grouped_more}
 use Rattle.hq_tables.proofs.Lists.{within, some_is}
 use Rattle.hq_jobtext.proofs.RewrittenLines.{begins}

@@ -1,25 +1,22 @@
 -- The lines of a job's text as they are rewritten, one behind another.
-use Rattle.std.proofs.Common.{◌≡◌, ℕ, zero, suc, ◌+◌, ◌-◌, ◌<◌, ◌≤◌, Bool, true, false, ◌||◌, List, [], ◌∷◌, ◌++◌, length, take, drop, slice_index, slice_index_or, Option, Some, None, slice_get, All, codes, refl, sym, ap, subst, ◌∙◌, arith, append_assoc, append-nil, length-append}
+use Rattle.std.proofs.Common.{◌≡◌, ℕ, ◌+◌, ◌-◌, ◌<◌, Bool, true, false, List, [], ◌∷◌, ◌++◌, length, take, drop, slice_index, slice_index_or, Option, Some, None, slice_get, All, refl, sym, ap, subst, ◌∙◌, arith, append_assoc, append-nil}
 use Rattle.std.specs.Prelude.{position, ◌↔◌}
 use Rattle.std.specs.List.{list_any, slice_split, position_or_len}
 use Rattle.std.proofs.lemmas.Bool.{or_parts}
 use Rattle.std.proofs.lemmas.List.{drop-drop, get_or-take, length-take-le}
 use Rattle.std.proofs.lemmas.Option.{slice_get-get_or}
-use Rattle.std.proofs.lemmas.List.Elements.{All-cons, All-head, All-tail, All-nil}
+use Rattle.std.proofs.lemmas.List.Elements.{All-cons, All-tail, All-nil}
 use Rattle.std.proofs.lemmas.List.Splits.{slice_split_first, slice_split_none, slice_split_at}
 use Rattle.std.proofs.lemmas.List.Sums.{fails_before_first}
 use Rattle.hq_packet.specs.declared.packet.Head.{Head}
 use Rattle.hq_packet.specs.declared.packet.Packet as packet
-use Rattle.hq_packet.specs.Parts.{with_head}
-use Rattle.hq_text.specs.Lines.{is_line_feed, lines_of, without_empty_last}
+use Rattle.hq_text.specs.Lines.{is_line_feed}
 use Rattle.hq_text.proofs.Cuts.{first_place, no_place}
 use Rattle.hq_lines.specs.Bytes.{is_outside}
 use Rattle.hq_lines.specs.Heads.{IsPacketLine, BeginsPacket, WithHead}
 use Rattle.hq_lines.specs.Meaning as says
 use Rattle.hq_lines.specs.Meaning.{Meaning}
-use Rattle.hq_lines.specs.Says.{SaysLine}
 use Rattle.hq_lines.proofs.PacketLines.{packets_begin, says_packet, says_with_head}
-use Rattle.hq_lines.proofs.Whole.{one_meaning}
 use Rattle.hq_jobtext.specs.Rewritten.{LineRewritten, stays, packet as rewritten, Rewritten}
 use Rattle.hq_jobtext.specs.RewriteSteps.{LineNumbered, no_packet, a_packet, Numbered, LineReady, Appended}
 

@@ -1,16 +1,15 @@
 -- A text is rewritten in one way.
-use Rattle.std.proofs.Common.{◌≡◌, ◌≢◌, ℕ, ◌⊎◌, inl, inr, List, [], ◌∷◌, Some, slice_get, refl, sym, ap, subst, ◌∙◌}
+use Rattle.std.proofs.Common.{◌≡◌, ◌≢◌, ℕ, ◌⊎◌, inl, inr, List, [], ◌∷◌, slice_get, sym, ap, subst, ◌∙◌}
 use Rattle.std.specs.List.{slice_split, join_with_byte}
 use Rattle.std.proofs.lemmas.List.Splits.{join_with_byte-slice_split}
 use Rattle.hq_packet.specs.declared.packet.Head.{Head}
 use Rattle.hq_packet.specs.declared.packet.Packet as packet
 use Rattle.hq_packet.specs.Parts.{head_of}
 use Rattle.hq_text.specs.Lines.{is_line_feed, words_of}
-use Rattle.hq_lines.specs.Heads.{IsPacketLine, WithHead, with_head_digits}
+use Rattle.hq_lines.specs.Heads.{WithHead}
 use Rattle.hq_lines.specs.Meaning as says
 use Rattle.hq_lines.proofs.PacketLines.{head_cases}
 use Rattle.hq_lines.proofs.Whole.{one_meaning}
-use Rattle.hq_job.specs.Value.{JobValue}
 use Rattle.hq_jobtext.specs.Rewritten.{LineRewritten, stays, packet as rewritten, Rewritten, OneRewritten}
 use Rattle.hq_tables.proofs.Lists.{some_is}
 

@@ -1,5 +1,5 @@
 -- Whole texts.
-use Rattle.std.proofs.Common.{◌≡◌, ℕ, inl, inr, true, false, List, Option, Some, None, Result, Ok, Err, refl, sym, ap, subst, ◌∙◌}
+use Rattle.std.proofs.Common.{◌≡◌, ℕ, inl, inr, true, false, List, Option, Some, None, Result, Ok, Err, sym, ap, subst, ◌∙◌}
 use Rattle.std.specs.Prelude.{codes, IfOk, IfErr, IfSome}
 use Rattle.hq_text.specs.Lines.{lines_of}
 use Rattle.hq_jobtext.specs.declared.fault.JobFault.{JobFault}

@@ -2,7 +2,6 @@
 use Rattle.std.specs.Prelude.{◌≡◌, ℕ, ◌<◌, List, [], ◌∷◌, ◌++◌, length, All}
 use Rattle.hq_packet.specs.declared.packet.Head.{Head}
 use Rattle.hq_lines.specs.Heads.{IsPacketLine, BeginsPacket}
-use Rattle.hq_jobtext.specs.Rewritten.{LineRewritten}
 
 -- Whether a line is a packet's can be told by how it begins. The packets of this line and of those behind it have these
 -- numbers, and the packets of those behind it alone the last ones.

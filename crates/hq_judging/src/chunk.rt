@@ -1,6 +1,6 @@
 //! A chunk of a certificate's text.
 
-ghost use Rattle.std.specs.Prelude.{◌≡◌, OnOk};
+ghost use Rattle.std.specs.Prelude.{◌≡◌, [], None, OnOk};
 ghost use Rattle.hq_job.specs.Plan.{plan};
 ghost use Rattle.hq_judging.specs.Chunks.{IsLookedAt};
 
@@ -19,8 +19,11 @@ pub struct Chunk {
 }
 
 impl Chunk {
-    /// An empty chunk.
-    pub fn new(alloc: Global) -> Chunk {
+    /// An empty chunk, of which nothing was read.
+    pub fn new(alloc: Global) -> Chunk
+        ensures text { result.text.items ≡ [] }
+        ensures bad { result.bad ≡ None }
+    {
         Chunk {
             text: Vec::new(alloc),
             ahead: Ahead::new(alloc),

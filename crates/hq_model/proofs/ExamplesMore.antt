@@ -137,18 +137,6 @@ no_release = (through first_wait_two wait_fill, λ (x, x2, h, b). not_released x
 fence_order : OrderList fence_between (0 ∷ 1 ∷ 2 ∷ [])
 fence_order = order_by_test fence_between (0 ∷ 1 ∷ 2 ∷ []) refl (each_once_by_test fence_between (0 ∷ 1 ∷ 2 ∷ []) refl refl refl) refl refl refl
 
-pub one_fence : Reason fence_between 0 2 NotAcquired
-one_fence = (
-  through into out,
-  (1, 1, Release.alone refl (record { fence = record { is_packet = omega arith; queue = refl; scope_reaches = refl }; after = inr into }), out),
-)
-  where
-    into : Before fence_between 0 1
-    into = by_bit (record { earlier = record { ahead = omega arith; is_packet = omega arith; same_queue = refl }; bit = refl; upto = inl refl })
-
-    out : Before fence_between 1 2
-    out = by_queue (record { earlier = record { ahead = omega arith; is_packet = omega arith; same_queue = refl }; barrier = and≢work BarrierAnd refl })
-
 pub one_fence_not_shown : ShownFor fence_between WriteRead 0 2 → ⊥
 one_fence_not_shown (x, x2, y2, y, release, b, acquire) = not_both x2 y2 (releases x x2 release) (acquires y2 y acquire) (ahead_of (0 ∷ 1 ∷ 2 ∷ []) fence_order b)
   where
@@ -181,3 +169,16 @@ one_fence_not_shown (x, x2, y2, y, release, b, acquire) = not_both x2 y2 (releas
     not_both x2 y2 (inl e) (inr f) a = omega (arith, subst (λ q. Ahead (0 ∷ 1 ∷ 2 ∷ []) 1 q) f (subst (λ q. Ahead (0 ∷ 1 ∷ 2 ∷ []) q y2) e a))
     not_both x2 y2 (inr e) (inl f) a = omega (arith, subst (λ q. Ahead (0 ∷ 1 ∷ 2 ∷ []) 2 q) f (subst (λ q. Ahead (0 ∷ 1 ∷ 2 ∷ []) q y2) e a))
     not_both x2 y2 (inr e) (inr f) a = omega (arith, subst (λ q. Ahead (0 ∷ 1 ∷ 2 ∷ []) 2 q) f (subst (λ q. Ahead (0 ∷ 1 ∷ 2 ∷ []) q y2) e a))
+
+pub one_fence : Reason fence_between 0 2 NotAcquired
+one_fence = (
+  through into out,
+  (1, 1, Release.alone refl (record { fence = record { is_packet = omega arith; queue = refl; scope_reaches = refl }; after = inr into }), out),
+  one_fence_not_shown,
+)
+  where
+    into : Before fence_between 0 1
+    into = by_bit (record { earlier = record { ahead = omega arith; is_packet = omega arith; same_queue = refl }; bit = refl; upto = inl refl })
+
+    out : Before fence_between 1 2
+    out = by_queue (record { earlier = record { ahead = omega arith; is_packet = omega arith; same_queue = refl }; barrier = and≢work BarrierAnd refl })

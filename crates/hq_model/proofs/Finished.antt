@@ -6,8 +6,8 @@ use Rattle.hq_model.specs.Job.{Job, packet, IsPacket, agent_of}
 use Rattle.hq_packet.specs.Scopes.{reaches}
 use Rattle.hq_packet.specs.declared.packet.Scope.TheVariants as scope
 use Rattle.hq_model.specs.Order.{In, place}
-use Rattle.hq_model.specs.Machine.{State, Copy, Event, Step, Steps, IsByte, Released, is_dirty, without_clean, clean, dirty, put2, start, completed}
-use Rattle.hq_model.specs.Machine.Event.{Submit, Launch, Observe, Enter, Read, Store, PushLane, PushAgent, FillLane, FillAgent, DropLane, DropAgent}
+use Rattle.hq_model.specs.Machine.{State, Copy, Event, Steps, IsByte, Released, is_dirty, clean, dirty, put2, start, completed}
+use Rattle.hq_model.specs.Machine.Event.{PushLane, PushAgent}
 use Rattle.hq_model.specs.Journal.{numbers, packets_of, dirty_bytes, lane_pushes, agent_pushes, only_if}
 use Rattle.hq_model.specs.Theorems.{CompletePossible}
 use Rattle.hq_model.proofs.Places.{at_place, place_of_packets, numbers_below, numbers_once, in_first, in_rest, in_cons, in_filter, in_numbers}

@@ -1,6 +1,6 @@
 -- Texts put behind one another, and written in between.
 use Rattle.std.proofs.Common.{◌≡◌, ℕ, zero, suc, ◌+◌, ◌<◌, ◌≤◌, List, [], ◌∷◌, ◌++◌, length, get_or, take, Option, Some, None, refl, sym, ap, subst, ◌∙◌, append_assoc, append-nil, arith, add-one}
-use Rattle.std.specs.Prelude.{map, Result, Ok, Err, OnOk}
+use Rattle.std.specs.Prelude.{map}
 use Rattle.std.specs.List.{AllByRecursion}
 use Rattle.std.specs.Io.KnownBytes.{Appends, append_known}
 use Rattle.std.proofs.lemmas.Grind.{flat_map-append}
@@ -60,10 +60,6 @@ pub at_last : {A : Type 0} (a b : Option (List ℕ)) (F : List A → List ℕ) (
 at_last a b F xs i le h = subst (λ (ys : List _). Appends a b (F ys)) (whole xs i le) h
 
 -- ---- the whole text
-
-pub on_ok : {T E : Type 0} (r : Result T E) (P Q : Type 0) → (P → Q) → OnOk r P → OnOk r Q
-on_ok (Ok x) P Q f h = f h
-on_ok (Err e) P Q f h = tt
 
 pub all_written : (a b c : Option (List ℕ)) (first second third head l e all : List ℕ) → first ≡ head
     → Appends (append_known a first) (append_known b second) l → third ≡ second ++ e → Appends b c third

@@ -1,12 +1,13 @@
 use Rattle.std.proofs.Common.{refl}
 use Rattle.std.specs.Prelude.{map}
+use Rattle.std.proofs.lemmas.Result.{on_ok_weaker}
 use Rattle.hq_certtext.specs.Printed.{is_chain}
 use Rattle.hq_cert.specs.View.{line_of, pair_of}
-use Rattle.hq_certtext.proofs.Puts.{then_gains, as_text, from_front, on_ok, text_is}
+use Rattle.hq_certtext.proofs.Puts.{then_gains, as_text, from_front, text_is}
 use Rattle.hq_certtext.proofs.printing.write_text.Goals as goal
 
 pub returns : goal.returns
-returns g c = on_ok c.write_end.result (λ ended.
+returns g c = on_ok_weaker c.write_end.result (λ ended.
     from_front
     (as_text
     (then_gains c.in_ok-at.ensures.written

@@ -1,6 +1,6 @@
 use Rattle.std.proofs.Common.{◌≡◌, ◌/◌, inl, inr, IsTrue, arith, rules}
 use Rattle.std.proofs.lemmas.Bool.{cases_lt}
-use Rattle.hq_derive.specs.Gathered.{firsts_of, lines_of}
+use Rattle.hq_derive.specs.Gathered.{initial_of, lines_of}
 use Rattle.hq_derive.proofs.Noting.{bits_less}
 use Rattle.hq_derive.proofs.there.words_are_there.Goals as goal
 
@@ -13,5 +13,5 @@ loop-place-preserved c =
       | inl early ↦ c.loop-place.invariant n early h
       | inr from ↦
           let here : n / 64 ≡ place = omega (arith, below, from) in
-          bits_less lines (firsts_of c.args.slots.now) c.args.bits.now place n c.less-rest.result here c.requires (c.word_is_there.ensures all) (search rules) h
+          bits_less lines (initial_of c.args.ranks.now) c.args.bits.now place n c.less-rest.result here c.requires (c.word_is_there.ensures all) (search rules) h
     ]

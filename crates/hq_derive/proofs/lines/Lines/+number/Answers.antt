@@ -77,7 +77,7 @@ numbered-returns t c =
     let w = c.requires.first.within in
     add_answers c.args.before.now c.args.self.now c.rule.new.self c.add.new.self c.args.p c.args.r c.in_ok-rule.rule c.add.result c.in_ok-rule.ensures.goes
     (within_first c.args.before.now c.args.round c.args.p c.args.r w) (within_second c.args.before.now c.args.round c.args.p c.args.r w) c.in_ok-rule.ensures.follows
-    c.add.ensures.lines c.add.ensures.number c.add.ensures.small c.add.ensures.slots
+    c.add.ensures.lines c.add.ensures.number c.add.ensures.small c.add.ensures.ranks
 
 pub cited-round_of-requires : goal.cited-round_of-requires
 cited-round_of-requires t c = below_before c.args.before.now c.args.round c.args.p c.args.r c.requires.below

@@ -23,4 +23,4 @@ returns c =
     let b = c.requires.middle.second in
     add_answers c.args.before.now c.args.self.now c.joined.new.self c.add.new.self c.args.p c.args.r c.in_ok-rule.rule c.add.result c.in_ok-rule.ensures.goes
     (within_first c.args.before.now a.k c.args.p c.args.m a.within) (within_second c.args.before.now b.k c.args.m c.args.r b.within) c.in_ok-rule.ensures.follows
-    c.add.ensures.lines c.add.ensures.number c.add.ensures.small c.add.ensures.slots
+    c.add.ensures.lines c.add.ensures.number c.add.ensures.small c.add.ensures.ranks

@@ -11,4 +11,4 @@ returns-in-Some c = λ is.
     let at = slice_get-get_or c.deref.result.now c.args.k line found.0 ∙ ap Some (sym (found.1 line)) in
     let there : slice_get lone c.args.k ≡ Some line = subst (λ xs. slice_get xs c.args.k ≡ Some line) c.deref.ensures.value at in
     let said = c.says.ensures is in
-    lone_number lone c.self.inside.words c.args.self.now c.args.k c.args.p c.args.r line c.self.view_is c.self.invariant there said.0 said.1
+    lone_number lone c.self.inside.shorts c.args.self.now c.args.k c.args.p c.args.r line c.self.view_is c.self.invariant there said.0 said.1

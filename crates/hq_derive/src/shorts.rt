@@ -6,7 +6,7 @@ ghost use Rattle.hq_cert.specs.View.{rule_of};
 ghost use Rattle.hq_model.specs.Certificate.{Says};
 ghost use Rattle.hq_derive.specs.Short.{told, PutsLine, StayPlaced};
 
-use crate::short::{NUMBERS, Short};
+use crate::short::{FORMS, NUMBERS, Short};
 use crate::told::Told;
 use hq_bits::WIDTH;
 use hq_cert::{Branches, Line, Rule};
@@ -16,55 +16,55 @@ use std::marker::Model;
 /// Lines by number, in eight bytes each. Those of barrier-ORs, which cite a line for each dependency, are kept as they
 /// are. Contracts see the model's lines.
 #[derive(Drop)]
-pub struct Words {
-    words: Vec<Short>,
+pub struct Shorts {
+    shorts: Vec<Short>,
     kept: Vec<Line>,
 }
 
-impl Model for Words {
+impl Model for Shorts {
     ghost use Rattle.std.specs.Prelude.{List, map};
     ghost use Rattle.hq_model.specs.Certificate as model;
     ghost use Rattle.hq_derive.specs.Short.{line_in, ArePlaced};
 
     ghost Value = { List model.Line };
 
-    ghost view = { λ s. map (line_in s.kept.items) s.words.items };
+    ghost view = { λ s. map (line_in s.kept.items) s.shorts.items };
 
-    ghost invariant = { λ s. ArePlaced s.kept.items s.words.items };
+    ghost invariant = { λ s. ArePlaced s.kept.items s.shorts.items };
 }
 
 /// Adds a line of this form.
 #[inline(always)]
 fn put(
-    words: &mut Vec<Short>,
+    shorts: &mut Vec<Short>,
     form: u64,
     p: usize,
     r: usize,
     first: u32,
     second: u32,
 ) -> Result<(), AllocError>
-    requires form { form < 8 }
+    requires form { form < FORMS }
     requires p_is { p < WIDTH }
     requires r_is { r < WIDTH }
-    ensures puts { OnOk result (PutsLine form p r first second words.old.items words.new.items) }
-    ensures placed { StayPlaced form first words.old.items words.new.items }
-    ensures few { length words.new.items ≤ length words.old.items + 1 }
+    ensures puts { OnOk result (PutsLine form p r first second shorts.old.items shorts.new.items) }
+    ensures placed { StayPlaced form first shorts.old.items shorts.new.items }
+    ensures few { length shorts.new.items ≤ length shorts.old.items + 1 }
 {
     if first as u64 >= NUMBERS || second as u64 >= NUMBERS {
         return Err(AllocError);
     }
-    words.push(Short::new(form, p, r, first, second))?;
+    shorts.push(Short::new(form, p, r, first, second))?;
     Ok(())
 }
 
-impl Words {
+impl Shorts {
     /// No lines, with room for so many.
-    pub fn new(alloc: Global, room: usize) -> Result<Words, AllocError>
+    pub fn new(alloc: Global, room: usize) -> Result<Shorts, AllocError>
         ensures { IfOk result (λ s. s ≡ []) }
     {
-        let words = Vec::with_capacity(alloc, room)?;
-        Ok(Words {
-            words,
+        let shorts = Vec::with_capacity(alloc, room)?;
+        Ok(Shorts {
+            shorts,
             kept: Vec::new(alloc),
         })
     }
@@ -73,7 +73,7 @@ impl Words {
     pub fn len(&self) -> usize
         ensures { result ≡ length self.now }
     {
-        self.words.len()
+        self.shorts.len()
     }
 
     /// Adds the line of a barrier-OR.
@@ -95,7 +95,7 @@ impl Words {
             r: r as u32,
             rule: Rule::Or(branches),
         })?;
-        put(&mut self.words, 4, p, r, number as u32, 0)
+        put(&mut self.shorts, 4, p, r, number as u32, 0)
     }
 
     /// Adds a line.
@@ -111,10 +111,10 @@ impl Words {
         ensures few { length self.new ≤ length self.old + 1 }
     {
         match rule {
-            Rule::Bit(packet) => put(&mut self.words, 0, p, r, packet, 0),
-            Rule::Queue => put(&mut self.words, 1, p, r, 0, 0),
-            Rule::And(slot) => put(&mut self.words, 2, p, r, slot, 0),
-            Rule::Through(first, second) => put(&mut self.words, 3, p, r, first, second),
+            Rule::Bit(packet) => put(&mut self.shorts, 0, p, r, packet, 0),
+            Rule::Queue => put(&mut self.shorts, 1, p, r, 0, 0),
+            Rule::And(slot) => put(&mut self.shorts, 2, p, r, slot, 0),
+            Rule::Through(first, second) => put(&mut self.shorts, 3, p, r, first, second),
             Rule::Or(branches) => self.keep(p, r, branches),
         }
     }
@@ -125,7 +125,7 @@ impl Words {
         requires { k < length self.now }
         ensures { slice_get self.now k ≡ Some (told result) }
     {
-        let short = self.words[k];
+        let short = self.shorts[k];
         let rule = match short.form() {
             0 => Rule::Bit(short.first()),
             1 => Rule::Queue,
@@ -145,7 +145,7 @@ impl Words {
     pub fn says(&self, k: usize, p: usize, r: usize) -> bool
         ensures { IsTrue result → Says self.now (length self.now) k p r }
     {
-        match self.words.get(k) {
+        match self.shorts.get(k) {
             None => false,
             Some(short) if short.form() < 4 => short.is_of(p, r),
             Some(_) => self.line(k).says(p, r),

@@ -1,5 +1,5 @@
 use Rattle.std.proofs.Common.{arith}
-use Rattle.hq_derive.proofs.words.Words.push.Goals as goal
+use Rattle.hq_derive.proofs.shorts.Shorts.push.Goals as goal
 
 pub invariant_of-self : goal.invariant_of-self
 invariant_of-self c = c.put.ensures.placed c.self.inside.kept.items (λ four. absurd (omega (arith, four))) c.self.invariant

@@ -1,4 +1,4 @@
-//! A place for the number of each line that is needed.
+//! The rank of each line that is needed.
 
 ghost use Rattle.std.specs.Prelude.{◌≡◌};
 
@@ -11,78 +11,81 @@ use std::alloc::{AllocError, Global};
 #[derive(Clone, Copy, Debug)]
 pub struct Place {
     /// The bits of those of round 0,
-    pub first: u64,
+    pub initial: u64,
     /// and of those of later rounds.
     pub later: u64,
     /// How many of round 0 there are at the places ahead of this one,
-    pub first_ahead: u32,
+    pub initial_ahead: u32,
     /// and how many of later rounds.
     pub later_ahead: u32,
 }
 
-/// Where the number of a line is found: it is this one, since it is counted how many lines of round 0 there are ahead
-/// of it; or it stands at this slot.
+/// How many lines stand ahead of one, of those of round 0 where it is one of these, or else of those of later rounds.
 #[derive(Clone, Copy, Debug)]
-pub enum Slot {
-    Number(u32),
+pub enum Rank {
+    Initial(u32),
     Later(u32),
 }
 
-/// Numbers the needed lines of round 0, and those of later rounds, by the first packet and then by the second.
+/// Ranks of the needed lines of round 0, and of those of later rounds, by the first packet and then by the second.
 #[derive(Drop)]
-pub struct Slots {
+pub struct Ranks {
     places: Vec<Place>,
     /// How many of round 0 there are in all,
-    first: u32,
+    initial: u32,
     /// and how many of later rounds.
     later: u32,
 }
 
-impl Slots {
-    /// No slots.
-    pub fn none(alloc: Global) -> Slots {
-        Slots {
+impl Ranks {
+    /// The ranks of no lines.
+    pub fn none(alloc: Global) -> Ranks {
+        Ranks {
             places: Vec::new(alloc),
-            first: 0,
+            initial: 0,
             later: 0,
         }
     }
 
-    /// A slot for each line that is needed.
-    pub fn new(alloc: Global, before: &Before, needs: &Needs) -> Result<Slots, AllocError> {
+    /// The rank of each line that is needed.
+    ///
+    /// # Errors
+    ///
+    /// `AllocError` where there is no memory.
+    pub fn new(alloc: Global, before: &Before, needs: &Needs) -> Result<Ranks, AllocError> {
         let places = Vec::with_capacity(alloc, needs.bits().len())?;
-        let mut slots = Slots {
+        let mut ranks = Ranks {
             places,
-            first: 0,
+            initial: 0,
             later: 0,
         };
         for (place, word) in needs.bits().iter().enumerate() {
-            let first = match *word {
+            let initial = match *word {
                 0 => 0,
                 some => some & before.fresh(0, place / WORDS, place % WORDS),
             };
-            slots.push(first, less(*word, first))?;
+            ranks.push(initial, less(*word, initial))?;
         }
-        Ok(slots)
+        Ok(ranks)
     }
 
     /// Adds a place.
     #[inline(always)]
-    fn push(&mut self, first: u64, later: u64) -> Result<(), AllocError> {
+    fn push(&mut self, initial: u64, later: u64) -> Result<(), AllocError> {
         self.places.push(Place {
-            first,
+            initial,
             later,
-            first_ahead: self.first,
+            initial_ahead: self.initial,
             later_ahead: self.later,
         })?;
-        self.first = self.first.saturating_add(first.count_ones());
+        self.initial = self.initial.saturating_add(initial.count_ones());
         self.later = self.later.saturating_add(later.count_ones());
         Ok(())
     }
 
     /// How many lines of round 0 are needed.
-    pub fn first(&self) -> usize {
-        self.first as usize
+    pub fn initial(&self) -> usize {
+        self.initial as usize
     }
 
     /// How many lines of later rounds are needed.
@@ -97,19 +100,19 @@ impl Slots {
         &self.places
     }
 
-    /// Where the number of the line is found that p is before r, if one is needed.
+    /// The rank of the line that p is before r, if one is needed.
     #[inline(always)]
-    pub fn slot(&self, p: usize, r: usize) -> Option<Slot> {
+    pub fn rank(&self, p: usize, r: usize) -> Option<Rank> {
         let place = self.places.get(place_of(p, r))?;
         let bit = 1u64 << (r % 64);
         let ahead = bit.wrapping_sub(1);
-        if place.first & bit != 0 {
-            let count = (place.first & ahead).count_ones();
-            return Some(Slot::Number(place.first_ahead.wrapping_add(count)));
+        if place.initial & bit != 0 {
+            let count = (place.initial & ahead).count_ones();
+            return Some(Rank::Initial(place.initial_ahead.wrapping_add(count)));
         }
         if place.later & bit != 0 {
             let count = (place.later & ahead).count_ones();
-            return Some(Slot::Later(place.later_ahead.wrapping_add(count)));
+            return Some(Rank::Later(place.later_ahead.wrapping_add(count)));
         }
         None
     }
