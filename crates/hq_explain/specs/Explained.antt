@@ -26,9 +26,9 @@ pub record IsFirstWait (order : Job) (r p : ℕ) (by : Wait) : Type 0 where
   pub awaits : Awaits order p r by
   pub none_below : (q : ℕ) (way : Wait) → q < p → ¬ Awaits order q r way
 
--- which such packet r waits for, and how; or that it is one
+-- the first such packet that r waits for, and how; or, where it waits for none, that it is one
 abbrev pub StuckLine : JobValue → Job → ℕ → List ℕ → Type 0
-StuckLine job order r text = ((p : ℕ) × (by : Wait) × Awaits order p r by × Is (waits_line job p r by) text)
+StuckLine job order r text = ((p : ℕ) × (by : Wait) × IsFirstWait order r p by × Is (waits_line job p r by) text)
     ⊎ (AwaitsNone order r × Is (stuck_line r) text)
 
 -- a line for r, if it can never complete
