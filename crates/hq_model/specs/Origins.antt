@@ -27,7 +27,7 @@ abbrev pub origin_or : Option Copy → Origin → Origin → Origin
 origin_or None own below = below
 origin_or (Some copy) own below = own
 
--- the origin of the byte that an agent sees, and of the one that is seen through a packet's lane
+-- the origin of byte b as agent a sees it
 abbrev pub agent_origin : State → Origins → ℕ → ℕ → Origin
 agent_origin state o a b = origin_or (state.agent a b) (o.agent a b) (o.memory b)
 

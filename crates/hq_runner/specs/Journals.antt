@@ -39,7 +39,7 @@ is_asked (event.Deliver p) = true
 is_asked (event.Complete p) = true
 is_asked other = false
 
--- the events of queue q's processor, and those of the host
+-- the events of queue q's processor
 abbrev pub events_of : Job → ℕ → List Event → List Event
 events_of job q events = filter (is_of job q) events
 
