@@ -14,19 +14,23 @@ use Rattle.hq_derive.specs.declared.lone.TheConstants as lone
 use Rattle.hq_derive.specs.declared.told.Told.{Told}
 use Rattle.hq_derive.specs.declared.told.Told.TheVariants.{Made, Kept}
 
--- the parts of such a number
+-- which form of a line the number is for: the rule, by its place in the list that `Short` has
 abbrev pub form_of : Short → ℕ
 form_of s = s.word % short.FORMS
 
+-- the packet that is before the other
 abbrev pub p_of : Short → ℕ
 p_of s = s.word / short.FORMS % PACKETS
 
+-- the packet behind it
 abbrev pub r_of : Short → ℕ
 r_of s = s.word / short.FORMS / PACKETS % PACKETS
 
+-- what the rule cites first
 abbrev pub first_of : Short → ℕ
 first_of s = s.word / short.FORMS / PACKETS / PACKETS % NUMBERS
 
+-- and second
 abbrev pub second_of : Short → ℕ
 second_of s = s.word / short.FORMS / PACKETS / PACKETS / NUMBERS % NUMBERS
 

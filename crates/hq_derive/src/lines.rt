@@ -26,7 +26,7 @@ use hq_cert::{Branches, Citation, Line, Rule};
 use hq_order::Before;
 use std::alloc::{AllocError, Global};
 
-/// The number where that of a line isn't known yet: no line has it.
+/// Stands for the number of a line that isn't there yet: no line has it.
 const NONE: u32 = u32::MAX;
 
 /// The lines so far. Where the number of a line is found is only a guess: whether it is that line's is told by the line
