@@ -11,7 +11,7 @@ use hq_cert::{Line, Rule};
 pub const FORMS: u32 = 4;
 
 /// How many numbers there is room for in each place.
-pub const PLACE: u32 = WIDTH as u32;
+const PLACE: u32 = WIDTH as u32;
 
 /// A line in one number. Its last two bits say by which rule the line concludes that p is before r: 0 by a barrier bit,
 /// 1 by the queue, 2 by a barrier-AND. Before them stand p, r, and the packet or the slot that the rule names, ten bits
