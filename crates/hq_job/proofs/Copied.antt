@@ -33,6 +33,10 @@ same_value j k tables packets submissions = λ i. shown (tables i) (packets i) (
 pub fit_copied : (j k : Inside) → tables_of k.tables ≡ tables_of j.tables → k.packets.items ≡ j.packets.items → k.firsts.items ≡ j.firsts.items → k.submissions.items ≡ j.submissions.items → FieldsFit j → FieldsFit k
 fit_copied j k tables packets firsts submissions fit = record {
   is_read = subst IsRead (sym (same_value j k tables packets submissions)) fit.is_read;
-  queues_are = ap (map (λ (p : Placed). p.queue)) packets ∙ fit.queues_are ∙ sym (ap (λ (ts : Tables). map (λ (p : Placed). p.queue) (by_number (length ts.queues) ts.placed)) tables);
-  firsts_are = firsts ∙ fit.firsts_are ∙ sym (ap (λ (ts : Tables). map (λ q. length (by_number q ts.placed)) (numbers (length ts.queues))) tables);
+  queues_are = ap (map (λ (p : Placed). p.queue)) packets ∙ fit.queues_are
+      ∙ ap (λ ps. map (λ (p : Placed). p.queue) (by_number (length j.tables.queues.items) ps)) (sym packets)
+      ∙ ap (λ (ts : Tables). map (λ (p : Placed). p.queue) (by_number (length ts.queues) k.packets.items)) (sym tables);
+  firsts_are = firsts ∙ fit.firsts_are
+      ∙ ap (λ ps. map (λ q. length (by_number q ps)) (numbers (length j.tables.queues.items))) (sym packets)
+      ∙ ap (λ (ts : Tables). map (λ q. length (by_number q k.packets.items)) (numbers (length ts.queues))) (sym tables);
 }

@@ -20,6 +20,7 @@ use Rattle.hq_job.specs.Plan.{plan, planned}
 use Rattle.hq_tables.specs.Kinds.{kind_of}
 use Rattle.hq_job.specs.Value.{JobValue}
 use Rattle.hq_job.specs.View.{value_of, IsRead, PacketIsRead}
+use Rattle.hq_job.proofs.Regrouped.{same_keys, same_firsts}
 
 -- ---- one packet
 
@@ -183,13 +184,17 @@ read_kept job ys same read = record {
 pub fit_kept : (j k : Inside) → k.tables ≡ j.tables → k.firsts ≡ j.firsts → k.submissions ≡ j.submissions → SamePackets j.packets.items k.packets.items → FieldsFit j → FieldsFit k
 fit_kept j k tables firsts submissions same fit = record {
   is_read = subst IsRead (sym value) (read_kept (value_of j) k.packets.items same fit.is_read);
-  queues_are = sym (same_said queue_of (λ x. refl) j.packets.items k.packets.items same)
-      ∙ subst (λ ts. map queue_of j.packets.items ≡ map queue_of (by_number (length ts.queues.items) ts.placed.items)) (sym tables) fit.queues_are;
-  firsts_are = ap (λ v. v.items) firsts ∙ subst (λ ts. j.firsts.items ≡ map (λ q. length (by_number q ts.placed.items)) (numbers (length ts.queues.items))) (sym tables) fit.firsts_are;
+  queues_are = sym alike ∙ fit.queues_are ∙ same_keys queue_of (length j.tables.queues.items) j.packets.items k.packets.items alike
+      ∙ ap (λ ts. map queue_of (by_number (length ts.queues.items) k.packets.items)) (sym tables);
+  firsts_are = ap (λ v. v.items) firsts ∙ fit.firsts_are ∙ same_firsts queue_of (length j.tables.queues.items) j.packets.items k.packets.items alike
+      ∙ ap (λ ts. map (λ q. length (by_number q k.packets.items)) (numbers (length ts.queues.items))) (sym tables);
 }
   where
     queue_of : Placed → ℕ
     queue_of x = x.queue
+
+    alike : map queue_of j.packets.items ≡ map queue_of k.packets.items
+    alike = same_said queue_of (λ x. refl) j.packets.items k.packets.items same
 
     value : value_of k ≡ with_packets (value_of j) k.packets.items
     value = λ i. value_of (record k { tables = tables i; submissions = submissions i })

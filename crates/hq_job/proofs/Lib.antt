@@ -1,4 +1,5 @@
 pub mod Grouped
+pub mod Regrouped
 pub mod GivenHeads
 pub mod Copied
 pub mod Submitted

@@ -214,19 +214,19 @@ module _ (job : Job) (xs ys : List Placed) (same : queues_of xs ≡ queues_of ys
 
 -- ---- by the fields of a job
 
-pub first_is : (j : Inside) → FieldsFit j → (q : ℕ) → q < length j.firsts.items → (q < length j.tables.queues.items) × (slice_index j.firsts.items q ≡ length (by_number q j.tables.placed.items))
+pub first_is : (j : Inside) → FieldsFit j → (q : ℕ) → q < length j.firsts.items → (q < length j.tables.queues.items) × (slice_index j.firsts.items q ≡ length (by_number q j.packets.items))
 first_is j fit q l =
-    let counted = counted_none queue_of (length j.tables.queues.items) j.tables.placed.items j.firsts.items fit.firsts_are in
+    let counted = counted_none queue_of (length j.tables.queues.items) j.packets.items j.firsts.items fit.firsts_are in
     let below : q < length j.tables.queues.items = omega (arith, counted.count) in
     (below, counted.each q below ∙ omega arith)
 
 stands_of : (j : Inside) → FieldsFit j → (q i p : ℕ) → LiesAt j.firsts.items j.packets.items q i p → StandsAt (plan (value_of j)) q i p
 stands_of j fit q i p lies =
     let first = first_is j fit q lies.below in
-    let rows : List Placed = by_number (length j.tables.queues.items) j.tables.placed.items in
+    let rows : List Placed = by_number (length j.tables.queues.items) j.packets.items in
     let row = same_queue_at j.packets.items rows fit.queues_are p lies.row lies.there in
     stands_kept (plan (value_of j)) rows j.packets.items (sym fit.queues_are) q i p
-    (stands_where (with_rows (plan (value_of j)) rows) (length j.tables.queues.items) j.tables.placed.items q i p refl
+    (stands_where (with_rows (plan (value_of j)) rows) (length j.tables.queues.items) j.packets.items q i p refl
     (record {
       below = first.0;
       number_is = lies.number_is ∙ ap (λ n. n + i) first.1;
@@ -237,9 +237,9 @@ stands_of j fit q i p lies =
 
 lies_of : (j : Inside) → FieldsFit j → (q i p : ℕ) → StandsAt (plan (value_of j)) q i p → LiesAt j.firsts.items j.packets.items q i p
 lies_of j fit q i p s =
-    let rows : List Placed = by_number (length j.tables.queues.items) j.tables.placed.items in
-    let found = found_where (with_rows (plan (value_of j)) rows) (length j.tables.queues.items) j.tables.placed.items q i p refl (stands_kept (plan (value_of j)) j.packets.items rows fit.queues_are q i p s) in
-    let counted = counted_none queue_of (length j.tables.queues.items) j.tables.placed.items j.firsts.items fit.firsts_are in
+    let rows : List Placed = by_number (length j.tables.queues.items) j.packets.items in
+    let found = found_where (with_rows (plan (value_of j)) rows) (length j.tables.queues.items) j.packets.items q i p refl (stands_kept (plan (value_of j)) j.packets.items rows fit.queues_are q i p s) in
+    let counted = counted_none queue_of (length j.tables.queues.items) j.packets.items j.firsts.items fit.firsts_are in
     let below : q < length j.firsts.items = omega (arith, counted.count, found.below) in
     let row = same_queue_at rows j.packets.items (sym fit.queues_are) p found.row found.there in
     record {

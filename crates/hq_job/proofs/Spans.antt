@@ -50,21 +50,21 @@ in_span key n xs p q below low high =
     }
 
 -- the number behind the queue's last
-last_is : (j : Inside) → FieldsFit j → (q : ℕ) → q < length j.firsts.items → cond (nat_lt (q + 1) (length j.firsts.items)) (slice_index j.firsts.items (q + 1)) (length j.packets.items) ≡ length (by_number (q + 1) j.tables.placed.items)
+last_is : (j : Inside) → FieldsFit j → (q : ℕ) → q < length j.firsts.items → cond (nat_lt (q + 1) (length j.firsts.items)) (slice_index j.firsts.items (q + 1)) (length j.packets.items) ≡ length (by_number (q + 1) j.packets.items)
 last_is j fit q l = elim (cases_lt (q + 1) (length j.firsts.items)) [
   | inl more ↦ cond-true (nat_lt (q + 1) (length j.firsts.items)) (slice_index j.firsts.items (q + 1)) (length j.packets.items) (lt-ltb (q + 1) (length j.firsts.items) more) ∙ (first_is j fit (q + 1) more).1
   | inr last ↦
-      let count : length j.firsts.items ≡ length j.tables.queues.items = (counted_none queue_of (length j.tables.queues.items) j.tables.placed.items j.firsts.items fit.firsts_are).count in
+      let count : length j.firsts.items ≡ length j.tables.queues.items = (counted_none queue_of (length j.tables.queues.items) j.packets.items j.firsts.items fit.firsts_are).count in
       let n_is : length j.tables.queues.items ≡ q + 1 = omega (arith, count) in
-      let rows : List Placed = by_number (length j.tables.queues.items) j.tables.placed.items in
+      let rows : List Placed = by_number (length j.tables.queues.items) j.packets.items in
       let rows_are : length j.packets.items ≡ length rows = sym (length-map j.packets.items queue_of) ∙ ap length fit.queues_are ∙ length-map rows queue_of in
-      cond-false (nat_lt (q + 1) (length j.firsts.items)) (slice_index j.firsts.items (q + 1)) (length j.packets.items) (le-ltb (q + 1) (length j.firsts.items) last) ∙ rows_are ∙ ap (λ n. length (by_number n j.tables.placed.items)) n_is
+      cond-false (nat_lt (q + 1) (length j.firsts.items)) (slice_index j.firsts.items (q + 1)) (length j.packets.items) (le-ltb (q + 1) (length j.firsts.items) last) ∙ rows_are ∙ ap (λ n. length (by_number n j.packets.items)) n_is
 ]
 
-of_fields : (j : Inside) → FieldsFit j → (q : ℕ) → q < length j.firsts.items → AreOfQueue (plan (value_of j)) q (length (by_number q j.tables.placed.items)) (length (by_number (suc q) j.tables.placed.items))
+of_fields : (j : Inside) → FieldsFit j → (q : ℕ) → q < length j.firsts.items → AreOfQueue (plan (value_of j)) q (length (by_number q j.packets.items)) (length (by_number (suc q) j.packets.items))
 of_fields j fit q l =
     let n : ℕ = length j.tables.queues.items in
-    let placed = j.tables.placed.items in
+    let placed = j.packets.items in
     let old : Job = with_rows (plan (value_of j)) (by_number n placed) in
     let alike = queue_kept (plan (value_of j)) j.packets.items (by_number n placed) fit.queues_are in
     let many = as_many_rows (plan (value_of j)) j.packets.items (by_number n placed) fit.queues_are in
@@ -81,15 +81,15 @@ of_fields j fit q l =
 pub spans : (j : Inside) → FieldsFit j → (job : JobValue) → value_of j ≡ job → (firsts : List ℕ) → firsts ≡ j.firsts.items → (count : ℕ) → count ≡ length j.packets.items → (q start stop : ℕ) → q < length firsts → start ≡ slice_index firsts q → stop ≡ cond (nat_lt (q + 1) (length firsts)) (slice_index firsts (q + 1)) count → AreOfQueue (plan job) q start stop
 spans j fit job shown firsts first count counted q start stop l starts stops =
     let below : q < length j.firsts.items = omega (arith, l, ap length first) in
-    let start_is : length (by_number q j.tables.placed.items) ≡ start = sym (first_is j fit q below).1 ∙ ap (λ ns. slice_index ns q) (sym first) ∙ sym starts in
-    let stop_is : length (by_number (suc q) j.tables.placed.items) ≡ stop =
-    ap (λ m. length (by_number m j.tables.placed.items)) (sym (add-one q)) ∙ sym (last_is j fit q below)
+    let start_is : length (by_number q j.packets.items) ≡ start = sym (first_is j fit q below).1 ∙ ap (λ ns. slice_index ns q) (sym first) ∙ sym starts in
+    let stop_is : length (by_number (suc q) j.packets.items) ≡ stop =
+    ap (λ m. length (by_number m j.packets.items)) (sym (add-one q)) ∙ sym (last_is j fit q below)
     ∙ ap (λ ns. cond (nat_lt (q + 1) (length ns)) (slice_index ns (q + 1)) (length j.packets.items)) (sym first)
     ∙ ap (λ c. cond (nat_lt (q + 1) (length firsts)) (slice_index firsts (q + 1)) c) (sym counted) ∙ sym stops in
     subst (λ v. AreOfQueue (plan v) q start stop) shown
-    (subst (λ m. AreOfQueue (plan (value_of j)) q start m) stop_is (subst (λ m. AreOfQueue (plan (value_of j)) q m (length (by_number (suc q) j.tables.placed.items))) start_is (of_fields j fit q below)))
+    (subst (λ m. AreOfQueue (plan (value_of j)) q start m) stop_is (subst (λ m. AreOfQueue (plan (value_of j)) q m (length (by_number (suc q) j.packets.items))) start_is (of_fields j fit q below)))
 
 -- as many queues as first packets
 pub as_many : (j : Inside) → FieldsFit j → (job : JobValue) → value_of j ≡ job → (firsts : List ℕ) → firsts ≡ j.firsts.items → (q : ℕ) → q < length job.queues → q < length firsts
 as_many j fit job shown firsts first q l =
-    omega (arith, l, ap length first, ap (λ (v : JobValue). length v.queues) shown, (counted_none queue_of (length j.tables.queues.items) j.tables.placed.items j.firsts.items fit.firsts_are).count)
+    omega (arith, l, ap length first, ap (λ (v : JobValue). length v.queues) shown, (counted_none queue_of (length j.tables.queues.items) j.packets.items j.firsts.items fit.firsts_are).count)

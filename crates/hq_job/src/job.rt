@@ -26,7 +26,9 @@ use std::ops::Range;
 /// plan of that value, the job as numbers.
 #[derive(Drop)]
 pub struct Job {
+    /// What the lines of the text filled, but for the packets.
     tables: Tables,
+    /// The packets, by number.
     packets: Vec<Placed>,
     firsts: Vec<usize>,
     submissions: Vec<u16>,
@@ -56,7 +58,7 @@ impl Job {
     /// # Errors
     ///
     /// `AllocError` where there is no memory.
-    pub fn of_tables(alloc: Global, tables: Tables) -> Result<Job, AllocError>
+    pub fn of_tables(alloc: Global, mut tables: Tables) -> Result<Job, AllocError>
         requires fit { TablesFit (tables_of tables) }
         requires enough { All (λ s. ¬ IsUndershot s) tables.signals }
         requires exact { All (λ s. ¬ NeverReachesZero s) tables.signals }
@@ -65,6 +67,7 @@ impl Job {
         let (packets, firsts) = by_number(alloc, tables.queues.len(), &tables.placed)?;
         let next = firsts.clone()?;
         let submissions = submissions(alloc, tables.queues.len(), next, &tables.placed)?;
+        tables.placed = Vec::new(alloc);
         Ok(Job {
             tables,
             packets,
