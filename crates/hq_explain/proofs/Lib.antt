@@ -4,3 +4,4 @@ pub mod Noting
 pub mod Saying
 pub mod Counting
 pub mod Whole
+pub mod Waits

@@ -11,25 +11,20 @@ use Rattle.hq_finding.specs.declared.found.Found.TheVariants as found
 use Rattle.hq_graph.specs.declared.wait.Wait.{Wait}
 use Rattle.hq_explain.specs.Explain.{PairText}
 use Rattle.hq_explain.specs.Told.{AllText}
-use Rattle.hq_explain.specs.Texts.{apart_line, beyond_line, stuck_line, waits_line}
+use Rattle.hq_explain.specs.Texts.{apart_line, beyond_line, waits_line}
 use Rattle.hq_explain.specs.declared.which.Which.{Which}
 use Rattle.hq_explain.specs.declared.which.Which.TheVariants as which
 
 -- ---- packets that can never complete
-
--- packet r waits for no packet, in any way
-abbrev pub AwaitsNone : Job → ℕ → Type 0
-AwaitsNone order r = (p : ℕ) (by : Wait) → IsPacket order p → ¬ Awaits order p r by
 
 -- packet r waits for p in this way, and for none below that
 pub record IsFirstWait (order : Job) (r p : ℕ) (by : Wait) : Type 0 where
   pub awaits : Awaits order p r by
   pub none_below : (q : ℕ) (way : Wait) → q < p → ¬ Awaits order q r way
 
--- the first such packet that r waits for, and how; or, where it waits for none, that it is one
+-- the first such packet that r waits for, and how
 abbrev pub StuckLine : JobValue → Job → ℕ → List ℕ → Type 0
-StuckLine job order r text = ((p : ℕ) × (by : Wait) × IsFirstWait order r p by × Is (waits_line job p r by) text)
-    ⊎ (AwaitsNone order r × Is (stuck_line r) text)
+StuckLine job order r text = (p : ℕ) × (by : Wait) × IsFirstWait order r p by × Is (waits_line job p r by) text
 
 -- a line for r, if it can never complete
 abbrev pub StuckPart : JobValue → Job → ℕ → List ℕ → Type 0

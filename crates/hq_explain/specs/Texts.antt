@@ -280,7 +280,3 @@ waiting_text p r by name = waiting_words p r ++ codes ", which " ++ wait_text by
 -- the same in this job, which has the signal's name
 abbrev pub waits_line : JobValue → ℕ → ℕ → Wait → List ℕ
 waits_line job p r by = waiting_text p r by (awaited_by job by)
-
--- that r can never complete, where nothing is told of what it waits for
-abbrev pub stuck_line : ℕ → List ℕ
-stuck_line r = codes "packet " ++ decimal r ++ codes " can never complete\n"

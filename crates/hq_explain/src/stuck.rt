@@ -1,6 +1,6 @@
 //! What packets that can never complete wait for.
 
-ghost use Rattle.std.specs.Prelude.{◌≡◌, ◌<◌, ◌↔◌, ℕ, IfErr, IfOk, IsTrue, MatchOption, OnOk, Some, length};
+ghost use Rattle.std.specs.Prelude.{◌≡◌, ◌↔◌, IfErr, IfOk, IsTrue, MatchOption, OnOk, Some};
 ghost use Rattle.std.specs.Io.KnownBytes.{Appends};
 ghost use Rattle.hq_job.specs.Plan.{plan};
 ghost use Rattle.hq_model.specs.Job.{IsPacket};
@@ -10,7 +10,7 @@ ghost use Rattle.hq_graph.specs.Known.{TellsStuck};
 ghost use Rattle.hq_graph.specs.Order.{Awaits};
 ghost use Rattle.hq_graph.specs.declared.wait.Wait.{Wait as By};
 ghost use Rattle.hq_explain.specs.Explained.{IsFirstWait, StuckLine, StuckPart, StuckText};
-ghost use Rattle.hq_explain.specs.Texts.{stuck_line, wait_text, waiting_words, waits_line};
+ghost use Rattle.hq_explain.specs.Texts.{wait_text, waiting_words, waits_line};
 ghost use Rattle.hq_explain.specs.declared.fault.ExplainFault.TheVariants.{Memory};
 
 use crate::fault::ExplainFault;
@@ -57,21 +57,23 @@ fn wait_at(job: &Job, stuck: &Stuck, p: usize, r: usize) -> Option<Wait>
     }
 }
 
-/// The first packet that r, which can never complete, waits for and which can't either, and how.
-fn wait_of(job: &Job, stuck: &Stuck, r: usize) -> Option<(usize, Wait)>
+/// The first packet that r, which can never complete, waits for and which can't either, and how. There is one: else r
+/// could complete.
+fn wait_of(job: &Job, stuck: &Stuck, r: usize) -> (usize, Wait)
     requires tells { TellsStuck (plan job.now) stuck.now }
     requires some { IsTrue stuck.now.some }
     requires r_is { IsPacket (plan job.now) r }
     requires stuck { order.Stuck (plan job.now) r }
-    ensures { MatchOption result ((p : ℕ) (by : By) → p < length job.now.packets → ¬ Awaits (plan job.now) p r by)
-        (λ w. IsFirstWait (plan job.now) r w.0 w.1) }
+    ensures { IsFirstWait (plan job.now) r result.0 result.1 }
 {
+    job.valid();
+    let _own = job.of_queue(job.packet(r).queue as usize);
     for p in 0..job.packets().len() {
         if let Some(by) = wait_at(job, stuck, p, r) {
-            return Some((p, by));
+            return (p, by);
         }
     }
-    None
+    unreachable!()
 }
 
 /// How a packet is waited for, with the name of the signal.
@@ -130,13 +132,6 @@ fn write_waits<W: Write>(
     write!(writer, "{waiting}, which {way}\n")
 }
 
-/// Writes that r can never complete.
-fn write_alone<W: Write>(writer: &mut W, r: usize) -> io::Result<()>
-    ensures { OnOk result (Appends (W.contents writer.old) (W.contents writer.new) (stuck_line r)) }
-{
-    write!(writer, "packet {r} can never complete\n")
-}
-
 /// Writes what r, which can never complete, waits for.
 fn write_line<W: Write>(writer: &mut W, job: &Job, stuck: &Stuck, r: usize) -> io::Result<()>
     requires tells { TellsStuck (plan job.now) stuck.now }
@@ -145,10 +140,8 @@ fn write_line<W: Write>(writer: &mut W, job: &Job, stuck: &Stuck, r: usize) -> i
     requires stuck { order.Stuck (plan job.now) r }
     ensures { OnOk result (Wrote (W.contents writer.old) (W.contents writer.new) (StuckLine job.now (plan job.now) r)) }
 {
-    match wait_of(job, stuck, r) {
-        Some((p, wait)) => write_waits(writer, job, p, r, wait),
-        None => write_alone(writer, r),
-    }
+    let (p, wait) = wait_of(job, stuck, r);
+    write_waits(writer, job, p, r, wait)
 }
 
 /// Writes what r waits for, if it can never complete.
