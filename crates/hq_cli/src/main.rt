@@ -1,6 +1,10 @@
 //! The program `hsaq`: checks how the packets of HSA user-mode queues are ordered, and runs them.
 #![tactic(auto)]
 
+ghost use Rattle.hq_cli.specs.Answered.{AnswerReport};
+ghost use Rattle.hq_commands.specs.Judged.{IsToJudge};
+ghost use Rattle.hq_status.specs.Reports.{Reported};
+
 mod changing;
 mod explaining;
 mod progress;
@@ -21,13 +25,16 @@ use std::process::ExitCode;
 use std::sync::Wait;
 use std::thread::Threads;
 
-/// Does what is asked for beside judging; where that is what is asked for, the status is `Words`.
+/// Does what is asked for beside judging.
 fn answer_else<W: Write>(
     rt: &HostRuntime,
     threads: &(impl Threads + Wait + Sync),
     asked: &Asked<'_>,
     writer: &mut W,
-) -> Status {
+) -> Status
+    requires { ¬ IsToJudge asked.now }
+    ensures { Reported (AnswerReport asked.now) (W.contents writer.old) (W.contents writer.new) result }
+{
     match asked {
         Asked::Run { job, timeline } => run(rt, threads, job, *timeline, writer),
         Asked::Replay { job, timeline } => replay(rt, job, timeline, writer),
@@ -46,7 +53,9 @@ fn answer_else<W: Write>(
             second,
             all,
         } => explain_asked(rt, job, *pair, *second, *all, writer),
-        _ => Status::Words,
+        Asked::Show { .. } | Asked::Pack { .. } | Asked::Audit { .. } | Asked::Check { .. } => {
+            unreachable!()
+        }
     }
 }
 
@@ -56,7 +65,9 @@ fn answer<W: Write>(
     threads: &(impl Threads + Wait + Sync),
     asked: &Asked<'_>,
     writer: &mut W,
-) -> Status {
+) -> Status
+    ensures { Reported (AnswerReport asked.now) (W.contents writer.old) (W.contents writer.new) result }
+{
     match judged(rt, threads, asked, writer) {
         Some(status) => status,
         None => answer_else(rt, threads, asked, writer),

@@ -1,5 +1,9 @@
 //! The commands that run a job, and write timelines beside the answer.
 
+ghost use Rattle.hq_cli.specs.Answered.{RunAnswer, WitnessAnswer};
+ghost use Rattle.hq_front.specs.Files.{FileReport};
+ghost use Rattle.hq_status.specs.Reports.{JobTextReport, Reported};
+
 use crate::progress::Progress;
 use hq_engines::witness_engine;
 use hq_front::{created, job_of};
@@ -24,7 +28,9 @@ fn run_found<W: Write>(
     job: Job,
     timeline: Option<&str>,
     writer: &mut W,
-) -> Status {
+) -> Status
+    ensures { Reported (RunAnswer job) (W.contents writer.old) (W.contents writer.new) result }
+{
     let Ok(kits) = stock_kits(rt.alloc(), &job) else {
         let_go(job);
         return say_memory(writer);
@@ -43,14 +49,16 @@ fn run_found<W: Write>(
     status
 }
 
-/// Reads the job before it makes the timeline's file.
+/// Runs the job of a file. It is read before the timeline's file is made.
 pub fn run<W: Write>(
     rt: &HostRuntime,
     threads: &(impl Threads + Wait + Sync),
     job: &str,
     timeline: Option<&str>,
     writer: &mut W,
-) -> Status {
+) -> Status
+    ensures { Reported (FileReport (JobTextReport RunAnswer)) (W.contents writer.old) (W.contents writer.new) result }
+{
     match job_of(rt, job, writer) {
         Ok(job) => run_found(rt, threads, job, timeline, writer),
         Err(status) => status,
@@ -64,7 +72,9 @@ fn witness_found<W: Write>(
     good: Option<&str>,
     bad: Option<&str>,
     writer: &mut W,
-) -> Status {
+) -> Status
+    ensures { Reported (WitnessAnswer job.now) (W.contents writer.old) (W.contents writer.new) result }
+{
     let mut right = match created(rt, good, writer) {
         Ok(out) => out,
         Err(status) => return status,
@@ -76,14 +86,17 @@ fn witness_found<W: Write>(
     witness_engine(rt.alloc(), job, &mut right, &mut wrong, writer)
 }
 
-/// Reads the job before it makes the timelines' files.
+/// Shows two runs of the job of a file. It is read before the timelines' files are made.
 pub fn witness<W: Write>(
     rt: &HostRuntime,
     job: &str,
     good: Option<&str>,
     bad: Option<&str>,
     writer: &mut W,
-) -> Status {
+) -> Status
+    ensures { Reported (FileReport (JobTextReport WitnessAnswer)) (W.contents writer.old)
+        (W.contents writer.new) result }
+{
     match job_of(rt, job, writer) {
         Ok(job) => {
             let status = witness_found(rt, &job, good, bad, writer);

@@ -1,9 +1,8 @@
 -- Each packet that can never complete waits for another that can't.
-use Rattle.std.proofs.Common.{◌≡◌, ℕ, suc, ◌-◌, ◌<◌, ◌≤◌, inl, inr, List, ◌∷◌, length, refl, sym, ◌∙◌, ap, subst, arith, All, slice_index_or}
+use Rattle.std.proofs.Common.{◌≡◌, ℕ, suc, ◌-◌, ◌<◌, ◌≤◌, ◌⊎◌, inl, inr, List, ◌∷◌, length, refl, sym, ◌∙◌, ap, subst, arith, slice_index_or}
 use Rattle.std.proofs.lemmas.Bool.{cases_eq}
 use Rattle.std.proofs.lemmas.List.Elements.{All-cons}
 use Rattle.hq_model.specs.Job.{Job, packet, IsPacket, Earlier, Dependency, Decrements, IsBarrier, Frees}
-use Rattle.hq_model.specs.Job.Kind.{Work, BarrierAnd, BarrierOr}
 use Rattle.hq_model.specs.Order.{Blocked, StuckSet, Stuck, In, Ahead, FreesFor, place}
 use Rattle.hq_model.specs.Order.Blocked.{by_earlier, by_slot, by_dependency, by_each}
 use Rattle.hq_model.specs.Theorems.{Valid}
@@ -77,7 +76,7 @@ module _ (job : Job) (set : List ℕ) (stuck : StuckSet job set) where
         let placed : place list q ≡ k = place_once list k r valid.submissions.once inside in
         let there : IsPacket job q = valid.submissions.packets k r inside in
         let m_in : In list m = omega (arith, ahead, r_in) in
-        let upto = elim (cases_eq (place list m) k) [
+        let upto : (m ≡ q) ⊎ Ahead list m q = elim (cases_eq (place list m) k) [
           | inl e ↦ inl (sym (at_place list m r m_in) ∙ ap (λ j. slice_index_or list j r) e)
           | inr d ↦ inr (omega (arith, ahead, next, placed, d))
         ] in

@@ -1,5 +1,5 @@
 -- Whole explanations: what is written of a job, and what is answered.
-use Rattle.std.specs.Prelude.{◌≢◌, ℕ, ◌<◌, ◌⊎◌, Bool, true, false, if◌then◌else◌, List, length}
+use Rattle.std.specs.Prelude.{◌≢◌, ℕ, ◌<◌, Bool, true, false, if◌then◌else◌, List, length}
 use Rattle.hq_job.specs.Value.{JobValue}
 use Rattle.hq_model.specs.Job.{Job, IsPacket}
 use Rattle.hq_model.specs.Order.{OrderList, Stuck}

@@ -1,5 +1,5 @@
 -- The lines of an explanation, as texts of values.
-use Rattle.std.specs.Prelude.{ℕ, ◌+◌, Bool, ◌||◌, if◌then◌else◌, List, [], ◌++◌, Option, Some, None, is_some, codes}
+use Rattle.std.specs.Prelude.{ℕ, Bool, ◌||◌, if◌then◌else◌, List, [], ◌++◌, Option, Some, None, is_some, codes}
 use Rattle.std.specs.Prelude.{slice_get}
 use Rattle.std.specs.Fmt.{decimal}
 use Rattle.hq_packet.specs.declared.packet.Scope.{Scope}

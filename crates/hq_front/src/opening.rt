@@ -1,5 +1,9 @@
 //! Files that commands read and write: where one can't be opened, that is written, and said on standard error.
 
+ghost use Rattle.std.specs.Prelude.{◌≡◌, IfErr, IfOk, OnOk};
+ghost use Rattle.hq_front.specs.Files.{FileReport, HasText, SaysUnopened};
+ghost use Rattle.hq_status.specs.Reports.{NoJob, Reported};
+
 use crate::input::{Input, open, open_file};
 use crate::output::{Output, create};
 use hq_job::Job;
@@ -9,12 +13,9 @@ use std::io;
 use std::io::{BufReader, Write};
 
 /// Writes that a file can't be opened, and says why.
-fn say_unopened<W: Write>(
-    rt: &HostRuntime,
-    path: &str,
-    error: &io::Error,
-    writer: &mut W,
-) -> Status {
+fn say_unopened<W: Write>(rt: &HostRuntime, path: &str, error: &io::Error, writer: &mut W) -> Status
+    ensures { SaysUnopened (W.contents writer.old) (W.contents writer.new) result }
+{
     explain_unopened(rt, path, error);
     match error.kind() {
         io::ErrorKind::OutOfMemory => say_memory(writer),
@@ -31,7 +32,10 @@ pub fn opened<W: Write>(
     rt: &HostRuntime,
     path: &str,
     writer: &mut W,
-) -> Result<BufReader<Input>, Status> {
+) -> Result<BufReader<Input>, Status>
+    ensures unwritten { OnOk result (writer.new ≡ writer.old) }
+    ensures unopened { IfErr result (SaysUnopened (W.contents writer.old) (W.contents writer.new)) }
+{
     match open(rt, path) {
         Ok(input) => Ok(input),
         Err(error) => Err(say_unopened(rt, path, &error, writer)),
@@ -48,7 +52,10 @@ pub fn opened_both<W: Write>(
     job: &str,
     path: &str,
     writer: &mut W,
-) -> Result<(BufReader<Input>, BufReader<Input>), Status> {
+) -> Result<(BufReader<Input>, BufReader<Input>), Status>
+    ensures unwritten { OnOk result (writer.new ≡ writer.old) }
+    ensures unopened { IfErr result (SaysUnopened (W.contents writer.old) (W.contents writer.new)) }
+{
     let input = opened(rt, job, writer)?;
     match open_file(rt, path) {
         Ok(file) => Ok((input, file)),
@@ -65,7 +72,10 @@ pub fn created<W: Write>(
     rt: &HostRuntime,
     timeline: Option<&str>,
     writer: &mut W,
-) -> Result<Option<Output>, Status> {
+) -> Result<Option<Output>, Status>
+    ensures unwritten { OnOk result (writer.new ≡ writer.old) }
+    ensures unopened { IfErr result (SaysUnopened (W.contents writer.old) (W.contents writer.new)) }
+{
     let Some(path) = timeline else {
         return Ok(None);
     };
@@ -80,7 +90,12 @@ pub fn created<W: Write>(
 /// # Errors
 ///
 /// The status that the command ends with, where there is no job; what is wrong was written.
-pub fn job_of<W: Write>(rt: &HostRuntime, job: &str, writer: &mut W) -> Result<Job, Status> {
+pub fn job_of<W: Write>(rt: &HostRuntime, job: &str, writer: &mut W) -> Result<Job, Status>
+    ensures text { IfOk result HasText }
+    ensures unwritten { OnOk result (writer.new ≡ writer.old) }
+    ensures refused { IfErr result
+        (Reported (FileReport NoJob) (W.contents writer.old) (W.contents writer.new)) }
+{
     let mut input = opened(rt, job, writer)?;
     take_job(rt.alloc(), &mut input, writer)
 }

@@ -1,0 +1,10 @@
+use Rattle.std.proofs.Common.{ap}
+use Rattle.hq_cli.specs.Answered.{RunAnswer}
+use Rattle.hq_cli.proofs.Answers.{of_none, of_taken}
+use Rattle.hq_cli.proofs.running.run.Goals as goal
+
+pub returns-in-Ok : goal.returns-in-Ok
+returns-in-Ok g c = of_taken RunAnswer c.in-Ok.job _ _ _ c.run_found.result c.in-Ok.ensures.text (ap g.W.Write.contents c.in-Ok.ensures.unwritten) c.run_found.ensures
+
+pub returns-in-Err : goal.returns-in-Err
+returns-in-Err g c = of_none RunAnswer _ _ c.in-Err.status c.in-Err.ensures.refused
