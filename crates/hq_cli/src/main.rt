@@ -1,9 +1,12 @@
 //! The program `hsaq`: checks how the packets of HSA user-mode queues are ordered, and runs them.
 #![tactic(auto)]
 
+ghost use Rattle.std.specs.Prelude.{IfOk, map};
 ghost use Rattle.hq_cli.specs.Answered.{AnswerReport};
 ghost use Rattle.hq_commands.specs.Judged.{IsToJudge};
 ghost use Rattle.hq_status.specs.Reports.{Reported};
+ghost use Rattle.hq_commands.specs.Words.{AsksWords};
+ghost use Rattle.hq_words.specs.declared.words.Asked.{Asked as Command};
 
 mod changing;
 mod explaining;
@@ -16,7 +19,7 @@ use hq_commands::judged;
 use hq_engines::Aim;
 use hq_front::{exit_code, finished, say_words, texts_of, words_of};
 use hq_status::{Status, say_memory};
-use hq_words::{Asked, command_of};
+use hq_words::{Asked, WordsFault, command_of};
 use reading::{change, chart, graph, replay};
 use running::{run, witness};
 use std::io;
@@ -74,19 +77,24 @@ fn answer<W: Write>(
     }
 }
 
-/// Does what is asked for, on standard output.
-fn answer_on_stdout(
+/// Does what the words of a command line ask for, and writes the answer.
+///
+/// # Errors
+///
+/// Why the words ask for nothing; or that there is no memory.
+fn answer_words<'a, W: Write>(
     rt: &HostRuntime,
     threads: &(impl Threads + Wait + Sync),
-    asked: &Asked<'_>,
-) -> Status {
-    let mut stdout = rt.stdout();
-    match BufWriter::new(rt.alloc(), &mut stdout) {
-        Ok(mut writer) => {
-            let status = answer(rt, threads, asked, &mut writer);
-            finished(rt, &mut writer, status)
-        }
-        Err(_) => say_memory(&mut rt.stdout()),
+    words: &'a [&'a str],
+    writer: &mut W,
+) -> Result<Status, WordsFault>
+    ensures { IfOk result
+        (λ status. (asked : Command) × AsksWords (map (λ w. w.now) words.entry.now) asked
+        × Reported (AnswerReport asked) (W.contents writer.old) (W.contents writer.new) status) }
+{
+    match command_of(rt.alloc(), words) {
+        Ok(asked) => Ok(answer(rt, threads, &asked, writer)),
+        Err(fault) => Err(fault),
     }
 }
 
@@ -97,8 +105,12 @@ fn run_on_arguments(
 ) -> io::Result<Status> {
     let words = words_of(rt)?;
     let texts = texts_of(rt.alloc(), &words)?;
-    Ok(match command_of(rt.alloc(), &texts) {
-        Ok(asked) => answer_on_stdout(rt, threads, &asked),
+    let mut stdout = rt.stdout();
+    let Ok(mut writer) = BufWriter::new(rt.alloc(), &mut stdout) else {
+        return Ok(say_memory(&mut rt.stdout()));
+    };
+    Ok(match answer_words(rt, threads, &texts, &mut writer) {
+        Ok(status) => finished(rt, &mut writer, status),
         Err(fault) => say_words(rt, &fault),
     })
 }
