@@ -7,8 +7,8 @@ use Rattle.hq_status.specs.Reports.{Said, with_feed}
 use Rattle.hq_status.specs.declared.status.Status.{Status}
 use Rattle.hq_status.specs.declared.status.Status.TheVariants.{Memory, File}
 
--- What is written of a file, or of standard input: the report of a text that was read; that it can't be opened or read;
--- or that memory ran out.
+-- What is written of a file, or of standard input: the report of some text; that it can't be opened or read; or that
+-- memory ran out. That the text is the file's isn't said.
 pub data FileReport (Report : List ℕ → List ℕ → Status → Type 0) : List ℕ → Status → Type 0 where
   of_text : {out : List ℕ} {status : Status} (text : List ℕ) → Report text out status → FileReport Report out status
   no_text : FileReport Report (with_feed (codes "file fault")) File
