@@ -116,7 +116,13 @@ part_text job (Some it) = shape_text job it
 
 -- how it looks, and what its signs mean
 abbrev pub styles : List ℕ
-styles = codes "<style>text{font:11px monospace}path{fill:none;stroke:#000}.w{stroke-dasharray:3 2}.a{fill:#56b4e9;fill-opacity:.4}.r{fill:#fff;stroke:#000}.x{stroke:#d55e00;stroke-width:2}</style>\n<rect x='-160' width='100%' height='100%' fill='#fff'/>\n<text x='-156' y='14'>dashed: launched; filled: active; ring: reads;</text>\n<text x='-156' y='28'>dot: stores; tick: a signal at 0, a submission;</text>\n<text x='-156' y='42'>v: a copy is taken, ^: written back, x: dropped</text>\n"
+styles = codes "<style>text{font:11px monospace}path{fill:none;stroke:#000}"
+    ++ codes ".w{stroke-dasharray:3 2}.a{fill:#56b4e9;fill-opacity:.4}"
+    ++ codes ".r{fill:#fff;stroke:#000}.x{stroke:#d55e00;stroke-width:2}</style>\n"
+    ++ codes "<rect x='-160' width='100%' height='100%' fill='#fff'/>\n"
+    ++ codes "<text x='-156' y='14'>dashed: launched; filled: active; ring: reads;</text>\n"
+    ++ codes "<text x='-156' y='28'>dot: stores; tick: a signal at 0, a submission;</text>\n"
+    ++ codes "<text x='-156' y='42'>v: a copy is taken, ^: written back, x: dropped</text>\n"
 
 -- the host has a row where queues are rings
 abbrev pub host_text : Bool → List ℕ

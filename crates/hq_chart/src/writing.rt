@@ -20,8 +20,13 @@ use std::io::Write;
 use std::{fmt, io};
 
 /// How the picture looks, and what its signs mean.
-const STYLES: &[u8] =
-    b"<style>text{font:11px monospace}path{fill:none;stroke:#000}.w{stroke-dasharray:3 2}.a{fill:#56b4e9;fill-opacity:.4}.r{fill:#fff;stroke:#000}.x{stroke:#d55e00;stroke-width:2}</style>\n<rect x='-160' width='100%' height='100%' fill='#fff'/>\n<text x='-156' y='14'>dashed: launched; filled: active; ring: reads;</text>\n<text x='-156' y='28'>dot: stores; tick: a signal at 0, a submission;</text>\n<text x='-156' y='42'>v: a copy is taken, ^: written back, x: dropped</text>\n";
+const STYLES: &[u8] = b"<style>text{font:11px monospace}path{fill:none;stroke:#000}\
+      .w{stroke-dasharray:3 2}.a{fill:#56b4e9;fill-opacity:.4}\
+      .r{fill:#fff;stroke:#000}.x{stroke:#d55e00;stroke-width:2}</style>\n\
+      <rect x='-160' width='100%' height='100%' fill='#fff'/>\n\
+      <text x='-156' y='14'>dashed: launched; filled: active; ring: reads;</text>\n\
+      <text x='-156' y='28'>dot: stores; tick: a signal at 0, a submission;</text>\n\
+      <text x='-156' y='42'>v: a copy is taken, ^: written back, x: dropped</text>\n";
 
 impl fmt::Display for Phase {
     ghost output = { λ p. Some (phase_word p) };

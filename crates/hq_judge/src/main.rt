@@ -30,7 +30,8 @@ fn answer<W: Write>(
     asked: &Asked<'_>,
     writer: &mut W,
 ) -> Status
-    ensures { IsToJudge asked.now → Reported (JudgeReport asked.now) (W.contents writer.old) (W.contents writer.new) result }
+    ensures { IsToJudge asked.now
+        → Reported (JudgeReport asked.now) (W.contents writer.old) (W.contents writer.new) result }
 {
     match judged(rt, threads, asked, writer) {
         Some(status) => status,

@@ -1,40 +1,64 @@
 //! Certificates that several threads read and check while they come.
 
-ghost use Rattle.std.specs.Prelude.{◌⊎◌, [], IfOk, IfErr};
+ghost use Rattle.std.specs.Prelude.{◌≡◌, ℕ, ◌⊎◌, [], ◌++◌, List, IfOk, IfErr};
 ghost use Rattle.hq_text.specs.Intake.{FaultOf, OfText};
 ghost use Rattle.hq_text.specs.Lines.{lines_of};
-ghost use Rattle.hq_text.specs.Turns.{Fails, Passes};
+ghost use Rattle.hq_text.specs.Turns.{ComesTo, Fails, Passes};
 ghost use Rattle.hq_certread.specs.SoFar.{HasFault};
-ghost use Rattle.hq_judging.specs.Checking.{HasChecked, WasReadFor};
-ghost use Rattle.hq_judging.specs.Chunks.{HasWaiting};
+ghost use Rattle.hq_judging.specs.Checking.{FinishedOf, HasChecked, WasReadFor};
+ghost use Rattle.hq_judging.specs.Chunks.{HasRead};
 
-use crate::checking::{Checking, ReadCertificate};
+use crate::checking::{Checking, ReadCertificate, read_source};
 use crate::chunks::Chunks;
 use hq_certread::{CertFault, ReadFault};
-use hq_text::{Source, TURNS, TakesLines, read_lines};
+use hq_text::{Came, Source, TURNS, pass_over};
+use rayon::current_num_threads;
 use std::alloc::Global;
 use std::thread::Threads;
 
-/// A certificate in chunks, and what starts the threads that read them.
+/// In how many turns a source is read on while threads look at what came before.
+const STEP: u32 = 1_000;
+
+/// A certificate as far as it came; or the first fault of its text, behind which nothing is held.
 #[derive(Drop)]
-struct WideChecking<'a, R> {
-    rt: &'a R,
-    chunks: Chunks,
+pub enum Reading {
+    Taking(Chunks),
+    Faulty(CertFault),
 }
 
-impl<'a, R: Threads> TakesLines for WideChecking<'a, R> {
-    type Fault = CertFault;
-
-    ghost Took = { λ from lines wide. HasWaiting from.chunks lines wide.chunks };
-
-    ghost Refuses = { HasFault };
-
-    fn take_lines(&mut self, alloc: Global, text: &[u8]) -> Result<(), CertFault> {
-        self.chunks.take_text(self.rt, alloc, text)
+impl Reading {
+    /// Before the first byte.
+    fn new<R: Threads>(rt: &R, alloc: Global, checking: Checking) -> Reading
+        requires { HasChecked checking [] checking }
+        ensures { HasRead checking [] result }
+    {
+        Reading::Taking(Chunks::new(rt, alloc, checking))
     }
 
-    fn no_memory() -> CertFault {
-        Checking::no_memory()
+    /// Takes in what came, and reads on meanwhile.
+    fn step<R: Threads, S: Source>(&mut self, rt: &R, alloc: Global, source: &mut S) -> Came
+        ensures { (given : List ℕ) × ComesTo S S.Turned STEP source.old given source.new result
+            × ((from : Checking) (text : List ℕ) → HasRead from text self.old → HasRead from (text ++ given) self.new) }
+    {
+        let Reading::Taking(chunks) = self else {
+            return pass_over(source, STEP);
+        };
+        let (came, taken) = chunks.step(rt, alloc, source, STEP);
+        if let Err(fault) = taken {
+            *self = Reading::Faulty(fault);
+        }
+        came
+    }
+
+    /// The certificate of the text, which has come to its end, or what is wrong with it.
+    fn finish<R: Threads>(self, rt: &R, alloc: Global) -> Result<ReadCertificate, CertFault>
+        ensures { (from : Checking) (text : List ℕ) → HasRead from text self
+            → FinishedOf from result (lines_of text) }
+    {
+        match self {
+            Reading::Taking(chunks) => chunks.finish(rt, alloc),
+            Reading::Faulty(fault) => Err(fault),
+        }
     }
 }
 
@@ -54,11 +78,21 @@ pub fn read_source_wide<R: Threads, S: Source>(
         (λ e. FaultOf e (λ f. OfText S S.Turned TURNS source.old source.new (λ text. HasFault (lines_of text) f))
         (Fails S S.Turned TURNS source.old source.new ⊎ Passes S S.Turned TURNS source.old source.new)) }
 {
-    let chunks = Chunks::new(rt, alloc, checking);
-    let wide = read_lines(alloc, source, WideChecking { rt, chunks })?;
-    let WideChecking { chunks, .. } = wide;
-    match chunks.finish(rt, alloc) {
-        Ok(known) => Ok(known),
-        Err(fault) => Err(ReadFault::Text(fault)),
+    if current_num_threads(rt) < 2 {
+        return read_source(alloc, source, checking);
     }
+    let mut reading = Reading::new(rt, alloc, checking);
+    for _step in 0..TURNS / STEP {
+        match reading.step(rt, alloc, source) {
+            Came::More => {}
+            Came::End => {
+                return match reading.finish(rt, alloc) {
+                    Ok(known) => Ok(known),
+                    Err(fault) => Err(ReadFault::Text(fault)),
+                };
+            }
+            Came::Failed => return Err(ReadFault::Reader),
+        }
+    }
+    Err(ReadFault::Reader)
 }

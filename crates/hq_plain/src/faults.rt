@@ -8,7 +8,8 @@ use std::fmt;
 fn words_of_cert(reason: CertReason) -> &'static str {
     match reason {
         CertReason::Word => {
-            "an unknown or misplaced first word, an unknown rule or kind, a wrong count of words, or a line behind `end`"
+            "an unknown or misplaced first word, an unknown rule or kind, a wrong count of words, or a line behind \
+             `end`"
         }
         CertReason::Number => {
             "no number up to 4294967295, a line's number out of turn, or `=` where it may not stand"

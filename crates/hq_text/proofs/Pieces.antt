@@ -7,7 +7,7 @@ use Rattle.hq_text.specs.Lines.{lines_of, is_line_feed, without_empty_last}
 use Rattle.hq_text.specs.declared.intake.Progress.{Progress}
 use Rattle.hq_text.specs.declared.intake.Reading.{Reading}
 use Rattle.hq_text.specs.declared.intake.Reading.TheVariants.{Faulty}
-use Rattle.hq_text.specs.Intake.{Said, EndsLine, HasRead, Holds, Stays}
+use Rattle.hq_text.specs.Intake.{Said, EndsLine, IsWhole, HasRead, Holds, Stays}
 use Rattle.hq_text.proofs.Cuts.{Parts, parts_of, without}
 
 -- ---- the lines of a text behind whole lines
@@ -39,12 +39,17 @@ lines_behind a b e =
     ap (λ t. lines_of (t ++ b)) e.is ∙ ap lines_of (append_assoc e.front (10 ∷ []) b) ∙ lines_feed e.front b
     ∙ ap (λ ps. ps ++ lines_of b) (sym (ap lines_of e.is ∙ lines_feed e.front [] ∙ append-nil (slice_split is_line_feed e.front)))
 
-whole_lines : (a b : List ℕ) → (a ≡ []) ⊎ EndsLine a → lines_of (a ++ b) ≡ lines_of a ++ lines_of b
+pub whole_lines : (a b : List ℕ) → IsWhole a → lines_of (a ++ b) ≡ lines_of a ++ lines_of b
 whole_lines a b (inl e) = ap (λ t. lines_of (t ++ b)) e ∙ ap (λ t. lines_of t ++ lines_of b) (sym e)
 whole_lines a b (inr e) = lines_behind a b e
 
 ends_behind : (text piece : List ℕ) → EndsLine piece → EndsLine (text ++ piece)
 ends_behind text piece e = record { front = text ++ e.front; is = ap (λ t. text ++ t) e.is ∙ sym (append_assoc text e.front (10 ∷ [])) }
+
+-- whole lines behind whole lines
+pub whole_both : (a b : List ℕ) → IsWhole a → IsWhole b → IsWhole (a ++ b)
+whole_both a b h (inl e) = subst (λ (t : List ℕ). IsWhole t) (sym (append-nil a) ∙ ap (λ t. a ++ t) (sym e)) h
+whole_both a b h (inr e) = inr (ends_behind a b e)
 
 -- ---- what waits
 
@@ -113,7 +118,7 @@ if_err_at P (Err f) from h = h from
 
 -- ---- pieces in two parts
 
-stays_more : (P : List (List ℕ) → Type 0) (text piece : List ℕ) → Stays P text → Stays P (text ++ piece)
+pub stays_more : (P : List (List ℕ) → Type 0) (text piece : List ℕ) → Stays P text → Stays P (text ++ piece)
 stays_more P text piece h more = subst (λ (t : List ℕ). P (lines_of t)) (sym (append_assoc text piece more)) (h (piece ++ more))
 
 pub cut_in_two : (piece front rest : List ℕ) (n : ℕ) → front ≡ take n piece → rest ≡ drop n piece → piece ≡ front ++ rest
@@ -123,7 +128,7 @@ pub stays_both : (P : List (List ℕ) → Type 0) (text front rest piece : List 
 stays_both P text front rest piece e h = subst (λ (t : List ℕ). Stays P t) (append_assoc text front rest ∙ ap (λ t. text ++ t) (sym e)) (stays_more P (text ++ front) rest h)
 
 -- of a text that came to its end
-stays_at_end : (P : List (List ℕ) → Type 0) (text : List ℕ) → Stays P text → P (lines_of text)
+pub stays_at_end : (P : List (List ℕ) → Type 0) (text : List ℕ) → Stays P text → P (lines_of text)
 stays_at_end P text h = subst (λ (t : List ℕ). P (lines_of t)) (append-nil text) (h [])
 
 -- the fault of what was read, at the end of the text

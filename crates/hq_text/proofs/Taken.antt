@@ -1,9 +1,10 @@
 -- Pieces that were taken from a reader, joined.
 use Rattle.std.proofs.Common.{◌≡◌, ℕ, ◌+◌, ◌<◌, ◌≤◌, List, [], ◌++◌, take, Option, Some, None, refl, sym, ap, subst, ◌∙◌, append_assoc, arith}
-use Rattle.std.specs.Prelude.{Result, Ok, Err, IfOk, IfErr, IfSome}
+use Rattle.std.specs.Prelude.{Result, Ok, Err, IfOk, IfErr, IfSome, true, false, if◌then◌else◌}
+use Rattle.std.specs.Result.{is_ok}
 use Rattle.std.specs.Io.KnownBytes.{Consumes, IsAtEnd}
 use Rattle.std.proofs.lemmas.List.{append-nil}
-use Rattle.hq_text.specs.Turns.{Turn, Gives, start, more, Ends, Passes, ReadTurn}
+use Rattle.hq_text.specs.Turns.{Turn, Gives, start, more, Ends, Fails, Passes, ReadTurn}
 use Rattle.hq_text.specs.Intake.{OfText, FaultOf, GivesUnlessRead}
 use Rattle.hq_text.specs.declared.intake.ReadFault.{ReadFault}
 use Rattle.hq_text.specs.declared.intake.ReadFault.TheVariants.{Reader, Text}
@@ -23,6 +24,39 @@ pub passes : (S : Type 0) (T : Turn S) (turns : ℕ) (s new : S) (n : ℕ) (text
 passes S T turns s new n text given low high =
     let same : n ≡ turns = omega arith in
     record { text = text; given = subst (λ (k : ℕ). Gives S T s k text new) same given }
+
+-- ---- turns behind turns
+
+pub gives_both : (S : Type 0) (T : Turn S) (s mid new : S) (n m : ℕ) (text behind : List ℕ) → Gives S T s n text mid → Gives S T mid m behind new → Gives S T s (n + m) (text ++ behind) new
+gives_both S T s mid new n m text behind first (start r) = subst (λ (k : ℕ). Gives S T s k (text ++ []) mid) (omega arith) (subst (λ (t : List ℕ). Gives S T s n t mid) (sym (append-nil text)) first)
+gives_both S T s mid new n m text behind first (more r last end k count before buffer given some turn) =
+    subst (λ (j : ℕ). Gives S T s j (text ++ (before ++ take count buffer)) end) (omega arith)
+    (gives_more S T s last end (n + k) count (text ++ before) buffer (text ++ (before ++ take count buffer)) (gives_both S T s mid last n k text before first given) some turn (sym (append_assoc text before (take count buffer))))
+
+pub ends_later : (S : Type 0) (T : Turn S) (turns more_turns : ℕ) (s mid new : S) (n : ℕ) (text behind : List ℕ) → Gives S T s n text mid → Ends S T more_turns mid behind new → n + more_turns ≤ turns → Ends S T turns s (text ++ behind) new
+ends_later S T turns more_turns s mid new n text behind first e low =
+    record { count = n + e.count; last = e.last; buffer = e.buffer; given = gives_both S T s mid e.last n e.count text behind first e.given; within = omega (arith, low, e.within); ended = e.ended }
+
+pub fails_later : (S : Type 0) (T : Turn S) (turns more_turns : ℕ) (s mid new : S) (n : ℕ) (text : List ℕ) → Gives S T s n text mid → Fails S T more_turns mid new → n + more_turns ≤ turns → Fails S T turns s new
+fails_later S T turns more_turns s mid new n text first f low =
+    record { count = n + f.count; text = text ++ f.text; last = f.last; buffer = f.buffer; given = gives_both S T s mid f.last n f.count text f.text first f.given; within = omega (arith, low, f.within); failed = f.failed }
+
+-- no turn leaves the reader as it was, and gives nothing
+pub none_given : (S : Type 0) (T : Turn S) (s new : S) (n : ℕ) (text : List ℕ) → Gives S T s n text new → n ≡ 0 → (text ≡ []) × (new ≡ s)
+none_given S T s new n text (start r) e = (refl, refl)
+none_given S T s new n text (more r mid last k count before buffer given some turn) e = absurd (omega (arith, e))
+
+-- ---- what is kept
+
+-- what came is put behind what was kept, or lost
+pub kept_more : {E : Type 0} (was got : Result (Unit {0}) E) (first given part old new : List ℕ) → is_ok was ≡ true → IfOk was (λ _. old ≡ first ++ given) → new ≡ (if is_ok got then old ++ part else old) → IfOk got (λ _. new ≡ first ++ (given ++ part))
+kept_more (Ok u) (Ok v) first given part old new so h e = e ∙ ap (λ t. t ++ part) h ∙ append_assoc first given part
+kept_more (Ok u) (Err f) first given part old new so h e = tt
+kept_more (Err f) got first given part old new so h e = absurd cc
+
+pub none_kept : {E : Type 0} (was : Result (Unit {0}) E) (P : Type 0) → is_ok was ≡ false → IfOk was (λ _. P)
+none_kept (Ok u) P so = absurd cc
+none_kept (Err f) P so = tt
 
 consumes_nothing : (old : Option (List ℕ)) → Consumes old old []
 consumes_nothing None = tt

@@ -17,10 +17,14 @@ pub record EndsLine (text : List ℕ) : Type 0 where
   pub front : List ℕ
   pub is : text ≡ front ++ 10 ∷ []
 
+-- the text is one of whole lines: of none, or the last of them ends it
+abbrev pub IsWhole : List ℕ → Type 0
+IsWhole text = (text ≡ []) ⊎ EndsLine text
+
 -- the text is one of whole lines, which were taken in, and what waits
 pub record Holds {L : Type 0} (Took : Said L) (p : Progress L) (text : List ℕ) : Type 0 where
   pub before : List ℕ
-  pub whole : (before ≡ []) ⊎ EndsLine before
+  pub whole : IsWhole before
   pub is : text ≡ before ++ p.waiting.items
   pub taken : Took (lines_of before) p.taker
 

@@ -1,6 +1,8 @@
 -- What a reader answers, turn by turn.
 use Rattle.std.specs.Prelude.{◌≡◌, ℕ, ◌+◌, ◌<◌, List, [], ◌++◌, take, Option, Some, None}
 use Rattle.std.specs.Io.KnownBytes.{Consumes, IsAtEnd, Keeps}
+use Rattle.hq_text.specs.declared.take.Came.{Came}
+use Rattle.hq_text.specs.declared.take.Came.TheVariants as came
 
 -- what one turn may do: the reader before it, the count of bytes or a failure, the buffer and the reader after it
 abbrev pub Turn : Type 0 → Type 1
@@ -35,6 +37,13 @@ pub record Fails (S : Type 0) (T : Turn S) (turns : ℕ) (old new : S) : Type 0 
 pub record Passes (S : Type 0) (T : Turn S) (turns : ℕ) (old new : S) : Type 0 where
   pub text : List ℕ
   pub given : Gives S T old turns text new
+
+-- What so many turns came to: each gave a byte or more, and this is their text; or the reader came to its end behind
+-- this text; or it failed.
+abbrev pub ComesTo : (S : Type 0) → Turn S → ℕ → S → List ℕ → S → Came → Type 0
+ComesTo S T turns old text new came.More = Gives S T old turns text new
+ComesTo S T turns old text new came.End = Ends S T turns old text new
+ComesTo S T turns old text new came.Failed = Fails S T turns old new
 
 -- what std says of one turn: the bytes that a reader has left begin with those that it gave, and a failure takes none
 abbrev pub ReadTurn : {S : Type 0} → (S → Option (List ℕ)) → Turn S

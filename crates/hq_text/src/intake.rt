@@ -2,7 +2,7 @@
 
 ghost use Rattle.std.specs.Prelude.{◌≡◌, ℕ, ◌+◌, ◌<◌, ◌≤◌, ◌⊎◌, ◌++◌, List, [], length, take, IfOk, IfErr, IfSome};
 ghost use Rattle.std.specs.Prelude.{OnOk};
-ghost use Rattle.hq_text.specs.Intake.{EndsLine, FaultOf, HasRead, Holds, OfText, Stays, TakenOf};
+ghost use Rattle.hq_text.specs.Intake.{EndsLine, FaultOf, HasRead, Holds, IsWhole, OfText, Stays, TakenOf};
 ghost use Rattle.hq_text.specs.Lines.{lines_of};
 ghost use Rattle.hq_text.specs.Turns.{Fails, Passes};
 
@@ -71,6 +71,17 @@ fn last_feed(piece: &[u8]) -> Option<usize>
     ensures { IfSome result (λ at. (at < length piece.now) × EndsLine (take (at + 1) piece.now)) }
 {
     memrchr(b'\n', piece)
+}
+
+/// How many bytes of a text are whole lines: those up to its last line feed.
+pub fn whole_lines(text: &[u8]) -> usize
+    ensures within { result ≤ length text.now }
+    ensures whole { IsWhole (take result text.now) }
+{
+    match last_feed(text) {
+        Some(at) => at + 1,
+        None => 0,
+    }
 }
 
 impl<L: TakesLines> Progress<L> {

@@ -1,10 +1,10 @@
 //! Whole texts from readers.
 
-ghost use Rattle.std.specs.Prelude.{◌≡◌, ◌≤◌, ◌⊎◌, IfOk, IfErr, IfSome};
+ghost use Rattle.std.specs.Prelude.{◌≡◌, ℕ, ◌≤◌, ◌⊎◌, List, ◌++◌, IfOk, IfErr, IfSome};
 ghost use Rattle.std.specs.Io.KnownBytes.{Consumes, IsAtEnd};
-ghost use Rattle.hq_text.specs.Turns.{Turn, Ends, Fails, Passes, ReadTurn};
+ghost use Rattle.hq_text.specs.Turns.{Turn, ComesTo, Ends, Fails, Passes, ReadTurn};
 
-use std::alloc::Global;
+use std::alloc::{AllocError, Global};
 use std::io::Read;
 use thiserror::Error;
 
@@ -40,6 +40,61 @@ impl<R: Read> Source for R {
     fn turn(&mut self, buffer: &mut [u8; TURN_LEN]) -> Option<usize> {
         self.read(buffer).ok()
     }
+}
+
+/// What turns of a source came to.
+#[derive(Clone, Copy, Debug, PartialEq, Eq)]
+pub enum Came {
+    /// Each gave a byte or more, so that more may follow.
+    More,
+    /// The last one found the source at its end.
+    End,
+    /// The last one failed.
+    Failed,
+}
+
+/// Puts what a source gives in so many turns, or up to its end, behind a text.
+///
+/// # Errors
+///
+/// `AllocError` where there is no memory. The source is asked on then, and what it gives is lost.
+pub fn read_on<S: Source>(
+    source: &mut S,
+    turns: u32,
+    text: &mut Vec<u8>,
+) -> (Came, Result<(), AllocError>)
+    ensures { (given : List ℕ) × ComesTo S S.Turned turns source.old given source.new result.0
+        × IfOk result.1 (λ _. text.new.items ≡ text.old.items ++ given) }
+{
+    let mut buffer = [0; TURN_LEN];
+    let mut kept = Ok(());
+    for _turn in 0..turns {
+        let Some(count) = source.turn(&mut buffer) else {
+            return (Came::Failed, kept);
+        };
+        if count == 0 {
+            return (Came::End, kept);
+        }
+        if kept.is_ok() {
+            kept = text.extend_from_slice(&buffer[..count]);
+        }
+    }
+    (Came::More, kept)
+}
+
+/// Asks a source in so many turns, or up to its end, and keeps nothing of what it gives.
+pub fn pass_over<S: Source>(source: &mut S, turns: u32) -> Came
+    ensures { (given : List ℕ) × ComesTo S S.Turned turns source.old given source.new result }
+{
+    let mut buffer = [0; TURN_LEN];
+    for _turn in 0..turns {
+        match source.turn(&mut buffer) {
+            None => return Came::Failed,
+            Some(0) => return Came::End,
+            Some(_) => {}
+        }
+    }
+    Came::More
 }
 
 /// All that a source gives up to its end.

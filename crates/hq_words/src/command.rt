@@ -18,41 +18,50 @@ const VERSION: &str = "1.0.0";
 const SHOW_STATUS: &str = "Exit status: 0; 3 where the text is no job.";
 
 const AUDIT_STATUS: &str =
-    "Exit status: 0 with a certificate, 4 with a conflict that nothing orders, 5 with packets that can never complete; 3 where the text is no job.";
+    "Exit status: 0 with a certificate, 4 with a conflict that nothing orders, \
+     5 with packets that can never complete; 3 where the text is no job.";
 
 const CHECK_STATUS: &str =
     "Exit status: 0 where the certificate holds, 6 where it doesn't; 3 where the text is no job.";
 
 const RUN_STATUS: &str =
-    "Exit status: 0; 4 with a conflict that nothing orders, 5 with packets that can never complete, 7 where the run met a fault; 3 where the text is no job.";
+    "Exit status: 0; 4 with a conflict that nothing orders, 5 with packets that can never complete, 7 where the run \
+     met a fault; 3 where the text is no job.";
 
 const REPLAY_STATUS: &str =
     "Exit status: 0; 7 where the timeline is none, or an event isn't enabled; 3 where the text is no job.";
 
 const CHART_STATUS: &str =
-    "Exit status: 0; 7 where the timeline is none, or an event isn't enabled, up to which it is drawn; 3 where the text is no job.";
+    "Exit status: 0; 7 where the timeline is none, or an event isn't enabled, up to which it is drawn; 3 where the \
+     text is no job.";
 
 const GRAPH_STATUS: &str =
-    "Exit status: 0 where every conflict is ordered, 4 with a conflict that nothing orders, 5 with packets that can never complete; 3 where the text is no job.";
+    "Exit status: 0 where every conflict is ordered, 4 with a conflict that nothing orders, 5 with packets that can \
+     never complete; 3 where the text is no job.";
 
 const EXPLAIN_STATUS: &str = "Pairs are told of in number order, without --all the first hundred.
 
-Exit status: 0 where every conflict is ordered, 4 with a conflict that nothing orders, 5 with packets that can never complete; 3 where the text is no job. With --pair that of these two packets.";
+Exit status: 0 where every conflict is ordered, 4 with a conflict that nothing orders, 5 with packets that can never \
+complete; 3 where the text is no job. With --pair that of these two packets.";
 
 const WITNESS_STATUS: &str =
-    "Each run completes every packet. Where none were found, the conflict is printed as `audit` does; nothing is said of whether there are some.
+    "Each run completes every packet. Where none were found, the conflict is printed as `audit` does; nothing is \
+said of whether there are some.
 
-Exit status: 0 where every conflict is ordered, 4 with a conflict that nothing orders, 5 with packets that can never complete; 3 where the text is no job.";
+Exit status: 0 where every conflict is ordered, 4 with a conflict that nothing orders, 5 with packets that can never \
+complete; 3 where the text is no job.";
 
 const FIX_STATUS: &str =
     "The text is the one that was read but for the digits of changed headers; each change is told on standard error.
 
-Exit status: 0; 4 with a conflict that no bits and fences order, 5 with packets that can never complete; 3 where the text is no job.";
+Exit status: 0; 4 with a conflict that no bits and fences order, 5 with packets that can never complete; 3 where the \
+text is no job.";
 
 const TRIM_STATUS: &str =
     "The text is the one that was read but for the digits of changed headers; each change is told on standard error.
 
-Exit status: 0; 4 with a conflict that nothing orders, 5 with packets that can never complete; 3 where the text is no job.";
+Exit status: 0; 4 with a conflict that nothing orders, 5 with packets that can never complete; 3 where the text is \
+no job.";
 
 /// The words of each kind of packet.
 const PACK_WORDS: &str = "The words of a packet, DONE being its completion signal:
@@ -271,7 +280,8 @@ fn run<'a>(alloc: Global) -> Result<Command<'a>, AllocError>
         of_job(
             alloc,
             "run",
-            "Audits and checks a job, runs it with a thread for each queue, and prints the buffers as the run leaves them",
+            "Audits and checks a job, runs it with a thread for each queue, and prints the buffers as the run leaves \
+             them",
             "hsaq run <JOB> [--timeline <OUT>]",
             RUN_STATUS,
         ),
@@ -402,7 +412,8 @@ fn program<'a>(alloc: Global) -> Command<'a>
 {
     Command::new(alloc, "hsaq")
         .about(
-            "Checks whether the packets of HSA user-mode queues order their kernels, and proves its answer; it makes no order of its own",
+            "Checks whether the packets of HSA user-mode queues order their kernels, and proves its answer; it makes \
+             no order of its own",
         )
         .after_help("In place of JOB, @ is standard input, and no words at all mean `audit @`.")
         .version(VERSION)

@@ -9,7 +9,9 @@ use std::test::*;
 
 /// Every form of line, in the form that is printed.
 const TEXT: &[u8] =
-    b"hsac 2\norder 0 1 2 3\nline 0 0 1 bit 0\nline 1 1 2 queue\nline 2 2 3 and 0\nline 3 0 2 or = 1\nline 4 0 2 through 0 1\npair 0 1 rw 0\npair 0 3 ww 0 = 2\npair 1 3 wr 1 2 = 1 2\npair 0 3 wwc 0 1 = 0 2\npair 0 3 wrc 0 1 2 3 = 0 1 2 =\nend\n";
+    b"hsac 2\norder 0 1 2 3\nline 0 0 1 bit 0\nline 1 1 2 queue\nline 2 2 3 and 0\nline 3 0 2 or = 1\n\
+      line 4 0 2 through 0 1\npair 0 1 rw 0\npair 0 3 ww 0 = 2\npair 1 3 wr 1 2 = 1 2\n\
+      pair 0 3 wwc 0 1 = 0 2\npair 0 3 wrc 0 1 2 3 = 0 1 2 =\nend\n";
 
 // Calls without contracts, so that no test is proved over the bytes of its texts.
 

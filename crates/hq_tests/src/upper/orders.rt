@@ -32,8 +32,9 @@ fn no_packets(rt: HostRuntime) -> Result<(), Fail> {
 
 #[test]
 fn a_barrier_that_waits_for_itself(rt: HostRuntime) -> Result<(), Fail> {
-    let text =
-        b"hsaq 1\nagent a\nsignal s 9 1\nqueue q a 4\npacket 03000000000000000900000000000000000000000000000000000000000000000000000000000000000000000000000000000000000000000900000000000000\nend";
+    let text = b"hsaq 1\nagent a\nsignal s 9 1\nqueue q a 4\n\
+          packet 03000000000000000900000000000000000000000000000000000000000000000000000000000000000000000000000000000000000000000900000000000000\n\
+          end";
     let job = job_of(rt.alloc(), text)?;
     let Err(OrderFault::Stuck(packets)) = scheduled(rt.alloc(), &job) else {
         return Err("no packet is stuck".into());

@@ -22,30 +22,31 @@ put_ahead bad found ahead old new e h =
 pub returns-in-Some-clause-took : goal.returns-in-Some-clause-took
 returns-in-Some-clause-took c =
     let chunk = c.args.chunk.now in
+    let text = c.args.text.now in
     let old = c.args.self.now in
     let put = put_ahead chunk.bad (map pair_of c.pairs.result.now) (pairs_ahead chunk.ahead) old.seen c.put.new.self (c.pairs.ensures ∙ c.pass.ensures.pairs) c.put.ensures in
     on_both c.take_text.result c.take_text.ensures.took c.take_text.ensures.closed
     (λ took closed at from lines looked still h.
-    let p = some_told c.in_ok-at.field-0 c.in-Some.at _ _ c.in-Some.is c.in_ok-at.ensures.passed chunk.text.items lines h.gone looked.ahead h.taken h.none in
-    let mid = chunk_passed from at lines old c.pass.new.self c.put.new.self chunk c.in-Some.at looked still h p put in (
-      subst (λ (ls : List (List ℕ)). HasChecked from ls c.take_text.new.self) (in_two lines p.front (lines_of c.split_at.result.1.now) (lines_of chunk.text.items) (p.whole ∙ ap (λ r. p.front ++ lines_of r) (sym (c.split_at.ensures.back ∙ ap (drop c.in-Some.at) c.deref.ensures.value)))) (took from (lines ++ p.front) mid),
+    let p = some_told c.in_ok-at.field-0 c.in-Some.at _ _ c.in-Some.is c.in_ok-at.ensures.passed text lines h.gone looked.ahead h.taken h.none in
+    let mid = chunk_passed from at lines old c.pass.new.self c.put.new.self text chunk c.in-Some.at looked still h p put in (
+      subst (λ (ls : List (List ℕ)). HasChecked from ls c.take_text.new.self) (in_two lines p.front (lines_of c.split_at.result.1.now) (lines_of text) (p.whole ∙ ap (λ r. p.front ++ lines_of r) (sym c.split_at.ensures.back))) (took from (lines ++ p.front) mid),
       stays_both at old.progress c.take_text.new.self.progress still (stays_both old.progress c.pass.new.self c.take_text.new.self.progress p.closed closed),
     ))
 
 pub returns-in-Some-clause-fault : goal.returns-in-Some-clause-fault
 returns-in-Some-clause-fault c =
     let chunk = c.args.chunk.now in
+    let text = c.args.text.now in
     let old = c.args.self.now in
     let put = put_ahead chunk.bad (map pair_of c.pairs.result.now) (pairs_ahead chunk.ahead) old.seen c.put.new.self (c.pairs.ensures ∙ c.pass.ensures.pairs) c.put.ensures in
     on_err c.take_text.result c.take_text.ensures.fault
     (λ f fault at from lines more looked still h.
-    let p = some_told c.in_ok-at.field-0 c.in-Some.at _ _ c.in-Some.is c.in_ok-at.ensures.passed chunk.text.items lines h.gone looked.ahead h.taken h.none in
-    let mid = chunk_passed from at lines old c.pass.new.self c.put.new.self chunk c.in-Some.at looked still h p put in
-    subst (λ (ls : List (List ℕ)). HasFault ls f) (in_two_and_more lines p.front (lines_of c.split_at.result.1.now) (lines_of chunk.text.items) more (p.whole ∙ ap (λ r. p.front ++ lines_of r) (sym (c.split_at.ensures.back ∙ ap (drop c.in-Some.at) c.deref.ensures.value)))) (fault from (lines ++ p.front) more mid))
+    let p = some_told c.in_ok-at.field-0 c.in-Some.at _ _ c.in-Some.is c.in_ok-at.ensures.passed text lines h.gone looked.ahead h.taken h.none in
+    let mid = chunk_passed from at lines old c.pass.new.self c.put.new.self text chunk c.in-Some.at looked still h p put in
+    subst (λ (ls : List (List ℕ)). HasFault ls f) (in_two_and_more lines p.front (lines_of c.split_at.result.1.now) (lines_of text) more (p.whole ∙ ap (λ r. p.front ++ lines_of r) (sym c.split_at.ensures.back))) (fault from (lines ++ p.front) more mid))
 
 pub returns-in-None-clause-fault : goal.returns-in-None-clause-fault
 returns-in-None-clause-fault c =
     on_err c.take_text-in-None.result c.take_text-in-None.ensures.fault
     (λ f fault at from lines more looked still h.
-    subst (λ (text : List ℕ). HasFault (lines ++ (lines_of text ++ more)) f) c.deref-in-None.ensures.value
-    (fault from lines more (checked_as from lines c.args.self.now c.pass.new.self (none_told c.in_ok-at.field-0 _ _ c.in-None.is c.in_ok-at.ensures.passed) h)))
+    fault from lines more (checked_as from lines c.args.self.now c.pass.new.self (none_told c.in_ok-at.field-0 _ _ c.in-None.is c.in_ok-at.ensures.passed) h))

@@ -1,75 +1,88 @@
-use Rattle.std.proofs.Common.{◌≡◌, ℕ, ◌+◌, ◌<◌, ◌++◌, List, length, take, drop, slice_index_or, refl, sym, ap, subst, ◌∙◌, arith, append_assoc, append-nil}
-use Rattle.std.proofs.lemmas.List.{length-set, get_or-set_other, take_all}
+use Rattle.std.proofs.Common.{◌≡◌, ℕ, ◌+◌, ◌++◌, List, length, drop, [], slice_index_or, slice_set, inl, refl, sym, ap, subst, ◌∙◌, arith, append-nil}
 use Rattle.std.proofs.lemmas.Result.{err_from_is_err_and}
+use Rattle.hq_text.specs.Intake.{IsWhole}
 use Rattle.hq_text.specs.Lines.{lines_of}
+use Rattle.hq_text.proofs.Pieces.{whole_both}
 use Rattle.hq_job.specs.Plan.{plan}
 use Rattle.hq_job.specs.Value.{JobValue}
-use Rattle.hq_certread.specs.Ahead.{IsAhead}
 use Rattle.hq_certread.specs.SoFar.{HasFault}
 use Rattle.hq_judging.specs.Checking.{HasChecked}
-use Rattle.hq_judging.specs.Chunks.{IsLookedAt, lines_in_all}
+use Rattle.hq_judging.specs.Chunks.{AreLookedAt, IsLookedAt}
 use Rattle.hq_judging.specs.declared.chunk.Chunk.{Chunk}
-use Rattle.hq_judging.proofs.InChunks.{all_around, around, one_more, stays_same}
+use Rattle.hq_judging.proofs.InChunks.{behind_front, chunk_around, cut_later, later_looked, looked_first, more_behind_front, on_both, on_err, stays_same}
 use Rattle.hq_judging.proofs.checking.Checking.take_chunks.Goals as goal
-
-pub take_chunk-requires : goal.take_chunk-requires
-take_chunk-requires c =
-    let inv = c.loop-chunk.invariant in
-    let i = c.loop-chunk.chunk-index in
-    let d = c.chunk-item.result in
-    let item = slice_index_or c.loop-chunk.chunks i d in
-    let low : i < length c.args.chunks.now = omega (arith, c.loop-chunk-test.true, inv.len) in
-    let same : item ≡ slice_index_or c.args.chunks.now i d = inv.rest i d (omega arith) in
-    subst (λ (p : Chunk). IsAhead p.text.items p.ahead) (sym same) (c.requires i d low).ahead
 
 pub loop-chunk-init : goal.loop-chunk-init
 loop-chunk-init c = record {
-  len = refl;
-  rest = λ k d above. refl;
+  looked = c.requires;
+  front = [];
+  cut = refl;
+  whole = inl refl;
   took = λ from lines h. (subst (λ (ls : List (List ℕ)). HasChecked from ls c.args.self.now) (sym (append-nil lines)) h, stays_same c.args.self.now.progress);
 }
 
 pub loop-chunk-preserved : goal.loop-chunk-preserved
 loop-chunk-preserved c =
     let inv = c.loop-chunk.invariant in
-    let first = c.args.chunks.now in
+    let job = plan c.args.self.now.job in
+    let at = c.args.self.now.progress in
     let i = c.loop-chunk.chunk-index in
     let d = c.chunk-item.result in
-    let item = slice_index_or c.loop-chunk.chunks i d in
-    let low : i < length first = omega (arith, c.loop-chunk-test.true, inv.len) in
-    let same : item ≡ slice_index_or first i d = inv.rest i d (omega arith) in
+    let chunks = c.loop-chunk.chunks in
+    let item = slice_index_or chunks i d in
+    let rest = c.loop-chunk.rest.now in
+    let first = c.split_at.result.0.now in
+    let behind = c.split_at.result.1.now in
+    let next = looked_first job at chunks i d rest (omega (arith, c.loop-chunk-test.true)) inv.looked in
     record {
-      len = length-set c.loop-chunk.chunks i c.take_chunk.new.chunk ∙ inv.len;
-      rest = λ k e above. get_or-set_other c.loop-chunk.chunks i k c.take_chunk.new.chunk e (λ e. omega (arith, e, above)) ∙ inv.rest k e (omega (arith, above));
+      looked = later_looked job at chunks i c.take_chunk.new.chunk rest behind item.len c.split_at.ensures.back next.3;
+      front = inv.front ++ first;
+      cut = cut_later c.args.text.now inv.front rest first behind item.len inv.cut c.split_at.ensures.front c.split_at.ensures.back;
+      whole = whole_both inv.front first inv.whole (subst (λ (t : List ℕ). IsWhole t) (sym c.split_at.ensures.front) next.1);
       took = λ from lines h.
           let so = inv.took from lines h in
-          let looked : IsLookedAt (plan c.args.self.now.job) c.args.self.now.progress item = subst (λ (p : Chunk). IsLookedAt (plan c.args.self.now.job) c.args.self.now.progress p) (sym same) (c.requires i d low) in
-          let next = c.in_ok-take_chunk.ensures.took c.args.self.now.progress from (lines ++ lines_in_all (take i first)) (subst (λ (j : JobValue). IsLookedAt (plan j) c.args.self.now.progress item) h.same looked) so.1 so.0 in (
-            subst (λ (ls : List (List ℕ)). HasChecked from ls c.take_chunk.new.self) (append_assoc lines (lines_in_all (take i first)) (lines_of item.text.items) ∙ ap (λ ls. lines ++ ls) (sym (one_more first i item d low same))) next.0,
-            next.1,
-          );
+          let looked = subst (λ (t : List ℕ). IsLookedAt job at t item) (sym c.split_at.ensures.front) next.2 in
+          let took = c.in_ok-take_chunk.ensures.took at from (lines ++ lines_of inv.front) (subst (λ (j : JobValue). IsLookedAt (plan j) at first item) h.same looked) so.1 so.0 in
+          (subst (λ (ls : List (List ℕ)). HasChecked from ls c.take_chunk.new.self) (behind_front lines inv.front first inv.whole) took.0, took.1);
     }
 
 pub returns-clause-took : goal.returns-clause-took
-returns-clause-took c from lines h =
+returns-clause-took c =
     let inv = c.loop-chunk.invariant in
-    let all : length c.args.chunks.now ≡ c.loop-chunk.chunk-index = omega (arith, c.loop-chunk-test.false, inv.len) in
-    subst (λ (ps : List Chunk). HasChecked from (lines ++ lines_in_all ps) c.loop-chunk.self) (ap (λ n. take n c.args.chunks.now) (sym all) ∙ take_all (length c.args.chunks.now) c.args.chunks.now (omega arith)) (inv.took from lines h).0
+    on_both c.take_text.result c.take_text.ensures.took c.take_text.ensures.closed
+    (λ took closed from lines h.
+    subst (λ (ls : List (List ℕ)). HasChecked from ls c.take_text.new.self)
+    (behind_front lines inv.front c.loop-chunk.rest.now inv.whole ∙ ap (λ t. lines ++ lines_of t) (sym inv.cut))
+    (took from (lines ++ lines_of inv.front) (inv.took from lines h).0))
+
+pub returns-clause-fault : goal.returns-clause-fault
+returns-clause-fault c =
+    let inv = c.loop-chunk.invariant in
+    on_err c.take_text.result c.take_text.ensures.fault
+    (λ f fault from lines more h.
+    subst (λ (ls : List (List ℕ)). HasFault ls f)
+    (more_behind_front lines inv.front c.loop-chunk.rest.now more inv.whole ∙ ap (λ t. lines ++ (lines_of t ++ more)) (sym inv.cut))
+    (fault from (lines ++ lines_of inv.front) more (inv.took from lines h).0))
 
 pub returns-in_err-take_chunk-clause-fault : goal.returns-in_err-take_chunk-clause-fault
 returns-in_err-take_chunk-clause-fault c =
     let p = err_from_is_err_and c.from_residual.result c.from_residual.ensures.1 in
     let inv = c.loop-chunk.invariant in
-    let first = c.args.chunks.now in
+    let job = plan c.args.self.now.job in
+    let at = c.args.self.now.progress in
     let i = c.loop-chunk.chunk-index in
     let d = c.chunk-item.result in
-    let item = slice_index_or c.loop-chunk.chunks i d in
-    let low : i < length first = omega (arith, c.loop-chunk-test.true, inv.len) in
-    let same : item ≡ slice_index_or first i d = inv.rest i d (omega arith) in
+    let chunks = c.loop-chunk.chunks in
+    let item = slice_index_or chunks i d in
+    let rest = c.loop-chunk.rest.now in
+    let first = c.split_at.result.0.now in
+    let behind = c.split_at.result.1.now in
+    let next = looked_first job at chunks i d rest (omega (arith, c.loop-chunk-test.true)) inv.looked in
+    let whole = subst (λ (t : List ℕ). IsWhole t) (sym c.split_at.ensures.front) next.1 in
     rw (p.1, p.2)
     (λ from lines more h.
     let so = inv.took from lines h in
-    let looked : IsLookedAt (plan c.args.self.now.job) c.args.self.now.progress item = subst (λ (p : Chunk). IsLookedAt (plan c.args.self.now.job) c.args.self.now.progress p) (sym same) (c.requires i d low) in
+    let looked = subst (λ (t : List ℕ). IsLookedAt job at t item) (sym c.split_at.ensures.front) next.2 in
     subst (λ (ls : List (List ℕ)). HasFault ls c.in_err-take_chunk.field-0.0)
-    (around lines (lines_in_all (take i first)) (lines_of item.text.items) (lines_in_all (drop (i + 1) first)) more ∙ ap (λ ls. lines ++ (ls ++ more)) (sym (all_around first i item d low same)))
-    (c.in_err-take_chunk.ensures.fault c.args.self.now.progress from (lines ++ lines_in_all (take i first)) (lines_in_all (drop (i + 1) first) ++ more) (subst (λ (j : JobValue). IsLookedAt (plan j) c.args.self.now.progress item) h.same looked) so.1 so.0))
+    (chunk_around lines inv.front first behind c.args.text.now more inv.whole whole (cut_later c.args.text.now inv.front rest first behind item.len inv.cut c.split_at.ensures.front c.split_at.ensures.back))
+    (c.in_err-take_chunk.ensures.fault at from (lines ++ lines_of inv.front) (lines_of behind ++ more) (subst (λ (j : JobValue). IsLookedAt (plan j) at first item) h.same looked) so.1 so.0))
