@@ -5,7 +5,7 @@ ghost use Rattle.std.specs.Prelude.{IfOk, map};
 ghost use Rattle.hq_cli.specs.Answered.{AnswerReport};
 ghost use Rattle.hq_commands.specs.Judged.{IsToJudge};
 ghost use Rattle.hq_status.specs.Reports.{Reported};
-ghost use Rattle.hq_commands.specs.Words.{AsksWords};
+ghost use Rattle.hq_words.specs.Asking.{AsksWords};
 ghost use Rattle.hq_words.specs.declared.words.Asked.{Asked as Command};
 
 mod changing;

@@ -1,7 +1,7 @@
 //! Texts that are taken in line by line, while they come.
 
 ghost use Rattle.std.specs.Prelude.{◌≡◌, ℕ, ◌+◌, ◌<◌, ◌≤◌, ◌⊎◌, ◌++◌, List, [], length, take, IfOk, IfErr, IfSome};
-ghost use Rattle.std.specs.Prelude.{OnOk};
+ghost use Rattle.std.specs.Prelude.{◌≢◌, MatchOption, OnOk, Some, slice_get};
 ghost use Rattle.hq_text.specs.Intake.{EndsLine, FaultOf, HasRead, Holds, IsWhole, OfText, Stays, TakenOf};
 ghost use Rattle.hq_text.specs.Lines.{lines_of};
 ghost use Rattle.hq_text.specs.Turns.{Fails, Passes};
@@ -68,7 +68,9 @@ struct Progress<L> {
 
 /// Where the last line of a piece ends.
 fn last_feed(piece: &[u8]) -> Option<usize>
-    ensures { IfSome result (λ at. (at < length piece.now) × EndsLine (take (at + 1) piece.now)) }
+    ensures ends { IfSome result (λ at. (at < length piece.now) × EndsLine (take (at + 1) piece.now)) }
+    ensures last { MatchOption result ((k : ℕ) → slice_get piece.now k ≢ Some 10)
+        (λ at. (k : ℕ) → at < k → slice_get piece.now k ≢ Some 10) }
 {
     memrchr(b'\n', piece)
 }
@@ -77,6 +79,7 @@ fn last_feed(piece: &[u8]) -> Option<usize>
 pub fn whole_lines(text: &[u8]) -> usize
     ensures within { result ≤ length text.now }
     ensures whole { IsWhole (take result text.now) }
+    ensures all { (k : ℕ) → result ≤ k → slice_get text.now k ≢ Some 10 }
 {
     match last_feed(text) {
         Some(at) => at + 1,

@@ -1,7 +1,8 @@
 -- What the words of a command line ask for.
 use Rattle.std.specs.Prelude.{◌≡◌, Bool, false, List, [], ◌∷◌, Option, Some, None, codes, map, option_map}
 use Rattle.std.specs.Str.{bytes_eq}
-use Rattle.clap.specs.Words.{Row, Text, first_of, all_of}
+use Rattle.clap.specs.Words.{Row, Text, all_of, first_of, subcommand_of}
+use Rattle.hq_words.specs.Commands.{hsaq_app}
 use Rattle.hq_words.specs.declared.words.Asked.{Asked}
 use Rattle.hq_words.specs.declared.words.Asked.TheVariants.{Show, Pack, Audit, Check, Run, Replay, Chart, Graph}
 use Rattle.hq_words.specs.declared.words.Asked.TheVariants.{Explain, Witness, Fix, Trim}
@@ -93,3 +94,7 @@ IsWords Memory = ⊥
 abbrev pub IsMemory : WordsFault → Type 0
 IsMemory (Words e) = ⊥
 IsMemory Memory = Unit {0}
+
+-- the words behind the program's name ask for this
+abbrev pub AsksWords : List Text → Asked → Type 0
+AsksWords words asked = Asks (subcommand_of hsaq_app (words_or_audit words)) asked

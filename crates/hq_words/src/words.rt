@@ -3,7 +3,7 @@
 ghost use Rattle.std.specs.Prelude.{◌≡◌, ◌≢◌, [], Some, true, codes, map, option_map, IfOk, IfErr, IfSome};
 ghost use Rattle.clap.specs.Words.{all_of, found_of, rows_of, subcommand_of, subcommand_rows_of, takes};
 ghost use Rattle.hq_words.specs.Commands.{hsaq_app};
-ghost use Rattle.hq_words.specs.Asking.{Asks, AsksAlone, AsksFor, AsksOfTwo, AsksWith, is_set, words_or_audit, IsWords};
+ghost use Rattle.hq_words.specs.Asking.{Asks, AsksAlone, AsksFor, AsksOfTwo, AsksWith, AsksWords, is_set, IsWords};
 
 use crate::command::hsaq;
 use clap::error::ErrorKind;
@@ -285,7 +285,7 @@ fn asked_of<'a>(alloc: Global, words: &'a [&'a str]) -> Result<Asked<'a>, WordsF
 ///
 /// `Words` with `clap`'s error where the words ask for nothing that there is; `Memory`.
 pub fn command_of<'a>(alloc: Global, words: &'a [&'a str]) -> Result<Asked<'a>, WordsFault>
-    ensures asked { IfOk result (Asks (subcommand_of hsaq_app (words_or_audit (map (λ w. w.now) words.entry.now)))) }
+    ensures asked { IfOk result (AsksWords (map (λ w. w.now) words.entry.now)) }
     ensures some { IfErr result (λ f. IsWords f → words.entry.now ≢ []) }
     ensures refused { IfErr result (λ f. IsWords f → takes hsaq_app (map (λ w. w.now) words.entry.now) ≢ true) }
 {

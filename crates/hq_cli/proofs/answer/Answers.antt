@@ -1,7 +1,7 @@
 use Rattle.std.proofs.Common.{ap, subst}
 use Rattle.hq_status.specs.Reports.{Reported}
 use Rattle.hq_cli.specs.Answered.{AnswerReport}
-use Rattle.hq_cli.proofs.Answers.{has_judged}
+use Rattle.hq_cli.proofs.OfFiles.{has_judged}
 use Rattle.hq_cli.proofs.answer.Goals as goal
 
 pub returns-in-Some : goal.returns-in-Some

@@ -2,7 +2,7 @@ use Rattle.std.proofs.Common.{ap, codes}
 use Rattle.hq_status.specs.Reports.{with_feed}
 use Rattle.hq_status.specs.declared.status.Status.TheVariants.{Memory}
 use Rattle.hq_cli.specs.Answered.RunAnswer.{no_memory}
-use Rattle.hq_cli.proofs.Answers.{has_run, run_unmade}
+use Rattle.hq_cli.proofs.OfFiles.{has_run, run_unmade}
 use Rattle.hq_cli.proofs.running.run_found.Goals as goal
 
 pub returns-in_default : goal.returns-in_default

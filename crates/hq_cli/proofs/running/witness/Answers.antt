@@ -1,6 +1,6 @@
 use Rattle.std.proofs.Common.{ap}
 use Rattle.hq_cli.specs.Answered.{WitnessAnswer}
-use Rattle.hq_cli.proofs.Answers.{of_none, of_taken}
+use Rattle.hq_cli.proofs.OfFiles.{of_none, of_taken}
 use Rattle.hq_cli.proofs.running.witness.Goals as goal
 
 pub returns-in-Ok : goal.returns-in-Ok

@@ -1,5 +1,5 @@
 use Rattle.std.proofs.Common.{◌∙◌, ap, refl}
-use Rattle.hq_cli.proofs.Answers.{has_looked, witness_unmade}
+use Rattle.hq_cli.proofs.OfFiles.{has_looked, witness_unmade}
 use Rattle.hq_cli.proofs.running.witness_found.Goals as goal
 
 pub returns-in-Err : goal.returns-in-Err
