@@ -1,5 +1,5 @@
 -- A certificate that is read and checked in chunks.
-use Rattle.std.proofs.Common.{◌≡◌, ℕ, ◌+◌, ◌<◌, ◌≤◌, ◌⊎◌, inl, inr, List, [], ◌∷◌, ◌++◌, length, take, drop, slice_index_or, slice_set as set, refl, sym, ap, subst, ◌∙◌, arith, append_assoc, Option, None, Some, MatchOption, All, Result, Ok, Err, OnOk, IfErr}
+use Rattle.std.proofs.Common.{◌≡◌, ℕ, ◌+◌, ◌<◌, ◌≤◌, ◌⊎◌, inl, inr, List, [], ◌++◌, length, take, drop, slice_index_or, slice_set as set, refl, sym, ap, subst, ◌∙◌, arith, append_assoc, Option, None, Some, MatchOption, All, Result, Ok, Err, OnOk, IfErr}
 use Rattle.std.specs.Prelude.{IfOk, false, if◌then◌else◌}
 use Rattle.std.specs.Result.{is_ok, is_err}
 use Rattle.std.proofs.lemmas.List.{drop_more, drop-set-lt, take-append-drop}

@@ -1,6 +1,6 @@
 //! Certificates that several threads read and check while they come.
 
-ghost use Rattle.std.specs.Prelude.{◌≡◌, ℕ, ◌⊎◌, [], ◌++◌, List, IfOk, IfErr};
+ghost use Rattle.std.specs.Prelude.{ℕ, ◌⊎◌, [], ◌++◌, List, IfOk, IfErr};
 ghost use Rattle.hq_text.specs.Intake.{FaultOf, OfText};
 ghost use Rattle.hq_text.specs.Lines.{lines_of};
 ghost use Rattle.hq_text.specs.Turns.{ComesTo, Fails, Passes};

@@ -41,11 +41,6 @@ pub fails_later : (S : Type 0) (T : Turn S) (turns more_turns : ℕ) (s mid new 
 fails_later S T turns more_turns s mid new n text first f low =
     record { count = n + f.count; text = text ++ f.text; last = f.last; buffer = f.buffer; given = gives_both S T s mid f.last n f.count text f.text first f.given; within = omega (arith, low, f.within); failed = f.failed }
 
--- no turn leaves the reader as it was, and gives nothing
-pub none_given : (S : Type 0) (T : Turn S) (s new : S) (n : ℕ) (text : List ℕ) → Gives S T s n text new → n ≡ 0 → (text ≡ []) × (new ≡ s)
-none_given S T s new n text (start r) e = (refl, refl)
-none_given S T s new n text (more r mid last k count before buffer given some turn) e = absurd (omega (arith, e))
-
 -- ---- what is kept
 
 -- what came is put behind what was kept, or lost

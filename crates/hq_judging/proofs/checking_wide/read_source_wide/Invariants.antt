@@ -1,4 +1,4 @@
-use Rattle.std.proofs.Common.{◌*◌, ℕ, List}
+use Rattle.std.proofs.Common.{◌*◌}
 use Rattle.hq_text.proofs.Taken.{Follows}
 use Rattle.hq_judging.specs.Chunks.{HasRead}
 use Rattle.hq_judging.proofs.checking_wide.read_source_wide.Given as goal

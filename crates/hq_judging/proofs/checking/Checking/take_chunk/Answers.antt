@@ -1,4 +1,4 @@
-use Rattle.std.proofs.Common.{◌≡◌, ◌++◌, ℕ, List, drop, ap, sym, subst, ◌∙◌, Option, MatchOption, All}
+use Rattle.std.proofs.Common.{◌≡◌, ◌++◌, ℕ, List, ap, sym, subst, ◌∙◌, Option, MatchOption, All}
 use Rattle.std.specs.Prelude.{map}
 use Rattle.hq_cert.specs.View.{pair_of}
 use Rattle.hq_text.specs.Lines.{lines_of}

@@ -1,4 +1,4 @@
-use Rattle.std.proofs.Common.{◌≡◌, ℕ, ◌+◌, ◌++◌, List, length, drop, [], slice_index_or, slice_set, inl, refl, sym, ap, subst, ◌∙◌, arith, append-nil}
+use Rattle.std.proofs.Common.{ℕ, ◌+◌, ◌++◌, List, [], slice_index_or, inl, refl, sym, ap, subst, ◌∙◌, arith, append-nil}
 use Rattle.std.proofs.lemmas.Result.{err_from_is_err_and}
 use Rattle.hq_text.specs.Intake.{IsWhole}
 use Rattle.hq_text.specs.Lines.{lines_of}
@@ -7,8 +7,7 @@ use Rattle.hq_job.specs.Plan.{plan}
 use Rattle.hq_job.specs.Value.{JobValue}
 use Rattle.hq_certread.specs.SoFar.{HasFault}
 use Rattle.hq_judging.specs.Checking.{HasChecked}
-use Rattle.hq_judging.specs.Chunks.{AreLookedAt, IsLookedAt}
-use Rattle.hq_judging.specs.declared.chunk.Chunk.{Chunk}
+use Rattle.hq_judging.specs.Chunks.{IsLookedAt}
 use Rattle.hq_judging.proofs.InChunks.{behind_front, chunk_around, cut_later, later_looked, looked_first, more_behind_front, on_both, on_err, stays_same}
 use Rattle.hq_judging.proofs.checking.Checking.take_chunks.Goals as goal
 

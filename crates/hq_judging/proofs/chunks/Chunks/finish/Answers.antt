@@ -1,8 +1,8 @@
-use Rattle.std.proofs.Common.{◌++◌, List, ℕ, [], sym, ap, subst, ◌∙◌, append-nil}
+use Rattle.std.proofs.Common.{◌++◌, List, ℕ, [], ap, subst, ◌∙◌, append-nil}
 use Rattle.std.proofs.lemmas.Result.{err_from_is_err_and}
 use Rattle.hq_text.specs.Lines.{lines_of}
 use Rattle.hq_certread.specs.SoFar.{HasFault}
-use Rattle.hq_judging.specs.Checking.{FinishedOf, HasChecked}
+use Rattle.hq_judging.specs.Checking.{HasChecked}
 use Rattle.hq_judging.proofs.InChunks.{err_told, last_lines, ok_told}
 use Rattle.hq_judging.proofs.chunks.Chunks.finish.Goals as goal
 
