@@ -33,7 +33,8 @@ fn no_packets(rt: HostRuntime) -> Result<(), Fail> {
 #[test]
 fn a_barrier_that_waits_for_itself(rt: HostRuntime) -> Result<(), Fail> {
     let text = b"hsaq 1\nagent a\nsignal s 9 1\nqueue q a 4\n\
-          packet 03000000000000000900000000000000000000000000000000000000000000000000000000000000000000000000000000000000000000000900000000000000\n\
+          packet 0300000000000000090000000000000000000000000000000000000000000000\
+                 0000000000000000000000000000000000000000000000000900000000000000\n\
           end";
     let job = job_of(rt.alloc(), text)?;
     let Err(OrderFault::Stuck(packets)) = scheduled(rt.alloc(), &job) else {
