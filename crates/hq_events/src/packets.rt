@@ -105,7 +105,6 @@ pub fn done_of(job: &Job, number: usize) -> Option<u16>
 }
 
 /// The byte of an entry of these ranges, laid end to end, if there are so many.
-#[tactic(auto, using(crate::proofs::Jobs::entry_first, crate::proofs::Jobs::entry_later, crate::proofs::Jobs::entries_length, crate::proofs::Jobs::entry_low, crate::proofs::Jobs::entries_rest))]
 fn entry_of(ranges: &[ByteRange], entry: usize) -> Option<usize>
     requires { All (λ b. b < BYTES) (flat_map bytes_of ranges.now) }
     ensures { MatchOption result (length (flat_map bytes_of ranges.now) ≤ entry)

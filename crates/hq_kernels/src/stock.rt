@@ -80,7 +80,6 @@ fn write_result(task: &Task, first: &[u8], second: &[u8], write: &mut Piece) -> 
 }
 
 /// Does the task with the pieces of the room, if they suit it.
-#[tactic(auto, using(crate::proofs::Tasks::performs_one, crate::proofs::Tasks::performs_two, crate::proofs::Tasks::performs_three))]
 fn perform_in(task: &Task, room: &mut Room) -> bool
     requires { length (pieces_in room.old) ≡ pieces_of task.now }
     ensures suits { IsTrue result ↔ LengthsFit task.now (pieces_in room.old) }

@@ -1,5 +1,4 @@
 pub mod Working
 pub mod Packets
-pub mod Spreads
 pub mod Asked
 pub mod Endings

@@ -9,7 +9,6 @@ use std::thread::{Threads, join};
 
 /// Calls f with each job and its place, each in a thread of its own, and waits for all. All calls are made, even
 /// where there is no memory for their results.
-#[tactic(auto, using(crate::proofs::Spreads::gives_more, crate::proofs::Spreads::accepts_last, crate::proofs::Spreads::accepts_rest))]
 pub fn run_each<R: Threads + Sync, J: Send + Drop, X: Send + Drop, F: Fn(usize, J) -> X + Sync>(
     rt: &R,
     alloc: Global,

@@ -2,7 +2,7 @@ use Rattle.std.proofs.Common.{◌≡◌, ◌<◌, ◌≤◌, All, Some, MatchOpt
 use Rattle.std.specs.List.{flat_map}
 use Rattle.hq_footprint.specs.Bytes.{bytes_of}
 use Rattle.hq_model.specs.declared.limits.TheConstants.{BYTES}
-use Rattle.hq_events.proofs.Jobs.{entry_low, entries_rest, later_match}
+use Rattle.hq_events.proofs.Jobs.{entry_first, entry_low, entries_length, entries_rest, later_match}
 use Rattle.hq_events.proofs.packets.+entry_of.Goals as goal
 
 pub overflow_add-result : goal.overflow_add-result
@@ -23,3 +23,6 @@ returns t c =
     let e = c.in_ok-range.ensures.cases.0 in
     subst (λ rs. MatchOption c.entry_of.result (length (flat_map bytes_of rs) ≤ c.args.entry) (λ b. slice_get (flat_map bytes_of rs) c.args.entry ≡ Some b)) (sym e)
     (later_match c.in_ok-range.range.now (flat_map bytes_of c.in_ok-range.rest.now) c.args.entry c.entry_of.result c.if-entry-count.false c.entry_of.ensures)
+
+pub returns-then-entry-count : goal.returns-then-entry-count
+returns-then-entry-count t c = search (rules, entry_first, entries_length)
