@@ -12,7 +12,8 @@ use Rattle.hq_model.specs.Certificate.{Certificate, Pair, kind_of, HasPair, HasP
 use Rattle.hq_certcheck.specs.Covering.{Covered, NoneMissing, FirstMissing, has_kind, has_flag, row_of, IsFor, AreListed, IsMarked, AreFlagged, IsFlagged, AllFlagged, RowFlagged, FirstUnflagged}
 use Rattle.std.proofs.lemmas.Option.{slice_get_within}
 use Rattle.hq_ordercheck.proofs.Options.{some_same}
-use Rattle.hq_certcheck.proofs.Seeing.{got_left, got_right, each_in}
+use Rattle.hq_certcheck.proofs.Behind.{got_left, got_right}
+use Rattle.hq_certcheck.proofs.Seeing.{each_in}
 
 pub by_kinds : (P : Conflict → Type 0) → P WriteRead → P WriteWrite → P ReadWrite → (kind : Conflict) → P kind
 by_kinds P wr ww rw WriteRead = wr

@@ -1,3 +1,6 @@
+pub mod Alike
+pub mod Behind
+pub mod Blocks
 pub mod Saying
 pub mod Zipped
 pub mod Firsts

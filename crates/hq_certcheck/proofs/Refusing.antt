@@ -1,14 +1,13 @@
 -- No reason to refuse is true of a certificate that holds, but that there is no memory.
-use Rattle.std.proofs.Common.{◌≡◌, ℕ, refl, sym, List, Option, None, Some}
-use Rattle.std.specs.Prelude.{MatchOption, Ok, Err}
+use Rattle.std.proofs.Common.{◌≡◌, refl}
+use Rattle.std.specs.Prelude.{Ok, Err}
 use Rattle.std.proofs.lemmas.Option.{slice_get_within, get_or_from_slice_get}
 use Rattle.std.proofs.Common.{subst}
 use Rattle.hq_certcheck.specs.declared.fault.CheckNo.{CheckNo}
 use Rattle.hq_certcheck.specs.declared.fault.CheckNo.TheVariants.{BadOrder, BadLine, PairMissing, BadPair, Memory}
 use Rattle.hq_model.specs.Job.{Job}
-use Rattle.hq_model.specs.Certificate.{Certificate, Line, Pair, LineHolds, PairHolds, CertHolds}
-use Rattle.hq_certcheck.specs.Listed.{LineFollows, FirstBadLine, BadLineIs, BadPairIs}
-use Rattle.hq_certcheck.specs.Refusals.{IsBadLine, IsRefused}
+use Rattle.hq_model.specs.Certificate.{Certificate, PairHolds, CertHolds}
+use Rattle.hq_certcheck.specs.Refusals.{IsRefused}
 use Rattle.hq_certcheck.specs.Seen.{IsChecked}
 use Rattle.hq_certcheck.specs.View.{AcceptedJob}
 use Rattle.hq_job.specs.Plan.{plan}
@@ -25,14 +24,6 @@ only_memory job c (BadPair p r) h (order, lines, none, x) =
     absurd (x.bad (subst (PairHolds job c) (get_or_from_slice_get c.pairs x.k x.pair x.pair x.there) (h.pairs x.k x.pair (slice_get_within c.pairs x.k x.pair x.there))))
 only_memory job c Memory h u = refl
 
--- What is said of lines that are the certificate's is said of the certificate.
-pub bad_line_of : (job : Job) (c : Certificate) (lines : List Line) (found : Option ℕ) → lines ≡ c.lines → MatchOption found ((k : ℕ) → LineFollows job lines k) (FirstBadLine job lines) → MatchOption found ((k : ℕ) → LineHolds job c k) (IsBadLine job c)
-bad_line_of job c lines None same all = λ k. subst (λ (ls : List Line). LineFollows job ls k) same (all k)
-bad_line_of job c lines (Some k) same h = record {
-  bad = λ holds. h.bad (subst (λ (ls : List Line). LineFollows job ls k) (sym same) holds);
-  first = λ j l. subst (λ (ls : List Line). LineFollows job ls j) same (h.first j l);
-}
-
 -- ---- what a check answers
 
 pub accepted_is : (v : JobValue) (c : Certificate) (a : AcceptedJob) → CertHolds (plan v) c → Ordered (plan v) → Extends (plan v) a.order → Headline (plan v) → a.job ≡ v → a.order ≡ c.order → IsChecked v c (Ok a)
@@ -40,11 +31,3 @@ accepted_is v c a holds ordered extends headline job order = record { accepted =
 
 pub refused_is : (v j : JobValue) (c : Certificate) (no_of : CheckNo) → j ≡ v → IsRefused (plan v) c no_of → IsChecked v c (Err (no_of, j))
 refused_is v j c no_of job why = record { accepted = tt; ordered = tt; extends = tt; headline = tt; refused = (job, why); only = λ h. only_memory (plan v) c no_of h why }
-
--- ---- what was found of lists, said of the same lists by other names
-
-pub line_as : (job : Job) (lines same : List Line) (found : Option ℕ) → lines ≡ same → BadLineIs job lines found → BadLineIs job same found
-line_as job lines same found e h = subst (λ (ls : List Line). BadLineIs job ls found) e h
-
-pub pair_as : (job : Job) (lines same : List Line) (pairs others : List Pair) (found : Option (ℕ × ℕ)) → lines ≡ same → pairs ≡ others → BadPairIs job lines pairs found → BadPairIs job same others found
-pair_as job lines same pairs others found e k h = subst (λ (ls : List Line). BadPairIs job ls others found) e (subst (λ (ps : List Pair). BadPairIs job lines ps found) k h)

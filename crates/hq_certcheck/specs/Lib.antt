@@ -1,4 +1,5 @@
 pub mod Brief
+pub mod Concluded
 pub mod Covering
 pub mod Listed
 pub mod Refusals

@@ -1,5 +1,6 @@
 -- Lines and pair lines that follow from a list of lines, and the first that don't.
-use Rattle.std.specs.Prelude.{◌≡◌, ℕ, ◌<◌, List, length, Option, Some, slice_get, MatchOption, All}
+use Rattle.std.specs.Prelude.{◌≡◌, ℕ, ◌+◌, ◌<◌, ◌≤◌, ◌⊎◌, List, [], ◌∷◌, length, All}
+use Rattle.std.specs.Prelude.{Option, Some, slice_get, MatchOption, IfSome}
 use Rattle.hq_packet.specs.declared.packet.Scope.TheVariants as scope
 use Rattle.hq_model.specs.Job.{Job, IsPacket, Decrements}
 use Rattle.hq_model.specs.Fence.{need}
@@ -18,6 +19,42 @@ pub record FirstBadLine (job : Job) (lines : List Line) (k : ℕ) : Type 0 where
   pub there : k < length lines
   pub bad : ¬ LineFollows job lines k
   pub first : (j : ℕ) → j < k → LineFollows job lines j
+
+-- These lines stand in the list from this place on.
+abbrev pub StandAt : List Line → ℕ → List Line → Type 0
+StandAt lines from some = (i : ℕ) (line : Line) → slice_get some i ≡ Some line → slice_get lines (from + i) ≡ Some line
+
+-- so many lines, from this one on
+pub record Block : Type 0 where
+  pub from : ℕ
+  pub count : ℕ
+
+-- line k is one of them
+abbrev pub IsWithin : Block → ℕ → Type 0
+IsWithin block k = (block.from ≤ k) × (k < block.from + block.count)
+
+-- line k is one of the lines of these blocks
+abbrev pub IsLeft : List Block → ℕ → Type 0
+IsLeft [] k = ⊥
+IsLeft (block ∷ blocks) k = IsWithin block k ⊎ IsLeft blocks k
+
+-- what was found stands at this place or before it
+abbrev pub IsUpTo : Option ℕ → ℕ → Type 0
+IsUpTo found k = MatchOption found ⊥ (λ b. b ≤ k)
+
+-- What was found, if anything was, is a line that doesn't follow.
+abbrev pub IsBad : Job → List Line → Option ℕ → Type 0
+IsBad job lines found = IfSome found (λ b. (b < length lines) × ¬ LineFollows job lines b)
+
+-- Each line of the block follows, unless a line that doesn't was found at its place or before it.
+pub record BadLineOf (job : Job) (lines : List Line) (block : Block) (found : Option ℕ) : Type 0 where
+  pub bad : IsBad job lines found
+  pub others : (k : ℕ) → IsWithin block k → LineFollows job lines k ⊎ IsUpTo found k
+
+-- The same of all lines but those of blocks that are left to be checked.
+pub record BadLineBut (job : Job) (lines : List Line) (left : List Block) (found : Option ℕ) : Type 0 where
+  pub bad : IsBad job lines found
+  pub others : (k : ℕ) → k < length lines → IsLeft left k ⊎ (LineFollows job lines k ⊎ IsUpTo found k)
 
 -- The least line that doesn't hold is this one, or all hold.
 abbrev pub BadLineIs : Job → List Line → Option ℕ → Type 0

@@ -1,5 +1,5 @@
--- What is known of the pair lines of a certificate that were seen, and what a check of it answers.
-use Rattle.std.specs.Prelude.{◌≡◌, ℕ, ◌≤◌, ◌*◌, List, length, Option, Result, IfOk, IfErr}
+-- What is known of the lines and pair lines of a certificate that were seen, and what a check of it answers.
+use Rattle.std.specs.Prelude.{◌≡◌, ℕ, ◌≤◌, ◌*◌, List, [], length, map, Option, Result, IfOk, IfErr}
 use Rattle.hq_job.specs.Plan.{plan}
 use Rattle.hq_job.specs.Value.{JobValue}
 use Rattle.hq_model.specs.declared.limits.TheConstants.{PACKETS}
@@ -8,40 +8,55 @@ use Rattle.hq_model.specs.Certificate.{Certificate, Line, Pair, CertHolds}
 use Rattle.hq_model.specs.Fence.{Ordered}
 use Rattle.hq_model.specs.Order.{Extends}
 use Rattle.hq_model.specs.Theorems.{Headline}
+use Rattle.hq_certcheck.specs.Concluded.{conclusion_of}
 use Rattle.hq_certcheck.specs.Covering.{AreListed}
-use Rattle.hq_certcheck.specs.Listed.{BadPairIs}
+use Rattle.hq_certcheck.specs.Listed.{Block, BadLineBut, BadPairIs}
 use Rattle.hq_certcheck.specs.Refusals.{IsRefused}
 use Rattle.hq_certcheck.specs.View.{AcceptedJob}
 use Rattle.hq_certcheck.specs.declared.flags.TheConstants.{PACKET_WORDS}
 use Rattle.hq_certcheck.specs.declared.fault.CheckNo.{CheckNo}
 use Rattle.hq_certcheck.specs.declared.fault.CheckNo.TheVariants.{Memory}
-use Rattle.hq_certcheck.specs.declared.seen.SeenPairs.TheInside.{Inside}
+use Rattle.hq_certcheck.specs.declared.seen.Seen.TheInside.{Inside}
+use Rattle.hq_certcheck.specs.declared.conclusion.Conclusion.{Conclusion}
 
--- for so many packets, which kinds of conflict of which two have pair lines, and the first pair line that doesn't hold
-pub record Seen : Type 0 where
+-- What the lines conclude, and one that doesn't hold; for so many packets, which kinds of conflict of which two have
+-- pair lines, and the packets of the first pair line that doesn't hold.
+pub record SeenValue : Type 0 where
+  pub lines : List Conclusion
+  pub bad_line : Option ℕ
   pub count : ℕ
   pub flags : List ℕ
-  pub bad : Option (ℕ × ℕ)
+  pub bad_pair : Option (ℕ × ℕ)
 
 -- what the fields mean
-abbrev pub seen_of : Inside → Seen
-seen_of s = record { count = s.count; flags = s.flags.items; bad = s.bad }
+abbrev pub seen_of : Inside → SeenValue
+seen_of s = record {
+  lines = s.lines.items;
+  bad_line = s.bad_line;
+  count = s.count;
+  flags = s.flags.items;
+  bad_pair = s.bad_pair;
+}
 
 -- there are the rows of each packet
 pub record IsTable (s : Inside) : Type 0 where
   pub few : s.count ≤ PACKETS
   pub len : length s.flags.items ≡ s.count * PACKET_WORDS
 
--- These pair lines were seen, of a certificate of these lines: each kind of conflict of each two packets has its flag
--- exactly where one of them is for it, and the first of them that doesn't hold is known.
-pub record HasSeen (job : Job) (lines : List Line) (pairs : List Pair) (s : Seen) : Type 0 where
+-- These lines and these pair lines of a certificate were seen, and all lines were checked but those of these blocks.
+-- Each kind of conflict of each two packets has its flag exactly where one of the pair lines is for it, and the first
+-- pair line that doesn't hold is known.
+pub record HasSeen (job : Job) (lines : List Line) (pairs : List Pair) (left : List Block)
+    (s : SeenValue) : Type 0 where
+  pub concluded : map conclusion_of lines ≡ s.lines
+  pub checked : BadLineBut job lines left s.bad_line
   pub count : s.count ≡ length job.packets
   pub listed : AreListed pairs s.count s.flags
-  pub bad : BadPairIs job lines pairs s.bad
+  pub bad : BadPairIs job lines pairs s.bad_pair
 
--- the certificate with these pair lines in the place of its own
-abbrev pub with_pairs : Certificate → List Pair → Certificate
-with_pairs c pairs = record { order = c.order; lines = c.lines; pairs = pairs }
+-- All lines and pair lines of the certificate were seen, and all lines were checked.
+abbrev pub IsSeen : Job → Certificate → SeenValue → Type 0
+IsSeen job c s = HasSeen job c.lines c.pairs [] s
 
 -- What a check of the certificate answers: the job with the certificate's order where the certificate holds, and
 -- then all that follows of the job; or the first reason why it doesn't, which is that memory ran out where it does.

@@ -1,22 +1,20 @@
 //! Checks whole certificates.
 
-ghost use Rattle.std.specs.Prelude.{◌≡◌, ℕ, List, IfOk, IfErr, OnOk};
+ghost use Rattle.std.specs.Prelude.{◌≡◌, ℕ, IfOk, IfErr, OnOk};
 ghost use Rattle.hq_job.specs.Plan.{plan};
 ghost use Rattle.hq_model.specs.Job.{Job as JobOf};
 ghost use Rattle.hq_model.specs.Order.{OrderList};
 ghost use Rattle.hq_model.specs.Certificate as model;
 ghost use Rattle.hq_model.specs.Certificate.{LineHolds, CertHolds};
 ghost use Rattle.hq_certcheck.specs.Covering.{MissingIs};
-ghost use Rattle.hq_certcheck.specs.Listed.{BadLineIs, BadPairIs};
+ghost use Rattle.hq_certcheck.specs.Listed.{BadPairIs};
 ghost use Rattle.hq_certcheck.specs.Refusals.{IsRefused};
-ghost use Rattle.hq_certcheck.specs.Seen.{HasSeen, IsChecked, with_pairs};
+ghost use Rattle.hq_certcheck.specs.Seen.{IsChecked, IsSeen};
 
 use crate::accepted::Accepted;
 use crate::fault::CheckNo;
-use crate::lines::first_bad_line;
 use crate::missing::first_missing;
-use crate::pairs::first_bad_pair;
-use crate::seen::SeenPairs;
+use crate::seen::Seen;
 use hq_cert::Certificate;
 use hq_job::Job;
 use hq_model::certificate::certificates_order;
@@ -25,20 +23,19 @@ use hq_model::runs::headline_law;
 use hq_ordercheck::{is_order_list, numbers};
 use std::alloc::{AllocError, Global};
 
-/// The certificate's order, if it is an order list of the job.
-fn order_of(alloc: Global, job: &Job, certificate: &Certificate) -> Result<Vec<u16>, CheckNo>
-    ensures ok { IfOk result
-        (λ order. OrderList (plan job.now) certificate.now.order × (order.items ≡ certificate.now.order)) }
+/// A certificate's order, if it is an order list of the job.
+fn order_of(alloc: Global, job: &Job, order: &[u32]) -> Result<Vec<u16>, CheckNo>
+    ensures ok { IfOk result (λ list. OrderList (plan job.now) order.now × (list.items ≡ order.now)) }
     ensures refused { IfErr result
-        (λ no. (pairs : List model.Pair) → IsRefused (plan job.now) (with_pairs certificate.now pairs) no) }
+        (λ no. (c : model.Certificate) → c.order ≡ order.now → IsRefused (plan job.now) c no) }
 {
-    let Some(order) = numbers(alloc, job, certificate.order())? else {
+    let Some(list) = numbers(alloc, job, order)? else {
         return Err(CheckNo::BadOrder);
     };
-    if !is_order_list(alloc, job, &order)? {
+    if !is_order_list(alloc, job, &list)? {
         return Err(CheckNo::BadOrder);
     }
-    Ok(order)
+    Ok(list)
 }
 
 /// The first of the packets that lack pair lines, and then of the pair lines that don't hold, of a certificate whose
@@ -60,64 +57,58 @@ fn check_pairs(missing: Option<(u16, u16)>, bad_pair: Option<(u32, u32)>) -> Res
     Ok(())
 }
 
-/// The certificate's order, if the certificate holds with the pair lines that were seen: its least line that doesn't
-/// hold is this, and the first packets that lack pair lines are these.
+/// The order of a certificate of this order whose lines and pair lines were seen, if it holds: the first packets that
+/// lack pair lines are these.
 fn examine(
     alloc: Global,
     job: &Job,
-    certificate: &Certificate,
-    seen: &SeenPairs,
-    bad_line: Option<usize>,
+    order: &[u32],
+    seen: &Seen,
     missing: Result<Option<(u16, u16)>, AllocError>,
 ) -> Result<Vec<u16>, CheckNo>
-    requires line { BadLineIs (plan job.now) certificate.now.lines bad_line }
-    requires missing { IfOk missing
-        (λ found. (c : model.Certificate) → HasSeen (plan job.now) c.lines c.pairs seen.now
-        → MissingIs (plan job.now) c found) }
+    requires { IfOk missing
+        (λ found. (c : model.Certificate) → IsSeen (plan job.now) c seen.now → MissingIs (plan job.now) c found) }
     ensures ok { IfOk result
-        (λ order. (pairs : List model.Pair) → HasSeen (plan job.now) certificate.now.lines pairs seen.now
-        → CertHolds (plan job.now) (with_pairs certificate.now pairs) × (order.items ≡ certificate.now.order)) }
+        (λ list. (c : model.Certificate) → c.order ≡ order.now → IsSeen (plan job.now) c seen.now
+        → CertHolds (plan job.now) c × (list.items ≡ c.order)) }
     ensures refused { IfErr result
-        (λ no. (pairs : List model.Pair) → HasSeen (plan job.now) certificate.now.lines pairs seen.now
-        → IsRefused (plan job.now) (with_pairs certificate.now pairs) no) }
+        (λ no. (c : model.Certificate) → c.order ≡ order.now → IsSeen (plan job.now) c seen.now
+        → IsRefused (plan job.now) c no) }
 {
-    let order = order_of(alloc, job, certificate)?;
-    if let Some(k) = bad_line {
+    let list = order_of(alloc, job, order)?;
+    if let Some(k) = seen.bad_line() {
         return Err(CheckNo::BadLine(k));
     }
-    check_pairs(missing?, seen.bad())?;
-    Ok(order)
+    check_pairs(missing?, seen.bad_pair())?;
+    Ok(list)
 }
 
-/// What a check answers of the certificate with the pair lines that were seen, where its least line that doesn't hold
-/// is this, and the first packets that lack pair lines are these.
-pub fn conclude(
+/// What a check answers of a certificate of this order whose lines and pair lines were seen, where the first packets
+/// that lack pair lines are these.
+pub fn answer(
     alloc: Global,
     job: Job,
-    certificate: &Certificate,
-    seen: &SeenPairs,
-    bad_line: Option<usize>,
+    order: &[u32],
+    seen: &Seen,
     missing: Result<Option<(u16, u16)>, AllocError>,
 ) -> Result<Accepted, (CheckNo, Job)>
-    requires seen { (pairs : List model.Pair) × HasSeen (plan job) certificate.now.lines pairs seen.now }
-    requires line { BadLineIs (plan job) certificate.now.lines bad_line }
+    requires seen { (c : model.Certificate) × (c.order ≡ order.now) × IsSeen (plan job) c seen.now }
     requires missing { IfOk missing
-        (λ found. (c : model.Certificate) → HasSeen (plan job) c.lines c.pairs seen.now
-        → MissingIs (plan job) c found) }
-    ensures { (pairs : List model.Pair) → HasSeen (plan job) certificate.now.lines pairs seen.now
-        → IsChecked job (with_pairs certificate.now pairs) result }
+        (λ found. (c : model.Certificate) → IsSeen (plan job) c seen.now → MissingIs (plan job) c found) }
+    ensures { (c : model.Certificate) → c.order ≡ order.now → IsSeen (plan job) c seen.now → IsChecked job c result }
 {
     job.valid();
     certificates_order();
     order_lists_extend();
     headline_law();
-    match examine(alloc, &job, certificate, seen, bad_line, missing) {
-        Ok(order) => Ok(Accepted::of(job, order)),
+    match examine(alloc, &job, order, seen, missing) {
+        Ok(list) => Ok(Accepted::of(job, list)),
         Err(no) => Err((no, job)),
     }
 }
 
-/// What `check` answers of the certificate, whose pair lines were seen one block behind another and needn't be there.
+/// What `check` answers of a certificate of this order, whose lines and pair lines were seen one block behind another
+/// and needn't be there.
 ///
 /// # Errors
 ///
@@ -125,16 +116,14 @@ pub fn conclude(
 pub fn check_seen(
     alloc: Global,
     job: Job,
-    certificate: &Certificate,
-    seen: &SeenPairs,
+    order: &[u32],
+    seen: &Seen,
 ) -> Result<Accepted, (CheckNo, Job)>
-    requires seen { (pairs : List model.Pair) × HasSeen (plan job) certificate.now.lines pairs seen.now }
-    ensures { (pairs : List model.Pair) → HasSeen (plan job) certificate.now.lines pairs seen.now
-        → IsChecked job (with_pairs certificate.now pairs) result }
+    requires seen { (c : model.Certificate) × (c.order ≡ order.now) × IsSeen (plan job) c seen.now }
+    ensures { (c : model.Certificate) → c.order ≡ order.now → IsSeen (plan job) c seen.now → IsChecked job c result }
 {
-    let bad_line = first_bad_line(&job, certificate.lines());
     let missing = first_missing(alloc, &job, seen);
-    conclude(alloc, job, certificate, seen, bad_line, missing)
+    answer(alloc, job, order, seen, missing)
 }
 
 /// Accepts the job where the certificate holds. Then every run of the machine, however launches, reads, stores,
@@ -149,9 +138,8 @@ pub fn check_seen(
 pub fn check(alloc: Global, job: Job, certificate: &Certificate) -> Result<Accepted, (CheckNo, Job)>
     ensures { IsChecked job certificate.now result }
 {
-    let bad_pair = first_bad_pair(&job, certificate.lines(), certificate.pairs());
-    match SeenPairs::of(alloc, &job, certificate, bad_pair) {
-        Ok(seen) => check_seen(alloc, job, certificate, &seen),
+    match Seen::of(alloc, &job, certificate) {
+        Ok(seen) => check_seen(alloc, job, certificate.order(), &seen),
         Err(_) => Err((CheckNo::Memory, job)),
     }
 }

@@ -1,16 +1,18 @@
 //! Lines of a certificate, one by one.
 
-ghost use Rattle.std.specs.Prelude.{ℕ, ◌<◌, ◌↔◌, IsTrue, map, length};
+ghost use Rattle.std.specs.Prelude.{◌≡◌, ℕ, ◌↔◌, IsTrue, List, Some, map, length, slice_get};
 ghost use Rattle.std.specs.List.{AllZip};
 ghost use Rattle.hq_cert.specs.View.{line_of, rule_of, cited};
 ghost use Rattle.hq_job.specs.Plan.{plan};
-ghost use Rattle.hq_model.specs.Certificate as certificate;
+ghost use Rattle.hq_model.specs.Certificate as model;
 ghost use Rattle.hq_model.specs.Certificate.{Follows, signals};
 ghost use Rattle.hq_model.specs.Certificate.Rule.{Or as OrRule};
 ghost use Rattle.hq_model.specs.Order.{ByAnd, ByBit, ByQueue};
-ghost use Rattle.hq_certcheck.specs.Listed.{HoldsFor, LineFollows, BadLineIs};
+ghost use Rattle.hq_certcheck.specs.Concluded.{bare, conclusion_of};
+ghost use Rattle.hq_certcheck.specs.Listed.{HoldsFor, LineFollows, StandAt, BadLineOf};
 
 use crate::citing::{follower, says};
+use crate::conclusion::Conclusion;
 use hq_cert::{Citation, Line, Rule};
 use hq_job::Job;
 
@@ -41,13 +43,13 @@ fn by_and(job: &Job, p: usize, slot: usize, r: usize) -> bool
 /// Whether p is what the branch says, or comes before it, and that completes on the signal.
 fn holds_for(
     job: &Job,
-    lines: &[Line],
+    lines: &[Conclusion],
     limit: usize,
     p: usize,
     signal: u16,
     branch: Citation,
 ) -> bool
-    ensures { IsTrue result ↔ HoldsFor (plan job.now) (map line_of lines.now) limit p signal (cited branch) }
+    ensures { IsTrue result ↔ HoldsFor (plan job.now) (map bare lines.now) limit p signal (cited branch) }
 {
     match branch.number() {
         None => job.completes_on(p, signal),
@@ -61,14 +63,14 @@ fn holds_for(
 /// Whether there is a branch that holds for each signal of the slots, in their order, and no more.
 fn hold_for_each(
     job: &Job,
-    lines: &[Line],
+    lines: &[Conclusion],
     limit: usize,
     p: usize,
     slots: &[Option<u16>],
     branches: &[Citation],
 ) -> bool
     ensures { IsTrue result
-        ↔ AllZip (HoldsFor (plan job.now) (map line_of lines.now) limit p) (signals slots.now)
+        ↔ AllZip (HoldsFor (plan job.now) (map bare lines.now) limit p) (signals slots.now)
         (map cited branches.now) }
 {
     let mut next = 0;
@@ -87,18 +89,32 @@ fn hold_for_each(
 }
 
 /// Whether r is a barrier-OR whose dependencies have these branches.
-fn by_or(job: &Job, lines: &[Line], limit: usize, p: usize, r: usize, branches: &[Citation]) -> bool
+fn by_or(
+    job: &Job,
+    lines: &[Conclusion],
+    limit: usize,
+    p: usize,
+    r: usize,
+    branches: &[Citation],
+) -> bool
     ensures { IsTrue result
-        ↔ Follows (plan job.now) (map line_of lines.now) limit p r (OrRule (map cited branches.now)) }
+        ↔ Follows (plan job.now) (map bare lines.now) limit p r (OrRule (map cited branches.now)) }
 {
     job.is_packet(r) && job.is_or(r) && hold_for_each(job, lines, limit, p, job.slots(r), branches)
 }
 
 /// Whether the first line says that p comes before a packet, and the second that this comes before r.
-fn through(lines: &[Line], limit: usize, p: usize, r: usize, first: usize, second: usize) -> bool
+fn through(
+    lines: &[Conclusion],
+    limit: usize,
+    p: usize,
+    r: usize,
+    first: usize,
+    second: usize,
+) -> bool
     ensures { IsTrue result
-        ↔ ((m : ℕ) × certificate.Says (map line_of lines.now) limit first p m
-        × certificate.Says (map line_of lines.now) limit second m r) }
+        ↔ ((m : ℕ) × model.Says (map bare lines.now) limit first p m
+        × model.Says (map bare lines.now) limit second m r) }
 {
     match follower(lines, limit, first, p) {
         Some(middle) => says(lines, limit, second, middle, r),
@@ -107,9 +123,9 @@ fn through(lines: &[Line], limit: usize, p: usize, r: usize, first: usize, secon
 }
 
 /// Whether the line follows by its rule from lines below the limit.
-fn follows(job: &Job, lines: &[Line], limit: usize, line: &Line) -> bool
+fn follows(job: &Job, lines: &[Conclusion], limit: usize, line: &Line) -> bool
     ensures { IsTrue result
-        ↔ Follows (plan job.now) (map line_of lines.now) limit line.now.p line.now.r (rule_of line.now.rule) }
+        ↔ Follows (plan job.now) (map bare lines.now) limit line.now.p line.now.r (rule_of line.now.rule) }
 {
     let p = line.p as usize;
     let r = line.r as usize;
@@ -124,20 +140,23 @@ fn follows(job: &Job, lines: &[Line], limit: usize, line: &Line) -> bool
     }
 }
 
-/// Whether line k holds: it follows by its rule from lines of lower number.
-pub fn line_holds(job: &Job, lines: &[Line], k: usize) -> bool
-    requires { k < length lines.now }
-    ensures { IsTrue result ↔ LineFollows (plan job.now) (map line_of lines.now) k }
+/// Whether line k, which is this, holds: it follows by its rule from lines of lower number, by what they conclude.
+pub fn line_holds(job: &Job, lines: &[Conclusion], k: usize, line: &Line) -> bool
+    ensures { (all : List model.Line) → map conclusion_of all ≡ lines.now → slice_get all k ≡ Some (line_of line.now)
+        → IsTrue result ↔ LineFollows (plan job.now) all k }
 {
-    follows(job, lines, k, &lines[k])
+    follows(job, lines, k, line)
 }
 
-/// The least line that doesn't hold.
-pub fn first_bad_line(job: &Job, lines: &[Line]) -> Option<usize>
-    ensures { BadLineIs (plan job.now) (map line_of lines.now) result }
+/// The least of these lines that doesn't hold, by its number. They are numbered from this number on, and all lines
+/// conclude this.
+pub fn first_bad_line(job: &Job, lines: &[Conclusion], from: usize, found: &[Line]) -> Option<usize>
+    ensures { (all : List model.Line) → map conclusion_of all ≡ lines.now → StandAt all from (map line_of found.now)
+        → BadLineOf (plan job.now) all (record { from = from; count = length found.now }) result }
 {
-    for k in 0..lines.len() {
-        if !line_holds(job, lines, k) {
+    for k in from..lines.len() {
+        let line = found.get(k - from)?;
+        if !line_holds(job, lines, k, line) {
             return Some(k);
         }
     }

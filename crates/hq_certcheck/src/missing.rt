@@ -8,11 +8,11 @@ ghost use Rattle.hq_model.specs.Certificate as model;
 ghost use Rattle.hq_certcheck.specs.Covering.{MissingIs, has_kind, AreListed, IsPossible};
 ghost use Rattle.hq_certcheck.specs.Covering.{AreFlagged, IsFlagged, RowFlagged};
 ghost use Rattle.hq_certcheck.specs.Covering.{FirstUnflaggedAfter, FirstUnflagged};
-ghost use Rattle.hq_certcheck.specs.Seen.{HasSeen};
+ghost use Rattle.hq_certcheck.specs.Seen.{IsSeen};
 
 use crate::flags::{PACKET_WORDS, flags_of};
 use crate::possible::Possible;
-use crate::seen::SeenPairs;
+use crate::seen::Seen;
 use hq_bits::{WIDTH, WORDS, first_from};
 use hq_footprint::Kinds;
 use hq_job::Job;
@@ -132,12 +132,11 @@ fn missing_by(job: &Job, possible: &Possible, flags: &[u64]) -> Option<(u16, u16
 pub fn first_missing(
     alloc: Global,
     job: &Job,
-    seen: &SeenPairs,
+    seen: &Seen,
 ) -> Result<Option<(u16, u16)>, AllocError>
     requires count { seen.now.count ≡ length job.now.packets }
     ensures { IfOk result
-        (λ found. (c : model.Certificate) → HasSeen (plan job.now) c.lines c.pairs seen.now
-        → MissingIs (plan job.now) c found) }
+        (λ found. (c : model.Certificate) → IsSeen (plan job.now) c seen.now → MissingIs (plan job.now) c found) }
 {
     job.valid();
     let possible = Possible::of(alloc, job)?;

@@ -1,17 +1,19 @@
-//! Pair lines of a certificate, one by one.
+//! Pair lines of a certificate, one by one, by what its lines conclude.
 
 ghost use Rattle.std.specs.Prelude.{◌<◌, ◌↔◌, IsTrue, Some, None, map, length};
-ghost use Rattle.hq_cert.specs.View.{line_of, pair_of, fences_of, cited};
+ghost use Rattle.hq_cert.specs.View.{pair_of, fences_of, cited};
 ghost use Rattle.hq_job.specs.Plan.{plan};
 ghost use Rattle.hq_model.specs.Job.{packet, IsPacket};
 ghost use Rattle.hq_model.specs.Fence.{FenceReaches, Forwards};
 ghost use Rattle.hq_model.specs.Certificate.{ReleaseHolds, AcquireHolds, FencesHold};
 ghost use Rattle.hq_model.specs.Certificate.Fences.{ForWriteWrite, ForWriteRead, ForWriteWriteChained};
 ghost use Rattle.hq_model.specs.Certificate.Fences.{ForWriteReadChained};
+ghost use Rattle.hq_certcheck.specs.Concluded.{bare};
 ghost use Rattle.hq_certcheck.specs.Listed.{PairFollows, PairFollowsAt, BadPairIs, NeedsSystem};
 
 use crate::citing::{cites, says};
-use hq_cert::{Citation, Fences, Line, Pair, ReadChain, WriteChain};
+use crate::conclusion::Conclusion;
+use hq_cert::{Citation, Fences, Pair, ReadChain, WriteChain};
 use hq_job::Job;
 use hq_packet::Scope;
 
@@ -63,7 +65,7 @@ fn needs_system(job: &Job, p: usize, r: usize) -> bool
 /// Whether p's release begins with x, and goes on to x2 by this line.
 fn release_goes_on(
     job: &Job,
-    lines: &[Line],
+    lines: &[Conclusion],
     p: usize,
     r: usize,
     x: usize,
@@ -72,7 +74,7 @@ fn release_goes_on(
 ) -> bool
     requires p_is { IsPacket (plan job.now) p }
     requires r_is { IsPacket (plan job.now) r }
-    ensures { IsTrue result ↔ ReleaseHolds (plan job.now) (map line_of lines.now) p r x x2 (Some link) }
+    ensures { IsTrue result ↔ ReleaseHolds (plan job.now) (map bare lines.now) p r x x2 (Some link) }
 {
     needs_system(job, p, r)
         && releases(job, p, x, Scope::Agent)
@@ -83,7 +85,7 @@ fn release_goes_on(
 /// Whether p's release begins with x and ends with x2.
 fn release_holds(
     job: &Job,
-    lines: &[Line],
+    lines: &[Conclusion],
     p: usize,
     r: usize,
     x: usize,
@@ -92,7 +94,7 @@ fn release_holds(
 ) -> bool
     requires p_is { IsPacket (plan job.now) p }
     requires r_is { IsPacket (plan job.now) r }
-    ensures { IsTrue result ↔ ReleaseHolds (plan job.now) (map line_of lines.now) p r x x2 (cited link) }
+    ensures { IsTrue result ↔ ReleaseHolds (plan job.now) (map bare lines.now) p r x x2 (cited link) }
 {
     match link.number() {
         Some(link) => release_goes_on(job, lines, p, r, x, x2, link as usize),
@@ -103,7 +105,7 @@ fn release_holds(
 /// Whether r's acquire begins with y2, and goes on to y by this line.
 fn acquire_goes_on(
     job: &Job,
-    lines: &[Line],
+    lines: &[Conclusion],
     p: usize,
     r: usize,
     y2: usize,
@@ -112,7 +114,7 @@ fn acquire_goes_on(
 ) -> bool
     requires p_is { IsPacket (plan job.now) p }
     requires r_is { IsPacket (plan job.now) r }
-    ensures { IsTrue result ↔ AcquireHolds (plan job.now) (map line_of lines.now) p r y2 y (Some link) }
+    ensures { IsTrue result ↔ AcquireHolds (plan job.now) (map bare lines.now) p r y2 y (Some link) }
 {
     needs_system(job, p, r)
         && fetches(job, r, y2)
@@ -123,7 +125,7 @@ fn acquire_goes_on(
 /// Whether r's acquire begins with y2 and ends with y.
 fn acquire_holds(
     job: &Job,
-    lines: &[Line],
+    lines: &[Conclusion],
     p: usize,
     r: usize,
     y2: usize,
@@ -132,7 +134,7 @@ fn acquire_holds(
 ) -> bool
     requires p_is { IsPacket (plan job.now) p }
     requires r_is { IsPacket (plan job.now) r }
-    ensures { IsTrue result ↔ AcquireHolds (plan job.now) (map line_of lines.now) p r y2 y (cited link) }
+    ensures { IsTrue result ↔ AcquireHolds (plan job.now) (map bare lines.now) p r y2 y (cited link) }
 {
     match link.number() {
         Some(link) => acquire_goes_on(job, lines, p, r, y2, y, link as usize),
@@ -143,7 +145,7 @@ fn acquire_holds(
 /// Whether x releases p, and comes before r.
 fn write_write(
     job: &Job,
-    lines: &[Line],
+    lines: &[Conclusion],
     p: usize,
     r: usize,
     x: usize,
@@ -152,7 +154,7 @@ fn write_write(
 ) -> bool
     requires p_is { IsPacket (plan job.now) p }
     requires r_is { IsPacket (plan job.now) r }
-    ensures { IsTrue result ↔ FencesHold (plan job.now) (map line_of lines.now) p r (ForWriteWrite x (cited from) on) }
+    ensures { IsTrue result ↔ FencesHold (plan job.now) (map bare lines.now) p r (ForWriteWrite x (cited from) on) }
 {
     releases(job, p, x, job.need(p, r))
         && cites(lines, lines.len(), from, p, x)
@@ -162,7 +164,7 @@ fn write_write(
 /// Whether x releases p, y acquires for r, and x comes before y.
 fn write_read(
     job: &Job,
-    lines: &[Line],
+    lines: &[Conclusion],
     p: usize,
     r: usize,
     x: usize,
@@ -174,7 +176,7 @@ fn write_read(
     requires p_is { IsPacket (plan job.now) p }
     requires r_is { IsPacket (plan job.now) r }
     ensures { IsTrue result
-        ↔ FencesHold (plan job.now) (map line_of lines.now) p r (ForWriteRead x y (cited from) between (cited to)) }
+        ↔ FencesHold (plan job.now) (map bare lines.now) p r (ForWriteRead x y (cited from) between (cited to)) }
 {
     let needed = job.need(p, r);
     releases(job, p, x, needed)
@@ -185,11 +187,17 @@ fn write_read(
 }
 
 /// Whether x and then x2 release p, and x2 comes before r.
-fn write_write_chained(job: &Job, lines: &[Line], p: usize, r: usize, chain: &WriteChain) -> bool
+fn write_write_chained(
+    job: &Job,
+    lines: &[Conclusion],
+    p: usize,
+    r: usize,
+    chain: &WriteChain,
+) -> bool
     requires p_is { IsPacket (plan job.now) p }
     requires r_is { IsPacket (plan job.now) r }
     ensures { let c = chain.now in IsTrue result
-        ↔ FencesHold (plan job.now) (map line_of lines.now) p r
+        ↔ FencesHold (plan job.now) (map bare lines.now) p r
         (ForWriteWriteChained c.x c.x2 (cited c.from) c.link c.on) }
 {
     let x = chain.x as usize;
@@ -200,11 +208,17 @@ fn write_write_chained(job: &Job, lines: &[Line], p: usize, r: usize, chain: &Wr
 }
 
 /// Whether x and then x2 release p, y2 and then y acquire for r, and x2 comes before y2.
-fn write_read_chained(job: &Job, lines: &[Line], p: usize, r: usize, chain: &ReadChain) -> bool
+fn write_read_chained(
+    job: &Job,
+    lines: &[Conclusion],
+    p: usize,
+    r: usize,
+    chain: &ReadChain,
+) -> bool
     requires p_is { IsPacket (plan job.now) p }
     requires r_is { IsPacket (plan job.now) r }
     ensures { let c = chain.now in IsTrue result
-        ↔ FencesHold (plan job.now) (map line_of lines.now) p r
+        ↔ FencesHold (plan job.now) (map bare lines.now) p r
         (ForWriteReadChained c.x c.x2 c.y2 c.y (cited c.from) (cited c.link) c.between (cited c.link2) (cited c.to)) }
 {
     let x = chain.x as usize;
@@ -220,10 +234,10 @@ fn write_read_chained(job: &Job, lines: &[Line], p: usize, r: usize, chain: &Rea
 }
 
 /// Whether the fences order a conflict of p with r.
-fn fences_hold(job: &Job, lines: &[Line], p: usize, r: usize, fences: &Fences) -> bool
+fn fences_hold(job: &Job, lines: &[Conclusion], p: usize, r: usize, fences: &Fences) -> bool
     requires p_is { IsPacket (plan job.now) p }
     requires r_is { IsPacket (plan job.now) r }
-    ensures { IsTrue result ↔ FencesHold (plan job.now) (map line_of lines.now) p r (fences_of fences.now) }
+    ensures { IsTrue result ↔ FencesHold (plan job.now) (map bare lines.now) p r (fences_of fences.now) }
 {
     match fences {
         Fences::ReadWrite(line) => says(lines, lines.len(), *line as usize, p, r),
@@ -253,8 +267,8 @@ fn fences_hold(job: &Job, lines: &[Line], p: usize, r: usize, fences: &Fences) -
 }
 
 /// Whether the pair line holds: what it cites concludes what its kind asks.
-fn pair_holds(job: &Job, lines: &[Line], pair: &Pair) -> bool
-    ensures { IsTrue result ↔ PairFollows (plan job.now) (map line_of lines.now) (pair_of pair.now) }
+fn pair_holds(job: &Job, lines: &[Conclusion], pair: &Pair) -> bool
+    ensures { IsTrue result ↔ PairFollows (plan job.now) (map bare lines.now) (pair_of pair.now) }
 {
     let p = pair.p as usize;
     let r = pair.r as usize;
@@ -262,16 +276,16 @@ fn pair_holds(job: &Job, lines: &[Line], pair: &Pair) -> bool
 }
 
 /// Whether pair line k holds.
-pub fn pair_line_holds(job: &Job, lines: &[Line], pairs: &[Pair], k: usize) -> bool
+pub fn pair_line_holds(job: &Job, lines: &[Conclusion], pairs: &[Pair], k: usize) -> bool
     requires { k < length pairs.now }
-    ensures { IsTrue result ↔ PairFollowsAt (plan job.now) (map line_of lines.now) (map pair_of pairs.now) k }
+    ensures { IsTrue result ↔ PairFollowsAt (plan job.now) (map bare lines.now) (map pair_of pairs.now) k }
 {
     pair_holds(job, lines, &pairs[k])
 }
 
 /// The packets of the first pair line that doesn't hold.
-pub fn first_bad_pair(job: &Job, lines: &[Line], pairs: &[Pair]) -> Option<(u32, u32)>
-    ensures { BadPairIs (plan job.now) (map line_of lines.now) (map pair_of pairs.now) result }
+pub fn first_bad_pair(job: &Job, lines: &[Conclusion], pairs: &[Pair]) -> Option<(u32, u32)>
+    ensures { BadPairIs (plan job.now) (map bare lines.now) (map pair_of pairs.now) result }
 {
     for pair in pairs {
         if !pair_holds(job, lines, pair) {

@@ -1,54 +1,83 @@
 //! Checks whole certificates in many threads.
 
-ghost use Rattle.std.specs.Prelude.{◌≡◌, ◌<◌, List, IsTrue, false, map, length};
+ghost use Rattle.std.specs.Prelude.{◌≡◌, ◌<◌, IfOk, IsTrue, false, map, length};
 ghost use Rattle.hq_cert.specs.View.{line_of};
 ghost use Rattle.hq_job.specs.Plan.{plan};
 ghost use Rattle.hq_model.specs.Certificate as model;
+ghost use Rattle.hq_certcheck.specs.Concluded.{conclusion_of};
 ghost use Rattle.hq_certcheck.specs.Listed.{LineFollows, BadLineIs};
-ghost use Rattle.hq_certcheck.specs.Seen.{HasSeen, IsChecked, with_pairs};
+ghost use Rattle.hq_certcheck.specs.Seen.{IsChecked, IsSeen};
 
 use crate::accepted::Accepted;
-use crate::checking::conclude;
+use crate::checking::answer;
+use crate::conclusion::Conclusion;
 use crate::fault::CheckNo;
 use crate::lines::line_holds;
-use crate::seen::SeenPairs;
+use crate::seen::Seen;
 use crate::wide_missing::first_missing;
 use crate::wide_pairs::first_bad_pair;
 use hq_cert::{Certificate, Line};
 use hq_job::Job;
 use rayon::prelude::*;
-use std::alloc::Global;
+use std::alloc::{AllocError, Global};
 use std::thread::Threads;
 
 /// How many lines are worth a thread of their own.
 const LEAST_LINES: usize = 8192;
 
-/// Whether line k doesn't hold.
-fn is_bad(job: &Job, lines: &[Line], k: usize) -> bool
-    requires { k < length lines.now }
-    ensures { (result ≡ false → LineFollows (plan job.now) (map line_of lines.now) k)
-        × (IsTrue result → ¬ LineFollows (plan job.now) (map line_of lines.now) k) }
+/// Whether line k of these, which are all, doesn't hold.
+fn is_bad(job: &Job, lines: &[Conclusion], found: &[Line], k: usize) -> bool
+    requires low { k < length found.now }
+    requires all { map conclusion_of (map line_of found.now) ≡ lines.now }
+    ensures { (result ≡ false → LineFollows (plan job.now) (map line_of found.now) k)
+        × (IsTrue result → ¬ LineFollows (plan job.now) (map line_of found.now) k) }
 {
-    !line_holds(job, lines, k)
+    !line_holds(job, lines, k, &found[k])
 }
 
-/// The least line that doesn't hold.
-fn first_bad_line(rt: &(impl Threads + Sync), job: &Job, lines: &[Line]) -> Option<usize>
-    ensures { BadLineIs (plan job.now) (map line_of lines.now) result }
+/// The least line of these, which are all, that doesn't hold.
+fn first_bad_line(
+    rt: &(impl Threads + Sync),
+    job: &Job,
+    lines: &[Conclusion],
+    found: &[Line],
+) -> Option<usize>
+    requires { map conclusion_of (map line_of found.now) ≡ lines.now }
+    ensures { BadLineIs (plan job.now) (map line_of found.now) result }
 {
-    let places = (0..lines.len()).into_par_iter().with_min_len(LEAST_LINES);
+    let places = (0..found.len()).into_par_iter().with_min_len(LEAST_LINES);
     places.position_first(
         rt,
         |k: usize| -> bool
-            requires { k < length lines.now }
-            ensures { (result ≡ false → LineFollows (plan job.entry.now) (map line_of lines.entry.now) k)
-                × (IsTrue result → ¬ LineFollows (plan job.entry.now) (map line_of lines.entry.now) k) }
-        { is_bad(job, lines, k) },
+            requires { (k < length found.now) × (map conclusion_of (map line_of found.now) ≡ lines.now) }
+            ensures { (result ≡ false → LineFollows (plan job.entry.now) (map line_of found.entry.now) k)
+                × (IsTrue result → ¬ LineFollows (plan job.entry.now) (map line_of found.entry.now) k) }
+        { is_bad(job, lines, found, k) },
     )
 }
 
-/// What `check` answers of the certificate, whose pair lines were seen one block behind another and needn't be there;
-/// its lines are checked, and pair lines that are missing sought, by as many threads as there are processors.
+/// All lines and pair lines of a certificate, checked by many threads.
+fn seen_wide(
+    rt: &(impl Threads + Sync),
+    alloc: Global,
+    job: &Job,
+    certificate: &Certificate,
+) -> Result<Seen, AllocError>
+    ensures { IfOk result (IsSeen (plan job.now) certificate.now) }
+{
+    let mut seen = Seen::new(alloc, job)?;
+    let lines = certificate.lines();
+    seen.conclude(lines)?;
+    let bad_line = first_bad_line(rt, job, seen.lines(), lines);
+    seen.note(bad_line);
+    let pairs = certificate.pairs();
+    let bad_pair = first_bad_pair(rt, job, seen.lines(), pairs);
+    seen.put(pairs, bad_pair);
+    Ok(seen)
+}
+
+/// What `check` answers of a certificate of this order, whose lines and pair lines were seen one block behind another
+/// and needn't be there; pair lines that are missing are sought by as many threads as there are processors.
 ///
 /// # Errors
 ///
@@ -57,16 +86,14 @@ pub fn check_seen_wide(
     rt: &(impl Threads + Sync),
     alloc: Global,
     job: Job,
-    certificate: &Certificate,
-    seen: &SeenPairs,
+    order: &[u32],
+    seen: &Seen,
 ) -> Result<Accepted, (CheckNo, Job)>
-    requires seen { (pairs : List model.Pair) × HasSeen (plan job) certificate.now.lines pairs seen.now }
-    ensures { (pairs : List model.Pair) → HasSeen (plan job) certificate.now.lines pairs seen.now
-        → IsChecked job (with_pairs certificate.now pairs) result }
+    requires seen { (c : model.Certificate) × (c.order ≡ order.now) × IsSeen (plan job) c seen.now }
+    ensures { (c : model.Certificate) → c.order ≡ order.now → IsSeen (plan job) c seen.now → IsChecked job c result }
 {
-    let bad_line = first_bad_line(rt, &job, certificate.lines());
     let missing = first_missing(rt, alloc, &job, seen);
-    conclude(alloc, job, certificate, seen, bad_line, missing)
+    answer(alloc, job, order, seen, missing)
 }
 
 /// What `check` answers, with the lines and the pair lines checked, and those that are missing sought, by as many
@@ -84,9 +111,8 @@ pub fn check_wide(
 ) -> Result<Accepted, (CheckNo, Job)>
     ensures { IsChecked job certificate.now result }
 {
-    let bad_pair = first_bad_pair(rt, &job, certificate.lines(), certificate.pairs());
-    match SeenPairs::of(alloc, &job, certificate, bad_pair) {
-        Ok(seen) => check_seen_wide(rt, alloc, job, certificate, &seen),
+    match seen_wide(rt, alloc, &job, certificate) {
+        Ok(seen) => check_seen_wide(rt, alloc, job, certificate.order(), &seen),
         Err(_) => Err((CheckNo::Memory, job)),
     }
 }

@@ -4,13 +4,13 @@ ghost use Rattle.std.specs.Prelude.{◌≡◌, ℕ, ◌*◌, ◌<◌, IsTrue, If
 ghost use Rattle.hq_job.specs.Plan.{plan};
 ghost use Rattle.hq_certcheck.specs.Covering.{MissingIs, AreListed, IsPossible, RowFlagged, FirstUnflaggedRow};
 ghost use Rattle.hq_certcheck.specs.Covering.{FirstUnflagged};
-ghost use Rattle.hq_certcheck.specs.Seen.{HasSeen};
+ghost use Rattle.hq_certcheck.specs.Seen.{IsSeen};
 ghost use Rattle.hq_model.specs.Certificate as model;
 
 use crate::flags::PACKET_WORDS;
 use crate::missing::first_unflagged_after;
 use crate::possible::Possible;
-use crate::seen::SeenPairs;
+use crate::seen::Seen;
 use hq_job::Job;
 use rayon::prelude::*;
 use std::alloc::{AllocError, Global};
@@ -100,12 +100,11 @@ pub fn first_missing(
     rt: &(impl Threads + Sync),
     alloc: Global,
     job: &Job,
-    seen: &SeenPairs,
+    seen: &Seen,
 ) -> Result<Option<(u16, u16)>, AllocError>
     requires count { seen.now.count ≡ length job.now.packets }
     ensures { IfOk result
-        (λ found. (c : model.Certificate) → HasSeen (plan job.now) c.lines c.pairs seen.now
-        → MissingIs (plan job.now) c found) }
+        (λ found. (c : model.Certificate) → IsSeen (plan job.now) c seen.now → MissingIs (plan job.now) c found) }
 {
     job.valid();
     let possible = Possible::of(alloc, job)?;

@@ -1,12 +1,14 @@
 //! Pair lines of a certificate, in many threads.
 
 ghost use Rattle.std.specs.Prelude.{◌≡◌, ℕ, ◌<◌, IsTrue, MatchOption, false, map, length};
-ghost use Rattle.hq_cert.specs.View.{line_of, pair_of};
+ghost use Rattle.hq_cert.specs.View.{pair_of};
 ghost use Rattle.hq_job.specs.Plan.{plan};
+ghost use Rattle.hq_certcheck.specs.Concluded.{bare};
 ghost use Rattle.hq_certcheck.specs.Listed.{PairFollowsAt, FirstBadPlace, BadPairIs};
 
+use crate::conclusion::Conclusion;
 use crate::pairs::pair_line_holds;
-use hq_cert::{Line, Pair};
+use hq_cert::Pair;
 use hq_job::Job;
 use rayon::prelude::*;
 use std::thread::Threads;
@@ -15,10 +17,10 @@ use std::thread::Threads;
 const LEAST_PAIRS: usize = 8192;
 
 /// Whether pair line k doesn't hold.
-fn is_bad(job: &Job, lines: &[Line], pairs: &[Pair], k: usize) -> bool
+fn is_bad(job: &Job, lines: &[Conclusion], pairs: &[Pair], k: usize) -> bool
     requires { k < length pairs.now }
-    ensures { (result ≡ false → PairFollowsAt (plan job.now) (map line_of lines.now) (map pair_of pairs.now) k)
-        × (IsTrue result → ¬ PairFollowsAt (plan job.now) (map line_of lines.now) (map pair_of pairs.now) k) }
+    ensures { (result ≡ false → PairFollowsAt (plan job.now) (map bare lines.now) (map pair_of pairs.now) k)
+        × (IsTrue result → ¬ PairFollowsAt (plan job.now) (map bare lines.now) (map pair_of pairs.now) k) }
 {
     !pair_line_holds(job, lines, pairs, k)
 }
@@ -27,12 +29,12 @@ fn is_bad(job: &Job, lines: &[Line], pairs: &[Pair], k: usize) -> bool
 fn first_bad_place(
     rt: &(impl Threads + Sync),
     job: &Job,
-    lines: &[Line],
+    lines: &[Conclusion],
     pairs: &[Pair],
 ) -> Option<usize>
     ensures { MatchOption result
-        ((k : ℕ) → PairFollowsAt (plan job.now) (map line_of lines.now) (map pair_of pairs.now) k)
-        (FirstBadPlace (plan job.now) (map line_of lines.now) (map pair_of pairs.now)) }
+        ((k : ℕ) → PairFollowsAt (plan job.now) (map bare lines.now) (map pair_of pairs.now) k)
+        (FirstBadPlace (plan job.now) (map bare lines.now) (map pair_of pairs.now)) }
 {
     let places = (0..pairs.len()).into_par_iter().with_min_len(LEAST_PAIRS);
     places.position_first(
@@ -40,9 +42,9 @@ fn first_bad_place(
         |k: usize| -> bool
             requires { k < length pairs.now }
             ensures { (result ≡ false
-                → PairFollowsAt (plan job.entry.now) (map line_of lines.entry.now) (map pair_of pairs.entry.now) k)
+                → PairFollowsAt (plan job.entry.now) (map bare lines.entry.now) (map pair_of pairs.entry.now) k)
                 × (IsTrue result
-                → ¬ PairFollowsAt (plan job.entry.now) (map line_of lines.entry.now) (map pair_of pairs.entry.now) k) }
+                → ¬ PairFollowsAt (plan job.entry.now) (map bare lines.entry.now) (map pair_of pairs.entry.now) k) }
         { is_bad(job, lines, pairs, k) },
     )
 }
@@ -51,10 +53,10 @@ fn first_bad_place(
 pub fn first_bad_pair(
     rt: &(impl Threads + Sync),
     job: &Job,
-    lines: &[Line],
+    lines: &[Conclusion],
     pairs: &[Pair],
 ) -> Option<(u32, u32)>
-    ensures { BadPairIs (plan job.now) (map line_of lines.now) (map pair_of pairs.now) result }
+    ensures { BadPairIs (plan job.now) (map bare lines.now) (map pair_of pairs.now) result }
 {
     match first_bad_place(rt, job, lines, pairs) {
         Some(k) => {

@@ -11,6 +11,7 @@ use Rattle.hq_certread.specs.declared.draft.Stage.{Stage}
 use Rattle.hq_certread.specs.declared.draft.Stage.TheVariants as stage
 use Rattle.hq_certread.specs.Ahead.{BeginsWith, LeadingLines, LeadingPairs, with_more}
 use Rattle.hq_certtext.specs.Grammar.{line_words, pair_words, LineFits, PairFits}
+use Rattle.hq_certread.specs.DraftView.{behind}
 use Rattle.hq_certread.specs.OnePass.{LineAhead, PairAhead, TakenFrom}
 use Rattle.hq_certread.specs.TextFaults.{State, with_line, with_pair, added, add_content, add_line, add_behind, add_pair}
 use Rattle.hq_certread.proofs.LinesRead.{line_is}
@@ -119,12 +120,12 @@ taken_from lines pairs next before text rest count s t so at number is = record 
   short = so.short;
 }
 
-pub lines_taken : (before : ℕ) (text rest : List ℕ) (count : ℕ) (s : State) (new : List model.Line) → LeadingLines before text rest count s.lines new → s.stage ≡ stage.Lines → before ≡ length s.lines
-    → TakenFrom text rest count s (record { stage = s.stage; chained = s.chained; order = s.order; lines = new; pairs = s.pairs })
-lines_taken before text rest count s new so at number =
-    taken_from so.more [] stage.Lines before text rest count s _ so.begins at (sym number)
-    (ap (λ (ls : List model.Line). record { stage = s.stage; chained = s.chained; order = s.order; lines = ls; pairs = s.pairs }) so.behind
-    ∙ ap (λ (ps : List model.Pair). record { stage = s.stage; chained = s.chained; order = s.order; lines = s.lines ++ so.more; pairs = ps }) (sym (append-nil s.pairs)))
+pub lines_taken : (before : ℕ) (text rest : List ℕ) (count : ℕ) (front : List model.Line) (s : State) (new : List model.Line) → LeadingLines before text rest count s.lines new → s.stage ≡ stage.Lines → before ≡ length (front ++ s.lines)
+    → TakenFrom text rest count (behind front [] s) (record { stage = s.stage; chained = s.chained; order = s.order; lines = front ++ new; pairs = s.pairs })
+lines_taken before text rest count front s new so at number =
+    taken_from so.more [] stage.Lines before text rest count (behind front [] s) _ so.begins at (sym number)
+    (ap (λ (ls : List model.Line). record { stage = s.stage; chained = s.chained; order = s.order; lines = ls; pairs = s.pairs }) (ap (λ (ls : List model.Line). front ++ ls) so.behind ∙ sym (append_assoc front s.lines so.more))
+    ∙ ap (λ (ps : List model.Pair). record { stage = s.stage; chained = s.chained; order = s.order; lines = (front ++ s.lines) ++ so.more; pairs = ps }) (sym (append-nil s.pairs)))
 
 pub pairs_taken : (before : ℕ) (text rest : List ℕ) (count : ℕ) (s : State) (new : List model.Pair) → LeadingPairs before text rest count s.pairs new → s.stage ≡ stage.Pairs → before ≡ length s.lines
     → TakenFrom text rest count s (record { stage = s.stage; chained = s.chained; order = s.order; lines = s.lines; pairs = new })

@@ -1,5 +1,5 @@
 -- A certificate's lines as far as they came.
-use Rattle.std.specs.Prelude.{◌≡◌, ℕ, ◌≤◌, ◌⊎◌, List, [], ◌++◌, length, drop, Result, Ok, Err}
+use Rattle.std.specs.Prelude.{◌≡◌, ℕ, ◌+◌, ◌≤◌, ◌⊎◌, List, [], ◌++◌, length, drop, Result, Ok, Err}
 use Rattle.hq_text.specs.LineByLine.{AdmitsAll}
 use Rattle.hq_text.specs.Lines.{lines_of}
 use Rattle.hq_model.specs.Certificate as model
@@ -8,30 +8,28 @@ use Rattle.hq_certread.specs.declared.draft.Stage.{Stage}
 use Rattle.hq_certread.specs.declared.draft.Stage.TheVariants as stage
 use Rattle.hq_certread.specs.declared.progress.Progress.{Progress}
 use Rattle.hq_certread.specs.declared.ahead.Ahead.{Ahead}
-use Rattle.hq_certread.specs.Ahead.{IsAhead}
-use Rattle.hq_certread.specs.DraftView.{state_of}
+use Rattle.hq_certread.specs.Ahead.{lines_ahead, pairs_ahead}
+use Rattle.hq_certread.specs.DraftView.{behind, kept_of}
 use Rattle.hq_certread.specs.Gives.{ReadOf, no_memory}
-use Rattle.hq_certread.specs.TextFaults.{State, start, added, FirstFault}
+use Rattle.hq_certread.specs.TextFaults.{start, added, FirstFault}
 
--- the lines that were read
+-- the lines of the certificate that were read and weren't let go
 abbrev pub lines_in : Progress → List model.Line
-lines_in p = (state_of p.draft).lines
+lines_in p = (kept_of p.draft).lines
 
 -- the pair lines that were read and weren't let go
 abbrev pub pairs_in : Progress → List model.Pair
-pairs_in p = (state_of p.draft).pairs
+pairs_in p = (kept_of p.draft).pairs
 
--- what lines leave, where these of their pair lines were let go: those, and then the ones that are left
-abbrev pub behind : List model.Pair → State → State
-behind gone s = record
-    { stage = s.stage; chained = s.chained; order = s.order; lines = s.lines; pairs = gone ++ s.pairs }
-
--- these lines were taken in, and the first of their pair lines, which are these, were let go
-pub record HasTaken (lines : List (List ℕ)) (gone : List model.Pair) (p : Progress) : Type 0 where
+-- These lines were taken in. The first of the certificate's lines that they say, these, and the first of its pair
+-- lines, these, were let go.
+pub record HasTaken (lines : List (List ℕ)) (front : List model.Line) (gone : List model.Pair) (p : Progress)
+    : Type 0 where
   pub counted : p.count ≡ length lines
-  pub admitted : AdmitsAll added start lines (behind gone (state_of p.draft))
+  pub numbered : p.draft.gone ≡ length front
+  pub admitted : AdmitsAll added start lines (behind front gone (kept_of p.draft))
 
--- the lines are the same as before, unless no pair line had been read: none was let go, and none was left
+-- the lines that are left are the same as before, unless no pair line had been read: none was let go, and none was left
 abbrev pub LinesStand : List model.Pair → Progress → Progress → Type 0
 LinesStand gone old new = ((gone ++ pairs_in old) ≡ []) ⊎ (lines_in new ≡ lines_in old)
 
@@ -47,41 +45,37 @@ IsPast stage.Ended = Unit {0}
 abbrev pub IsClosed : Progress → Type 0
 IsClosed p = IsPast p.draft.stage
 
--- where no more lines could come, that is still so, and the lines are the same
+-- where no more lines could come, that is still so, and the lines that are left are the same
 abbrev pub StaysClosed : Progress → Progress → Type 0
 StaysClosed old new = IsClosed old → IsClosed new × (lines_in new ≡ lines_in old)
 
 -- What was read ahead can be taken in next: what it was read as, lines or pair lines, is what may come, and as many
--- lines stand before it as it was read behind.
+-- lines stand before it, let go or left, as it was read behind.
 pub record CanPass (p : Progress) (a : Ahead) : Type 0 where
   pub next : p.draft.stage ≡ a.next
-  pub before : length (lines_in p) ≡ a.before
+  pub before : p.draft.gone + length (lines_in p) ≡ a.before
 
--- What was read ahead could be taken in next, and was not: the same lines were taken in as before, the same is held of
--- what they left, and the same was read ahead. So it can be taken in still.
-pub record NotPassed (old new : Progress) (was is : Ahead) : Type 0 where
-  pub can : CanPass new is
-  pub taken : (lines : List (List ℕ)) (gone : List model.Pair) → HasTaken lines gone old → HasTaken lines gone new
-  pub lines : lines_in new ≡ lines_in old
-  pub pairs : pairs_in new ≡ pairs_in old
-  pub ahead : (text : List ℕ) → IsAhead text was → IsAhead text is
-
--- What was read ahead of the text, these pair lines of it, was taken in behind these lines, whose pair lines were let
--- go, and the rest of the text begins at this byte.
-pub record HasPassed (text : List ℕ) (pairs : List model.Pair) (lines : List (List ℕ)) (gone : List model.Pair)
-    (at : ℕ) (old new : Progress) : Type 0 where
+-- What was read ahead of the text was taken in behind these lines, of which these lines of the certificate and these
+-- pair lines were let go; so were those that were read ahead. The rest of the text begins at this byte. Lines are read
+-- ahead only where no pair line came.
+pub record HasPassed (text : List ℕ) (a : Ahead) (lines : List (List ℕ)) (front : List model.Line)
+    (gone : List model.Pair) (at : ℕ) (old new : Progress) : Type 0 where
   pub within : at ≤ length text
-  pub front : List (List ℕ)
-  pub whole : lines_of text ≡ front ++ lines_of (drop at text)
-  pub taken : HasTaken (lines ++ front) (gone ++ pairs) new
-  pub none : pairs_in new ≡ []
-  pub stand : LinesStand gone old new
-  pub closed : StaysClosed old new
+  pub more : List (List ℕ)
+  pub whole : lines_of text ≡ more ++ lines_of (drop at text)
+  pub before : length front ≡ a.before
+  pub taken : HasTaken (lines ++ more) (front ++ lines_ahead a) (gone ++ pairs_ahead a) new
+  pub no_lines : lines_in new ≡ []
+  pub no_pairs : pairs_in new ≡ []
+  pub stand : (gone ≡ []) ⊎ (lines_ahead a ≡ [])
+  pub closed : IsClosed old → IsClosed new × (lines_ahead a ≡ [])
 
--- what reading answers, where these pair lines were let go, is the certificate with them, or the first fault
-abbrev pub ReadBehind : List model.Pair → Result model.Certificate CertFault → List (List ℕ) → Type 0
-ReadBehind gone (Ok c) lines = ReadOf (Ok (record { order = c.order; lines = c.lines; pairs = gone ++ c.pairs })) lines
-ReadBehind gone (Err f) lines = ReadOf (Err f) lines
+-- what reading answers, where these lines and these pair lines were let go, is the certificate with them, or the first
+-- fault
+abbrev pub ReadBehind : List model.Line → List model.Pair → Result model.Certificate CertFault → List (List ℕ) → Type 0
+ReadBehind front gone (Ok c) lines =
+    ReadOf (Ok (record { order = c.order; lines = front ++ c.lines; pairs = gone ++ c.pairs })) lines
+ReadBehind front gone (Err f) lines = ReadOf (Err f) lines
 
 -- a text of these lines has this first fault, unless memory ran out
 abbrev pub HasFault : List (List ℕ) → CertFault → Type 0

@@ -1,8 +1,8 @@
 //! What a text begins with, read before the texts in front of it are taken in.
 
 ghost use Rattle.std.specs.Prelude.{◌≡◌, ℕ, List, [], map};
-ghost use Rattle.hq_cert.specs.View.{pair_of};
-ghost use Rattle.hq_certread.specs.Ahead.{IsAhead, pairs_ahead};
+ghost use Rattle.hq_cert.specs.View.{line_of, pair_of};
+ghost use Rattle.hq_certread.specs.Ahead.{IsAhead, lines_ahead, pairs_ahead};
 
 use crate::draft::Stage;
 use crate::leading::{leading_lines, leading_pairs};
@@ -26,7 +26,8 @@ pub struct Ahead {
 impl Ahead {
     /// Nothing, of any text.
     pub fn new(alloc: Global) -> Ahead
-        ensures { (text : List ℕ) → IsAhead text result }
+        ensures any { (text : List ℕ) → IsAhead text result }
+        ensures lines { result.lines.items ≡ [] }
     {
         Ahead {
             next: Stage::Head,
@@ -38,6 +39,20 @@ impl Ahead {
         }
     }
 
+    /// How many lines were to come before what was read.
+    pub fn before(&self) -> u32
+        ensures { result ≡ self.now.before }
+    {
+        self.before
+    }
+
+    /// The lines of the certificate that were read.
+    pub fn lines(&self) -> &[Line]
+        ensures { map line_of result.now ≡ lines_ahead self.now }
+    {
+        &self.lines
+    }
+
     /// The pair lines that were read.
     pub fn pairs(&self) -> &[Pair]
         ensures { map pair_of result.now ≡ pairs_ahead self.now }
@@ -46,7 +61,7 @@ impl Ahead {
     }
 
     /// Lets go what was read.
-    pub(crate) fn clear(&mut self)
+    pub fn clear(&mut self)
         ensures lines { self.new.lines.items ≡ [] }
         ensures pairs { self.new.pairs.items ≡ [] }
         ensures any { (text : List ℕ) → IsAhead text self.new }

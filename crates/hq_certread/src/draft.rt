@@ -1,13 +1,12 @@
 //! A certificate as far as it is read.
 
-ghost use Rattle.std.specs.Prelude.{◌≡◌, ◌↔◌, ◌&&◌, ◌<◌, true, false, [], map, length};
-ghost use Rattle.std.specs.Prelude.{IfOk, IfErr, IfSome, IsTrue, OnOk, OnErr};
-ghost use Rattle.hq_certread.specs.Ahead.{with_more};
+ghost use Rattle.std.specs.Prelude.{◌≡◌, ◌↔◌, ◌&&◌, ◌+◌, ◌<◌, true, false, map, length};
+ghost use Rattle.std.specs.Prelude.{IfOk, IfErr, IfSome, IsTrue};
 ghost use Rattle.hq_certread.specs.LineTests.{head_said, order_said};
 ghost use Rattle.hq_certread.specs.TextFaults.{start, add_head, add_order, add_line, add_pair, add_end, add_behind};
 ghost use Rattle.hq_certread.specs.TextFaults.{add_content, added, is_ended, read_of};
 ghost use Rattle.hq_cert.specs.View.{line_of, pair_of};
-ghost use Rattle.hq_certread.specs.DraftView.{state_of, without_pairs};
+ghost use Rattle.hq_certread.specs.DraftView.{kept_of, state_of, without_lines};
 ghost use Rattle.hq_certread.specs.Gives.{Gives};
 ghost use Rattle.hq_certread.specs.OnePass.{TakenFrom};
 ghost use Rattle.hq_certread.specs.declared.draft.Stage.{Stage};
@@ -20,7 +19,7 @@ use crate::rules::line_said;
 use crate::threes::Threes;
 use hq_cert::{Certificate, Line, Pair};
 use hq_model::PACKETS;
-use std::alloc::{AllocError, Global};
+use std::alloc::Global;
 
 /// What may come next.
 #[derive(Clone, Copy, Debug, PartialEq, Eq)]
@@ -32,12 +31,13 @@ pub enum Stage {
     Ended,
 }
 
-/// A certificate as far as it is read.
+/// A certificate as far as it is read: what is left of its lines, behind those that were let go, and of its pair lines.
 #[derive(Drop)]
 pub struct Draft {
     stage: Stage,
     chained: bool,
     order: Vec<u32>,
+    gone: usize,
     lines: Vec<Line>,
     pairs: Vec<Pair>,
 }
@@ -71,12 +71,14 @@ fn order_said(alloc: Global, words: &[&[u8]]) -> Result<Vec<u32>, CertReason>
 impl Draft {
     /// The draft before the first line.
     pub fn new(alloc: Global) -> Draft
-        ensures { state_of result ≡ start }
+        ensures start { state_of result ≡ start }
+        ensures gone { result.gone ≡ 0 }
     {
         Draft {
             stage: Stage::Head,
             chained: false,
             order: Vec::new(alloc),
+            gone: 0,
             lines: Vec::new(alloc),
             pairs: Vec::new(alloc),
         }
@@ -89,11 +91,11 @@ impl Draft {
         self.stage
     }
 
-    /// How many lines there are.
-    fn count(&self) -> usize
-        ensures { result ≡ length (state_of self.now).lines }
+    /// How many lines were read, where that can be said.
+    fn count(&self) -> Option<usize>
+        ensures { IfSome result (λ n. n ≡ length (state_of self.now).lines) }
     {
-        self.lines.len()
+        self.gone.checked_add(self.lines.len())
     }
 
     /// The same as the number of a line, where 32 bits can say it: behind 2^32 lines no more can come, but pair
@@ -101,7 +103,7 @@ impl Draft {
     pub fn number(&self) -> Option<u32>
         ensures { IfSome result (λ n. n ≡ length (state_of self.now).lines) }
     {
-        let count = self.count();
+        let count = self.count()?;
         if count <= 4_294_967_295 {
             Some(count as u32)
         } else {
@@ -111,7 +113,9 @@ impl Draft {
 
     #[tactic(auto, unfolding(crate::specs::TextFaults::add_head))]
     fn add_head(&mut self, words: &[&[u8]]) -> Result<(), CertReason>
-        ensures { Gives (λ u. state_of self.new) result (add_head (state_of self.old) (map (λ w. w.now) words.now)) }
+        ensures adds { Gives (λ u. state_of self.new) result
+            (add_head (state_of self.old) (map (λ w. w.now) words.now)) }
+        ensures gone { self.new.gone ≡ self.old.gone }
     {
         self.chained = head_said(words)?;
         self.stage = Stage::Order;
@@ -120,7 +124,9 @@ impl Draft {
 
     #[tactic(auto, unfolding(crate::specs::TextFaults::add_order))]
     fn add_order(&mut self, alloc: Global, words: &[&[u8]]) -> Result<(), CertReason>
-        ensures { Gives (λ u. state_of self.new) result (add_order (state_of self.old) (map (λ w. w.now) words.now)) }
+        ensures adds { Gives (λ u. state_of self.new) result
+            (add_order (state_of self.old) (map (λ w. w.now) words.now)) }
+        ensures gone { self.new.gone ≡ self.old.gone }
     {
         self.order = order_said(alloc, words)?;
         self.stage = Stage::Lines;
@@ -129,7 +135,9 @@ impl Draft {
 
     #[tactic(auto, unfolding(crate::specs::TextFaults::add_line))]
     fn add_line(&mut self, alloc: Global, words: &[&[u8]]) -> Result<(), CertReason>
-        ensures { Gives (λ u. state_of self.new) result (add_line (state_of self.old) (map (λ w. w.now) words.now)) }
+        ensures adds { Gives (λ u. state_of self.new) result
+            (add_line (state_of self.old) (map (λ w. w.now) words.now)) }
+        ensures gone { self.new.gone ≡ self.old.gone }
     {
         let Some(number) = self.number() else {
             return Err(CertReason::Memory);
@@ -142,9 +150,14 @@ impl Draft {
 
     #[tactic(auto, unfolding(crate::specs::TextFaults::add_pair))]
     fn add_pair(&mut self, alloc: Global, words: &[&[u8]]) -> Result<(), CertReason>
-        ensures { Gives (λ u. state_of self.new) result (add_pair (state_of self.old) (map (λ w. w.now) words.now)) }
+        ensures adds { Gives (λ u. state_of self.new) result
+            (add_pair (state_of self.old) (map (λ w. w.now) words.now)) }
+        ensures gone { self.new.gone ≡ self.old.gone }
     {
-        let pair = pair_said(alloc, self.chained, self.count(), words)?;
+        let Some(count) = self.count() else {
+            return Err(CertReason::Memory);
+        };
+        let pair = pair_said(alloc, self.chained, count, words)?;
         self.pairs.push(pair)?;
         self.stage = Stage::Pairs;
         Ok(())
@@ -152,7 +165,9 @@ impl Draft {
 
     #[tactic(auto, unfolding(crate::specs::TextFaults::add_end))]
     fn add_end(&mut self, words: &[&[u8]]) -> Result<(), CertReason>
-        ensures { Gives (λ u. state_of self.new) result (add_end (state_of self.old) (map (λ w. w.now) words.now)) }
+        ensures adds { Gives (λ u. state_of self.new) result
+            (add_end (state_of self.old) (map (λ w. w.now) words.now)) }
+        ensures gone { self.new.gone ≡ self.old.gone }
     {
         match words {
             [] => {
@@ -171,8 +186,9 @@ impl Draft {
         first: &[u8],
         others: &[&[u8]],
     ) -> Result<(), CertReason>
-        ensures { Gives (λ u. state_of self.new) result
+        ensures adds { Gives (λ u. state_of self.new) result
             (add_behind (state_of self.old) first.now (map (λ w. w.now) others.now)) }
+        ensures gone { self.new.gone ≡ self.old.gone }
     {
         if first == b"pair".as_slice() {
             self.add_pair(alloc, others)
@@ -186,8 +202,9 @@ impl Draft {
     /// What stands behind the order, in a place where lines may stand still, or no more.
     #[tactic(auto, unfolding(crate::specs::TextFaults::add_content))]
     fn add_content(&mut self, alloc: Global, lines: bool, words: &[&[u8]]) -> Result<(), CertReason>
-        ensures { Gives (λ u. state_of self.new) result
+        ensures adds { Gives (λ u. state_of self.new) result
             (add_content lines (state_of self.old) (map (λ w. w.now) words.now)) }
+        ensures gone { self.new.gone ≡ self.old.gone }
     {
         let Some((first, others)) = words.split_first() else {
             return Err(CertReason::Word);
@@ -202,7 +219,8 @@ impl Draft {
     /// Takes in the next line, by its words.
     #[tactic(auto, unfolding(crate::specs::TextFaults::added))]
     pub fn add(&mut self, alloc: Global, words: &[&[u8]]) -> Result<(), CertReason>
-        ensures { Gives (λ u. state_of self.new) result (added (state_of self.old) (map (λ w. w.now) words.now)) }
+        ensures adds { Gives (λ u. state_of self.new) result (added (state_of self.old) (map (λ w. w.now) words.now)) }
+        ensures gone { self.new.gone ≡ self.old.gone }
     {
         match self.stage {
             Stage::Head => self.add_head(words),
@@ -222,6 +240,7 @@ impl Draft {
     ) -> Result<(usize, &'a [u8]), CertReason>
         requires { self.old.stage ≡ Stage.Lines }
         ensures taken { IfOk result (λ t. TakenFrom text.now t.1.now t.0 (state_of self.old) (state_of self.new)) }
+        ensures gone { self.new.gone ≡ self.old.gone }
         ensures memory { IfErr result (λ e. e ≡ CertReason.Memory) }
     {
         let Some(before) = self.number() else {
@@ -239,6 +258,7 @@ impl Draft {
     ) -> Result<(usize, &'a [u8]), CertReason>
         requires { self.old.stage ≡ Stage.Pairs }
         ensures taken { IfOk result (λ t. TakenFrom text.now t.1.now t.0 (state_of self.old) (state_of self.new)) }
+        ensures gone { self.new.gone ≡ self.old.gone }
         ensures memory { IfErr result (λ e. e ≡ CertReason.Memory) }
     {
         let Some(before) = self.number() else {
@@ -257,6 +277,7 @@ impl Draft {
         text: &'a [u8],
     ) -> Result<(usize, &'a [u8]), CertReason>
         ensures taken { IfOk result (λ t. TakenFrom text.now t.1.now t.0 (state_of self.old) (state_of self.new)) }
+        ensures gone { self.new.gone ≡ self.old.gone }
         ensures memory { IfErr result (λ e. e ≡ CertReason.Memory) }
     {
         match self.stage {
@@ -266,42 +287,59 @@ impl Draft {
         }
     }
 
-    /// The lines that were read.
+    /// The lines that were read and weren't let go.
     pub fn lines(&self) -> &[Line]
-        ensures { map line_of result.now ≡ (state_of self.now).lines }
+        ensures { map line_of result.now ≡ (kept_of self.now).lines }
     {
         &self.lines
     }
 
     /// The pair lines that were read and weren't let go.
     pub fn pairs(&self) -> &[Pair]
-        ensures { map pair_of result.now ≡ (state_of self.now).pairs }
+        ensures { map pair_of result.now ≡ (kept_of self.now).pairs }
     {
         &self.pairs
     }
 
     /// Whether this may come next, behind so many lines.
     pub fn awaits(&self, next: Stage, before: u32) -> bool
-        ensures { IsTrue result ↔ ((self.now.stage ≡ next) × (length (state_of self.now).lines ≡ before)) }
+        ensures { IsTrue result
+            ↔ ((self.now.stage ≡ next) × (self.now.gone + length (kept_of self.now).lines ≡ before)) }
     {
-        self.stage == next && self.lines.len() == before as usize
+        let before = before as usize;
+        self.stage == next && self.gone <= before && self.lines.len() == before - self.gone
     }
 
-    /// Puts more lines behind those that were read. Where there is no memory, all stays as it was.
-    pub fn add_lines(&mut self, lines: &mut Vec<Line>) -> Result<(), AllocError>
-        ensures added { OnOk result
-            (state_of self.new ≡ with_more (state_of self.old) (map line_of lines.old.items) []) }
-        ensures full { OnErr result
-            ((state_of self.new ≡ state_of self.old) × (lines.new.items ≡ lines.old.items)) }
+    /// Counts more lines among those that were let go, if their number can be said; else all stays as it was.
+    pub fn pass(&mut self, lines: usize) -> bool
+        ensures passed { IsTrue result
+            → (self.new.gone ≡ self.old.gone + lines) × (self.new.stage ≡ self.old.stage)
+            × (kept_of self.new ≡ kept_of self.old) }
+        ensures full { result ≡ false → self.new ≡ self.old }
     {
-        self.lines.append(lines)
+        match self.gone.checked_add(lines) {
+            Some(gone) => {
+                self.gone = gone;
+                true
+            }
+            None => false,
+        }
     }
 
-    /// Lets the pair lines go that were read.
-    pub fn let_pairs_go(&mut self)
-        ensures { state_of self.new ≡ without_pairs (state_of self.old) }
+    /// Lets the lines and the pair lines go that were read, if the lines' number can be said; else all stays as it was.
+    pub fn let_go(&mut self) -> bool
+        ensures gone { IsTrue result
+            → (self.new.gone ≡ self.old.gone + length (kept_of self.old).lines)
+            × (kept_of self.new ≡ without_lines (kept_of self.old)) }
+        ensures full { result ≡ false → self.new ≡ self.old }
     {
+        let lines = self.lines.len();
+        if !self.pass(lines) {
+            return false;
+        }
+        self.lines.clear();
         self.pairs.clear();
+        true
     }
 
     /// Whether the end was read.
@@ -311,9 +349,9 @@ impl Draft {
         matches!(self.stage, Stage::Ended)
     }
 
-    /// What was read.
+    /// What was read and wasn't let go.
     pub fn certificate(self) -> Certificate
-        ensures { result ≡ read_of (state_of self) }
+        ensures { result ≡ read_of (kept_of self) }
     {
         Certificate::new(self.order, self.lines, self.pairs)
     }

@@ -1,8 +1,9 @@
 //! Certificates from their texts.
 //!
 //! `parse` takes a text and `read` what a reader gives: each answers the certificate that the text spells, or the
-//! first faulty line and what is wrong with it. `Progress` takes a text in piece by piece, and its pair lines can be
-//! let go meanwhile. Whether the certificate holds is for a checker to say.
+//! first faulty line and what is wrong with it. `Progress` takes a text in piece by piece, and what its lines said,
+//! lines of the certificate and pair lines, can be let go meanwhile. Whether the certificate holds is for a checker
+//! to say.
 #![tactic(auto)]
 
 mod ahead;

@@ -8,7 +8,7 @@ ghost use Rattle.hq_text.specs.Lines.{lines_of};
 ghost use Rattle.hq_certread.specs.Ahead.{IsAhead, pairs_ahead};
 ghost use Rattle.hq_certread.specs.Gives.{ReadOf, no_memory};
 ghost use Rattle.hq_certread.specs.SoFar.{HasFault, HasTaken, LinesStand, ReadBehind, lines_in, pairs_in};
-ghost use Rattle.hq_certread.specs.SoFar.{CanPass, HasPassed, IsClosed, NotPassed, StaysClosed};
+ghost use Rattle.hq_certread.specs.SoFar.{CanPass, HasPassed, IsClosed, StaysClosed};
 
 use crate::ahead::Ahead;
 use crate::draft::{Draft, Stage};
@@ -19,8 +19,8 @@ use hq_cert::{Certificate, Line, Pair};
 use hq_text::TakesLines;
 use std::alloc::Global;
 
-/// What the lines of a certificate left so far, how many they are, and what their numbers are read by. Its pair lines
-/// can be let go while it is read.
+/// What the lines of a certificate left so far, how many they are, and what their numbers are read by. What they say,
+/// lines of the certificate and pair lines, can be let go while it is read.
 #[derive(Drop)]
 pub struct Progress {
     draft: Draft,
@@ -31,7 +31,7 @@ pub struct Progress {
 impl Progress {
     /// Before the first line.
     pub fn new(alloc: Global) -> Progress
-        ensures { HasTaken [] [] result }
+        ensures { HasTaken [] [] [] result }
     {
         Progress {
             draft: Draft::new(alloc),
@@ -41,7 +41,7 @@ impl Progress {
     }
 
     /// Takes in all lines of a text, behind those that were taken in. Behind a pair line, let go or not, no more lines
-    /// come.
+    /// of the certificate come.
     ///
     /// # Errors
     ///
@@ -49,21 +49,21 @@ impl Progress {
     /// then, which aren't counted: it is to be dropped.
     pub fn take(&mut self, alloc: Global, text: &[u8]) -> Result<(), CertFault>
         ensures taken { OnOk result
-            ((lines : List (List ℕ)) (gone : List model.Pair) → HasTaken lines gone self.old
-            → HasTaken (lines ++ lines_of text.now) gone self.new) }
+            ((lines : List (List ℕ)) (front : List model.Line) (gone : List model.Pair)
+            → HasTaken lines front gone self.old → HasTaken (lines ++ lines_of text.now) front gone self.new) }
         ensures lines { OnOk result
-            ((lines : List (List ℕ)) (gone : List model.Pair) → HasTaken lines gone self.old
-            → LinesStand gone self.old self.new) }
+            ((lines : List (List ℕ)) (front : List model.Line) (gone : List model.Pair)
+            → HasTaken lines front gone self.old → LinesStand gone self.old self.new) }
         ensures closed { OnOk result (StaysClosed self.old self.new) }
         ensures fault { IfErr result
-            (λ f. (lines more : List (List ℕ)) (gone : List model.Pair) → HasTaken lines gone self.old
-            → HasFault (lines ++ (lines_of text.now ++ more)) f) }
+            (λ f. (lines more : List (List ℕ)) (front : List model.Line) (gone : List model.Pair)
+            → HasTaken lines front gone self.old → HasFault (lines ++ (lines_of text.now ++ more)) f) }
     {
         self.count = take_lines(&mut self.draft, alloc, &self.threes, self.count, text)?;
         Ok(())
     }
 
-    /// The lines that were read.
+    /// The lines of the certificate that were read and weren't let go.
     pub fn lines(&self) -> &[Line]
         ensures { map line_of result.now ≡ lines_in self.now }
     {
@@ -77,18 +77,28 @@ impl Progress {
         self.draft.pairs()
     }
 
-    /// Lets the pair lines go that were read.
-    pub fn let_pairs_go(&mut self)
-        ensures gone { (lines : List (List ℕ)) (gone : List model.Pair) → HasTaken lines gone self.old
-            → HasTaken lines (gone ++ pairs_in self.old) self.new }
-        ensures lines { lines_in self.new ≡ lines_in self.old }
-        ensures none { pairs_in self.new ≡ [] }
-        ensures closed { StaysClosed self.old self.new }
+    /// Lets the lines of the certificate and the pair lines go that were read.
+    ///
+    /// # Errors
+    ///
+    /// `CertFault` that there is no memory, at line 0, where the lines can't be counted.
+    pub fn let_go(&mut self) -> Result<(), CertFault>
+        ensures gone { OnOk result
+            ((lines : List (List ℕ)) (front : List model.Line) (gone : List model.Pair)
+            → HasTaken lines front gone self.old
+            → HasTaken lines (front ++ lines_in self.old) (gone ++ pairs_in self.old) self.new) }
+        ensures none { OnOk result ((lines_in self.new ≡ []) × (pairs_in self.new ≡ [])) }
+        ensures closed { OnOk result (IsClosed self.old → IsClosed self.new) }
+        ensures memory { IfErr result (λ f. f ≡ no_memory) }
     {
-        self.draft.let_pairs_go();
+        if self.draft.let_go() {
+            Ok(())
+        } else {
+            Err(NO_MEMORY)
+        }
     }
 
-    /// Whether no more lines can come: a pair line came, or the end.
+    /// Whether no more lines of the certificate can come: a pair line came, or the end.
     pub fn is_closed(&self) -> bool
         ensures { (IsTrue result → IsClosed self.now) × (IsClosed self.now → IsTrue result) }
     {
@@ -109,25 +119,24 @@ impl Progress {
         }
     }
 
-    /// Takes in what was read ahead of a text, and lets its pair lines go; those that were read before are to be let
-    /// go first. Answers at which byte of the text the rest of it begins; or that what was read can't come next, and
-    /// then nothing is taken in.
+    /// Takes in what was read ahead of a text as let go; what was read before is to be let go first. Answers at which
+    /// byte of the text the rest of it begins; or that what was read can't come next, and then nothing is taken in.
     ///
     /// # Errors
     ///
-    /// `CertFault` where there is no memory, at line 0. Then nothing is taken in either, and it can be tried again.
-    pub fn pass(&mut self, ahead: &mut Ahead) -> Result<Option<usize>, CertFault>
+    /// `CertFault` that there is no memory, at line 0, where the lines can't be counted. Then nothing is taken in
+    /// either.
+    pub fn pass(&mut self, ahead: &Ahead) -> Result<Option<usize>, CertFault>
         ensures passed { IfOk result (λ passed. MatchOption passed (self.new ≡ self.old)
-            (λ at. (text : List ℕ) (lines : List (List ℕ)) (gone : List model.Pair) → IsAhead text ahead.old
-            → HasTaken lines gone self.old → pairs_in self.old ≡ []
-            → HasPassed text (pairs_ahead ahead.old) lines gone at self.old self.new)) }
+            (λ at. (text : List ℕ) (lines : List (List ℕ)) (front : List model.Line) (gone : List model.Pair)
+            → IsAhead text ahead.now → HasTaken lines front gone self.old → lines_in self.old ≡ []
+            → pairs_in self.old ≡ [] → HasPassed text ahead.now lines front gone at self.old self.new)) }
         ensures can { IfOk result
-            (λ passed. MatchOption passed (¬ CanPass self.old ahead.old) (λ at. CanPass self.old ahead.old)) }
+            (λ passed. MatchOption passed (¬ CanPass self.old ahead.now) (λ at. CanPass self.old ahead.now)) }
         ensures within { IfOk result
-            (λ passed. IfSome passed (λ at. (text : List ℕ) → IsAhead text ahead.old → at ≤ length text)) }
-        ensures pairs { pairs_ahead ahead.new ≡ pairs_ahead ahead.old }
-        ensures memory { IfErr result (λ f. (f ≡ no_memory) × CanPass self.old ahead.old) }
-        ensures full { OnErr result (NotPassed self.old self.new ahead.old ahead.new) }
+            (λ passed. IfSome passed (λ at. (text : List ℕ) → IsAhead text ahead.now → at ≤ length text)) }
+        ensures memory { IfErr result (λ f. (f ≡ no_memory) × CanPass self.old ahead.now) }
+        ensures full { OnErr result (self.new ≡ self.old) }
     {
         if !self.draft.awaits(ahead.next, ahead.before) {
             return Ok(None);
@@ -135,24 +144,22 @@ impl Progress {
         let Some(count) = self.count.checked_add(ahead.count) else {
             return Err(NO_MEMORY);
         };
-        match self.draft.add_lines(&mut ahead.lines) {
-            Ok(()) => {
-                self.count = count;
-                Ok(Some(ahead.bytes))
-            }
-            Err(_) => Err(NO_MEMORY),
+        if !self.draft.pass(ahead.lines.len()) {
+            return Err(NO_MEMORY);
         }
+        self.count = count;
+        Ok(Some(ahead.bytes))
     }
 
-    /// The certificate of the lines, without the pair lines that were let go; or that they have no end.
+    /// The certificate of the lines, without what was let go; or that they have no end.
     ///
     /// # Errors
     ///
     /// `CertFault` with the line behind the last one.
     pub fn finish(self) -> Result<Certificate, CertFault>
-        ensures whole { (lines : List (List ℕ)) → HasTaken lines [] self → ReadOf result lines }
-        ensures read { (lines : List (List ℕ)) (gone : List model.Pair) → HasTaken lines gone self
-            → ReadBehind gone result lines }
+        ensures whole { (lines : List (List ℕ)) → HasTaken lines [] [] self → ReadOf result lines }
+        ensures read { (lines : List (List ℕ)) (front : List model.Line) (gone : List model.Pair)
+            → HasTaken lines front gone self → ReadBehind front gone result lines }
         ensures parts { IfOk result (λ c. (c.lines ≡ lines_in self) × (c.pairs ≡ pairs_in self)) }
     {
         finished(self.draft, self.count)
@@ -162,7 +169,7 @@ impl Progress {
 impl TakesLines for Progress {
     type Fault = CertFault;
 
-    ghost Took = { λ _ lines progress. HasTaken lines [] progress };
+    ghost Took = { λ _ lines progress. HasTaken lines [] [] progress };
 
     ghost Refuses = { HasFault };
 

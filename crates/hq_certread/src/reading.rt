@@ -4,9 +4,9 @@ ghost use Rattle.std.specs.Prelude.{◌≡◌, ℕ, ◌+◌, ◌<◌, ◌⊎◌,
 ghost use Rattle.hq_text.specs.LineByLine.{AdmitsAll};
 ghost use Rattle.hq_text.specs.Lines.{lines_of, words_of};
 ghost use Rattle.hq_model.specs.Certificate as model;
-ghost use Rattle.hq_certread.specs.DraftView.{state_of};
+ghost use Rattle.hq_certread.specs.DraftView.{behind, kept_of, state_of};
 ghost use Rattle.hq_certread.specs.Gives.{Gives, GivesCertificate, TakesAll, ReadOf, no_memory};
-ghost use Rattle.hq_certread.specs.SoFar.{ReadBehind, behind};
+ghost use Rattle.hq_certread.specs.SoFar.{ReadBehind};
 ghost use Rattle.hq_certtext.specs.Grammar.{CertText};
 ghost use Rattle.hq_certread.specs.TextFaults.{FirstFault, added, at_line, start};
 
@@ -49,7 +49,8 @@ fn take_words<'a>(
     words: &mut Vec<&'a [u8]>,
     line: &'a [u8],
 ) -> Result<(), CertReason>
-    ensures { Gives (λ u. state_of draft.new) result (added (state_of draft.old) (words_of line.now)) }
+    ensures adds { Gives (λ u. state_of draft.new) result (added (state_of draft.old) (words_of line.now)) }
+    ensures gone { draft.new.gone ≡ draft.old.gone }
 {
     split_words(words, line)?;
     draft.add(alloc, words)
@@ -76,7 +77,8 @@ fn take_split<'a>(
     before: usize,
     text: &'a [u8],
 ) -> Result<usize, CertFault>
-    ensures { TakesAll result before (lines_of text.now) (state_of draft.old) (state_of draft.new) }
+    ensures takes { TakesAll result before (lines_of text.now) (state_of draft.old) (state_of draft.new) }
+    ensures gone { draft.new.gone ≡ draft.old.gone }
 {
     let mut rest = text;
     let mut count = before;
@@ -107,20 +109,20 @@ pub fn take_lines(
     before: usize,
     text: &[u8],
 ) -> Result<usize, CertFault>
-    ensures { TakesAll result before (lines_of text.now) (state_of draft.old) (state_of draft.new) }
+    ensures takes { TakesAll result before (lines_of text.now) (state_of draft.old) (state_of draft.new) }
+    ensures gone { draft.new.gone ≡ draft.old.gone }
 {
     let mut words = Vec::new(alloc);
     take_split(draft, alloc, threes, &mut words, before, text)
 }
 
-/// The certificate of a text of so many lines, all of them taken in, without the pair lines that were let go; or
-/// that it has no end.
+/// The certificate of a text of so many lines, all of them taken in, without what was let go; or that it has no end.
 pub fn finished(draft: Draft, count: usize) -> Result<Certificate, CertFault>
-    ensures whole { (lines : List (List ℕ)) → count ≡ length lines → AdmitsAll added start lines (state_of draft)
-        → ReadOf result lines }
-    ensures read { (lines : List (List ℕ)) (gone : List model.Pair) → count ≡ length lines
-        → AdmitsAll added start lines (behind gone (state_of draft)) → ReadBehind gone result lines }
-    ensures parts { IfOk result (λ c. (c.lines ≡ (state_of draft).lines) × (c.pairs ≡ (state_of draft).pairs)) }
+    ensures whole { (lines : List (List ℕ)) → count ≡ length lines
+        → AdmitsAll added start lines (kept_of draft) → ReadOf result lines }
+    ensures read { (lines : List (List ℕ)) (front : List model.Line) (gone : List model.Pair) → count ≡ length lines
+        → AdmitsAll added start lines (behind front gone (kept_of draft)) → ReadBehind front gone result lines }
+    ensures parts { IfOk result (λ c. (c.lines ≡ (kept_of draft).lines) × (c.pairs ≡ (kept_of draft).pairs)) }
 {
     if draft.is_ended() {
         return Ok(draft.certificate());

@@ -1,5 +1,5 @@
 -- A certificate that is checked while it is read.
-use Rattle.std.proofs.Common.{◌≡◌, ℕ, List, ◌++◌, Option, Ok, sym, ap, subst, ◌∙◌, append-nil}
+use Rattle.std.proofs.Common.{◌≡◌, ℕ, List, [], ◌++◌, Option, Ok, refl, sym, ap, subst, ◌∙◌, append-nil}
 use Rattle.hq_text.specs.Intake.{OfText}
 use Rattle.hq_text.specs.Lines.{lines_of}
 use Rattle.hq_text.specs.Turns.{ReadTurn}
@@ -8,7 +8,7 @@ use Rattle.hq_job.specs.Value.{JobValue}
 use Rattle.hq_model.specs.Certificate as model
 use Rattle.hq_certtext.specs.Grammar.{CertText}
 use Rattle.hq_certread.specs.SoFar.{ReadBehind, lines_in, pairs_in}
-use Rattle.hq_certcheck.specs.Seen.{Seen, HasSeen, with_pairs}
+use Rattle.hq_certcheck.specs.Seen.{SeenValue, HasSeen, IsSeen}
 use Rattle.hq_judging.specs.Check.{CheckedReport, CertReport}
 use Rattle.hq_judging.specs.Checking.{HasChecked, WasRead, WasReadFor}
 use Rattle.hq_judging.specs.declared.checking.Checking.{Checking}
@@ -18,17 +18,20 @@ use Rattle.hq_status.specs.Reports.{OfReader, ReaderReport, Reported}
 use Rattle.hq_status.specs.declared.status.Status.{Status}
 use Rattle.hq_status.proofs.ReadTexts.{of_reader}
 
--- the certificate of the lines, with the pair lines that were let go
+-- the certificate of the lines, with what was let go
 pub known_of : (from c : Checking) (lines : List (List ℕ)) (k : ReadCertificate) (h : HasChecked from lines c) → k.job ≡ c.job → k.seen ≡ c.seen → (k.certificate.lines ≡ lines_in c.progress) × (k.certificate.pairs ≡ pairs_in c.progress)
-    → ReadBehind h.gone (Ok k.certificate) lines → WasReadFor from lines k
+    → ReadBehind h.front h.gone (Ok k.certificate) lines → WasReadFor from lines k
 known_of from c lines k h job seen parts read =
-    let none : h.gone ++ k.certificate.pairs ≡ h.gone = ap (λ ps. h.gone ++ ps) (parts.1 ∙ h.none) ∙ append-nil h.gone in record {
+    let all : h.front ++ k.certificate.lines ≡ h.front = ap (λ ls. h.front ++ ls) (parts.0 ∙ h.no_lines) ∙ append-nil h.front in
+    let gone : h.gone ++ k.certificate.pairs ≡ h.gone = ap (λ ps. h.gone ++ ps) (parts.1 ∙ h.no_pairs) ∙ append-nil h.gone in
+    record {
       same = job ∙ h.same;
       read = record {
-        pairs = h.gone;
-        text = subst (λ (ps : List model.Pair). CertText lines (with_pairs k.certificate ps)) none read;
-        seen = subst (λ (j : JobValue). HasSeen (plan j) k.certificate.lines h.gone k.seen) (sym job)
-            (subst (λ (s : Seen). HasSeen (plan c.job) k.certificate.lines h.gone s) (sym seen) (subst (λ (ls : List model.Line). HasSeen (plan c.job) ls h.gone c.seen) (sym parts.0) h.seen));
+        whole = record { order = k.certificate.order; lines = h.front; pairs = h.gone };
+        order = refl;
+        text = subst (λ (ps : List model.Pair). CertText lines (record { order = k.certificate.order; lines = h.front; pairs = ps })) gone
+            (subst (λ (ls : List model.Line). CertText lines (record { order = k.certificate.order; lines = ls; pairs = h.gone ++ k.certificate.pairs })) all read);
+        seen = subst (λ (j : JobValue). HasSeen (plan j) h.front h.gone [] k.seen) (sym job) (subst (λ (s : SeenValue). HasSeen (plan c.job) h.front h.gone [] s) (sym seen) h.seen);
       };
     }
 
@@ -39,9 +42,9 @@ read_for S left old new from k h = (h.so.same, of_reader S left old new (λ text
 -- what is written of a certificate that was read
 pub known_found : (S : Type 0) (left : S → Option (List ℕ)) (old new : S) (job : JobValue) (k : ReadCertificate) (was mid is : Option (List ℕ)) (answered : Status)
     → k.job ≡ job → OfReader S left old new (λ text. WasRead (lines_of text) k) → mid ≡ was
-    → ((pairs : List model.Pair) → HasSeen (plan k.job) k.certificate.lines pairs k.seen → Reported (CheckedReport k.job (with_pairs k.certificate pairs)) mid is answered)
+    → ((c : model.Certificate) → c.order ≡ k.certificate.order → IsSeen (plan k.job) c k.seen → Reported (CheckedReport k.job c) mid is answered)
     → Reported (ReaderReport S left old new (CertReport job)) was is answered
 known_found S left old new job k was mid is answered e h same said =
-    certificate_found S left old new job (with_pairs k.certificate h.so.pairs) was mid is answered
+    certificate_found S left old new job h.so.whole was mid is answered
     (record { text = h.text; ended = h.ended; known = h.known; so = h.so.text }) same
-    (subst (λ (j : JobValue). Reported (CheckedReport j (with_pairs k.certificate h.so.pairs)) mid is answered) e (said h.so.pairs h.so.seen))
+    (subst (λ (j : JobValue). Reported (CheckedReport j h.so.whole) mid is answered) e (said h.so.whole h.so.order h.so.seen))

@@ -1,10 +1,10 @@
 //! `hsaq check`: whether a certificate holds for a job.
 
-ghost use Rattle.std.specs.Prelude.{Some, List, length};
+ghost use Rattle.std.specs.Prelude.{◌≡◌, Some, length};
 ghost use Rattle.hq_job.specs.Plan.{plan};
 ghost use Rattle.hq_model.specs.Certificate as model;
 ghost use Rattle.hq_model.specs.Machine.{bound};
-ghost use Rattle.hq_certcheck.specs.Seen.{HasSeen, with_pairs};
+ghost use Rattle.hq_certcheck.specs.Seen.{IsSeen};
 ghost use Rattle.hq_judging.specs.Check.{SaysNoCertificate, Checked, CheckedReport, CertReport};
 ghost use Rattle.hq_judging.specs.Check.{NoSaid, accepted_text, cert_refusal, bad_line_text, pair_missing_text};
 ghost use Rattle.hq_judging.specs.Check.{bad_pair_text};
@@ -172,17 +172,17 @@ fn check_found<W: Write>(
     writer: &mut W,
     known: ReadCertificate,
 ) -> Status
-    requires seen { (pairs : List model.Pair) × HasSeen (plan known.job) known.certificate.lines pairs known.seen }
-    ensures { (pairs : List model.Pair) → HasSeen (plan known.job) known.certificate.lines pairs known.seen
-        → Reported (CheckedReport known.job (with_pairs known.certificate pairs)) (W.contents writer.old)
-        (W.contents writer.new) result }
+    requires seen { (c : model.Certificate) × (c.order ≡ known.certificate.order)
+        × IsSeen (plan known.job) c known.seen }
+    ensures { (c : model.Certificate) → c.order ≡ known.certificate.order → IsSeen (plan known.job) c known.seen
+        → Reported (CheckedReport known.job c) (W.contents writer.old) (W.contents writer.new) result }
 {
     let ReadCertificate {
         job,
         certificate,
         seen,
     } = known;
-    let checked = check_seen_wide(rt, alloc, job, &certificate, &seen);
+    let checked = check_seen_wide(rt, alloc, job, certificate.order(), &seen);
     say_checked(writer, checked)
 }
 
@@ -204,8 +204,8 @@ fn check_read<S: Read, W: Write>(
 }
 
 /// Reads a job and then a certificate, and writes whether the certificate holds for the job, as `check_wide`
-/// answers it. A fault of the job is written first. Nothing is written before the last growth of memory. Pair lines
-/// are checked as they come, and not kept.
+/// answers it. A fault of the job is written first. Nothing is written before the last growth of memory. Lines and pair
+/// lines are checked as they come, and not kept.
 pub fn check_engine<R: Read, S: Read, W: Write>(
     rt: &(impl Threads + Sync),
     alloc: Global,

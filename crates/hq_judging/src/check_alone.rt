@@ -1,9 +1,9 @@
 //! `hsaq check` without threads, for callers that may start none.
 
-ghost use Rattle.std.specs.Prelude.{List};
+ghost use Rattle.std.specs.Prelude.{◌≡◌};
 ghost use Rattle.hq_job.specs.Plan.{plan};
 ghost use Rattle.hq_model.specs.Certificate as model;
-ghost use Rattle.hq_certcheck.specs.Seen.{HasSeen, with_pairs};
+ghost use Rattle.hq_certcheck.specs.Seen.{IsSeen};
 ghost use Rattle.hq_judging.specs.Check.{CheckedReport, CertReport};
 ghost use Rattle.hq_status.specs.Reports.{JobTextReport, ReaderReport, Reported};
 
@@ -18,17 +18,16 @@ use std::io::{Read, Write};
 
 /// Checks a certificate that was read for a job, and writes the answer.
 fn check_found<W: Write>(alloc: Global, writer: &mut W, known: ReadCertificate) -> Status
-    requires { (pairs : List model.Pair) × HasSeen (plan known.job) known.certificate.lines pairs known.seen }
-    ensures { (pairs : List model.Pair) → HasSeen (plan known.job) known.certificate.lines pairs known.seen
-        → Reported (CheckedReport known.job (with_pairs known.certificate pairs)) (W.contents writer.old)
-        (W.contents writer.new) result }
+    requires { (c : model.Certificate) × (c.order ≡ known.certificate.order) × IsSeen (plan known.job) c known.seen }
+    ensures { (c : model.Certificate) → c.order ≡ known.certificate.order → IsSeen (plan known.job) c known.seen
+        → Reported (CheckedReport known.job c) (W.contents writer.old) (W.contents writer.new) result }
 {
     let ReadCertificate {
         job,
         certificate,
         seen,
     } = known;
-    let checked = check_seen(alloc, job, &certificate, &seen);
+    let checked = check_seen(alloc, job, certificate.order(), &seen);
     say_checked(writer, checked)
 }
 

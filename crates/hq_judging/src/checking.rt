@@ -4,15 +4,16 @@ ghost use Rattle.std.specs.Prelude.{◌≡◌, ℕ, ◌⊎◌, [], ◌++◌, Lis
 ghost use Rattle.hq_text.specs.Intake.{FaultOf, OfText};
 ghost use Rattle.hq_text.specs.Lines.{lines_of};
 ghost use Rattle.hq_text.specs.Turns.{Fails, Passes};
-ghost use Rattle.hq_certread.specs.SoFar.{HasFault, StaysClosed};
+ghost use Rattle.hq_certread.specs.SoFar.{HasFault};
 ghost use Rattle.hq_judging.specs.Check.{NoCertificate};
-ghost use Rattle.hq_judging.specs.Checking.{FinishedOf, HasChecked, WasRead, WasReadFor};
+ghost use Rattle.hq_judging.specs.Checking.{FinishedOf, HasChecked, HasCheckedBut, StaysSaid, WasRead, WasReadFor};
+ghost use Rattle.hq_judging.specs.declared.chunk.Chunk.{Chunk};
 ghost use Rattle.hq_status.specs.Reports.{OfReader, ReaderReport, Reported};
 
 use crate::check::say_faulty_text;
 use crate::readers::ReadsCertificates;
 use hq_cert::Certificate;
-use hq_certcheck::SeenPairs;
+use hq_certcheck::Seen;
 use hq_certread::{CertFault, Progress, ReadFault};
 use hq_job::Job;
 use hq_status::{Status, let_go, say_file, say_memory};
@@ -20,20 +21,21 @@ use hq_text::{Source, TURNS, TakesLines, read_lines};
 use std::alloc::Global;
 use std::io::{Read, Write};
 
-/// A job, and what the lines of its certificate left so far. Of pair lines no more is kept than a check asks for.
+/// A job, and what the lines of its certificate's text left so far. Of lines of the certificate and of pair lines no
+/// more is kept than a check asks for.
 #[derive(Drop)]
 pub struct Checking {
     pub job: Job,
     pub progress: Progress,
-    pub seen: SeenPairs,
+    pub seen: Seen,
 }
 
-/// A certificate that was read for a job, without its pair lines, and what is known of those.
+/// A certificate that was read for a job, without its lines and its pair lines, and what is known of those.
 #[derive(Drop)]
 pub struct ReadCertificate {
     pub job: Job,
     pub certificate: Certificate,
-    pub seen: SeenPairs,
+    pub seen: Seen,
 }
 
 impl Checking {
@@ -41,7 +43,7 @@ impl Checking {
     pub fn new(alloc: Global, job: Job) -> Result<Checking, Job>
         ensures { IfOk result (λ checking. HasChecked checking [] checking × (checking.job ≡ job)) }
     {
-        match SeenPairs::new(alloc, &job) {
+        match Seen::new(alloc, &job) {
             Ok(seen) => Ok(Checking {
                 job,
                 progress: Progress::new(alloc),
@@ -52,23 +54,35 @@ impl Checking {
     }
 
     /// Takes in all lines of a text, behind those that were taken in.
+    ///
+    /// # Errors
+    ///
+    /// `CertFault` with the first faulty line, or that there is no memory, at line 0. It is to be dropped then.
     pub fn take_text(&mut self, alloc: Global, text: &[u8]) -> Result<(), CertFault>
         ensures took { OnOk result
-            ((from : Checking) (lines : List (List ℕ)) → HasChecked from lines self.old
-            → HasChecked from (lines ++ lines_of text.now) self.new) }
-        ensures closed { OnOk result (StaysClosed self.old.progress self.new.progress) }
+            ((from : Checking) (chunks : List Chunk) (lines : List (List ℕ)) → HasCheckedBut from chunks lines self.old
+            → HasCheckedBut from chunks (lines ++ lines_of text.now) self.new × StaysSaid self.old self.new) }
         ensures fault { IfErr result
-            (λ f. (from : Checking) (lines more : List (List ℕ)) → HasChecked from lines self.old
-            → HasFault (lines ++ (lines_of text.now ++ more)) f) }
+            (λ f. (from : Checking) (chunks : List Chunk) (lines more : List (List ℕ))
+            → HasCheckedBut from chunks lines self.old → HasFault (lines ++ (lines_of text.now ++ more)) f) }
     {
         self.progress.take(alloc, text)?;
-        self.seen
-            .take_in(&self.job, self.progress.lines(), self.progress.pairs());
-        self.progress.let_pairs_go();
-        Ok(())
+        if self
+            .seen
+            .take_lines(&self.job, self.progress.lines())
+            .is_err()
+        {
+            return Err(Progress::no_memory());
+        }
+        self.seen.take_pairs(&self.job, self.progress.pairs());
+        self.progress.let_go()
     }
 
     /// The certificate of the lines, or that they have no end.
+    ///
+    /// # Errors
+    ///
+    /// `CertFault` with the line behind the last one.
     pub fn finish(self) -> Result<ReadCertificate, CertFault>
         ensures { (from : Checking) (lines : List (List ℕ)) → HasChecked from lines self
             → FinishedOf from result lines }
@@ -149,8 +163,8 @@ fn read_certificate<K: ReadsCertificates, R: Read, W: Write>(
     }
 }
 
-/// The certificate of a reader's text for a job, whose pair lines were checked as they came; or, where there is none,
-/// the status of the refusal, which is written.
+/// The certificate of a reader's text for a job, whose lines and pair lines were checked as they came; or, where there
+/// is none, the status of the refusal, which is written.
 pub fn take_certificate<K: ReadsCertificates, R: Read, W: Write>(
     by: &K,
     alloc: Global,

@@ -1,19 +1,21 @@
 //! Certificates that several threads read and check, chunk by chunk, while more of the text is read.
 
-ghost use Rattle.std.specs.Prelude.{◌≡◌, ℕ, ◌≤◌, ◌<◌, [], ◌++◌, List, length, take, IfOk, IfErr, OnOk};
+ghost use Rattle.std.specs.Prelude.{◌≡◌, ℕ, ◌≤◌, ◌<◌, [], ◌∷◌, ◌++◌, List, length, map, take, IfOk, IfErr, OnOk};
 ghost use Rattle.hq_job.specs.Plan.{plan};
 ghost use Rattle.hq_text.specs.Intake.{IsWhole, Stays};
 ghost use Rattle.hq_text.specs.Lines.{lines_of};
 ghost use Rattle.hq_text.specs.Turns.{ComesTo};
-ghost use Rattle.hq_certread.specs.SoFar.{HasFault, StaysClosed};
+ghost use Rattle.hq_certread.specs.SoFar.{HasFault};
 ghost use Rattle.hq_certread.specs.Ahead.{IsAhead};
-ghost use Rattle.hq_certread.specs.declared.progress.Progress.{Progress};
-ghost use Rattle.hq_judging.specs.Checking.{FinishedOf, HasChecked};
-ghost use Rattle.hq_judging.specs.Chunks.{AreLookedAt, IsLookedAt, HasWaiting};
+ghost use Rattle.hq_certcheck.specs.Concluded.{conclusion_of};
+ghost use Rattle.hq_certcheck.specs.Listed.{BadLineOf};
+ghost use Rattle.hq_model.specs.Certificate as model;
+ghost use Rattle.hq_judging.specs.Checking.{FinishedOf, HasChecked, HasCheckedBut, IsHeld, StaysSaid, block_of};
+ghost use Rattle.hq_judging.specs.Chunks.{AreLookedAt, IsLookedAt, HasWaiting, WereJudged};
 
 use crate::checking::{Checking, ReadCertificate};
 use crate::chunk::Chunk;
-use hq_certread::CertFault;
+use hq_certread::{CertFault, Progress};
 use hq_text::{Came, Source, TakesLines, read_on, whole_lines};
 use rayon::current_num_threads;
 use std::alloc::{AllocError, Global};
@@ -46,7 +48,8 @@ fn look_meanwhile<R: Threads, A, F: FnMut() -> A>(
     meanwhile: &mut F,
 ) -> A
     requires { F.pre meanwhile.old }
-    ensures looked { AreLookedAt (plan checking.now.job) checking.now.progress chunks.new text.now }
+    ensures judged { WereJudged (plan checking.now.job) checking.now chunks.old chunks.new }
+    ensures looked { AreLookedAt (plan checking.now.job) checking.now chunks.new text.now }
     ensures done { F.step meanwhile.old result meanwhile.new }
 {
     let count = chunks.len();
@@ -55,37 +58,49 @@ fn look_meanwhile<R: Threads, A, F: FnMut() -> A>(
     };
     let (first, rest) = text.split_at(first_of(text, count));
     let mut beside = ||
-        ensures { IsLookedAt (plan checking.entry.now.job) checking.entry.now.progress first.entry.now chunk.exit.now
-            × (chunk.exit.now.len ≡ length first.entry.now) }
+        ensures { IsLookedAt (plan checking.entry.now.job) checking.entry.now first.entry.now chunk.exit.now
+            × (chunk.exit.now.len ≡ length first.entry.now)
+            × ((lines : List model.Line) → map conclusion_of lines ≡ checking.entry.now.seen.lines
+            → IsHeld lines chunk.entry.now
+            → BadLineOf (plan checking.entry.now.job) lines (block_of chunk.entry.now) chunk.exit.now.bad_line) }
     { chunk.look(checking, first) };
     let mut here = || -> A
         requires { F.pre meanwhile.now }
-        ensures { AreLookedAt (plan checking.entry.now.job) checking.entry.now.progress others.exit.now rest.entry.now
-            × F.step meanwhile.entry.now result meanwhile.exit.now }
+        ensures { AreLookedAt (plan checking.entry.now.job) checking.entry.now others.exit.now rest.entry.now
+            × F.step meanwhile.entry.now result meanwhile.exit.now
+            × WereJudged (plan checking.entry.now.job) checking.entry.now others.entry.now others.exit.now }
     { look_meanwhile(rt, checking, rest, others, meanwhile) };
     join_mut(rt, &mut beside, &mut here).1
 }
 
 impl Checking {
-    /// Takes in a chunk: what was read of it ahead at once, and the rest of it line by line.
+    /// Takes in a chunk: what was read of it ahead at once, and the rest of it line by line. Lines that were read ahead
+    /// are left to be checked.
     fn take_chunk(&mut self, alloc: Global, text: &[u8], chunk: &mut Chunk) -> Result<(), CertFault>
         requires { IsAhead text.now chunk.old.ahead }
         ensures took { OnOk result
-            ((at : Progress) (from : Checking) (lines : List (List ℕ))
-            → IsLookedAt (plan from.job) at text.now chunk.old → StaysClosed at self.old.progress
-            → HasChecked from lines self.old
-            → HasChecked from (lines ++ lines_of text.now) self.new × StaysClosed at self.new.progress) }
+            ((at from : Checking) (chunks : List Chunk) (lines : List (List ℕ))
+            → IsLookedAt (plan from.job) at text.now chunk.old → StaysSaid at self.old
+            → HasCheckedBut from chunks lines self.old
+            → HasCheckedBut from (chunks ++ chunk.new ∷ []) (lines ++ lines_of text.now) self.new
+            × StaysSaid at self.new) }
         ensures fault { IfErr result
-            (λ f. (at : Progress) (from : Checking) (lines more : List (List ℕ))
-            → IsLookedAt (plan from.job) at text.now chunk.old → StaysClosed at self.old.progress
-            → HasChecked from lines self.old → HasFault (lines ++ (lines_of text.now ++ more)) f) }
+            (λ f. (at from : Checking) (chunks : List Chunk) (lines more : List (List ℕ))
+            → IsLookedAt (plan from.job) at text.now chunk.old → StaysSaid at self.old
+            → HasCheckedBut from chunks lines self.old → HasFault (lines ++ (lines_of text.now ++ more)) f) }
     {
-        match self.progress.pass(&mut chunk.ahead)? {
+        match self.progress.pass(&chunk.ahead)? {
             Some(at) => {
-                self.seen.put(chunk.ahead.pairs(), chunk.bad);
+                if self.seen.conclude(chunk.ahead.lines()).is_err() {
+                    return Err(Progress::no_memory());
+                }
+                self.seen.put(chunk.ahead.pairs(), chunk.bad_pair);
                 self.take_text(alloc, text.split_at(at).1)
             }
-            None => self.take_text(alloc, text),
+            None => {
+                chunk.ahead.clear();
+                self.take_text(alloc, text)
+            }
         }
     }
 
@@ -96,10 +111,10 @@ impl Checking {
         text: &[u8],
         chunks: &mut [Chunk],
     ) -> Result<(), CertFault>
-        requires { AreLookedAt (plan self.old.job) self.old.progress chunks.old text.now }
+        requires { AreLookedAt (plan self.old.job) self.old chunks.old text.now }
         ensures took { OnOk result
             ((from : Checking) (lines : List (List ℕ)) → HasChecked from lines self.old
-            → HasChecked from (lines ++ lines_of text.now) self.new) }
+            → HasCheckedBut from chunks.new (lines ++ lines_of text.now) self.new) }
         ensures fault { IfErr result
             (λ f. (from : Checking) (lines more : List (List ℕ)) → HasChecked from lines self.old
             → HasFault (lines ++ (lines_of text.now ++ more)) f) }
@@ -111,6 +126,20 @@ impl Checking {
             rest = behind;
         }
         self.take_text(alloc, rest)
+    }
+
+    /// Takes in which of the lines that chunks held don't hold, as the last look at them found.
+    fn note(&mut self, chunks: &[Chunk])
+        ensures noted { (from : Checking) (olds : List Chunk) (lines : List (List ℕ))
+            → HasCheckedBut from olds lines self.old → WereJudged (plan self.old.job) self.old olds chunks.now
+            → HasChecked from lines self.new }
+        ensures job { self.new.job ≡ self.old.job }
+        ensures progress { self.new.progress ≡ self.old.progress }
+        ensures lines { self.new.seen.lines ≡ self.old.seen.lines }
+    {
+        for chunk in chunks {
+            self.seen.note(chunk.bad_line);
+        }
     }
 
     /// Takes in a text, which threads look at first where it is long, and does something else while they do.
@@ -125,17 +154,28 @@ impl Checking {
         requires { F.pre meanwhile.old }
         ensures done { F.step meanwhile.old result.0 meanwhile.new }
         ensures took { OnOk result.1
-            ((from : Checking) (lines : List (List ℕ)) → HasChecked from lines self.old
-            → HasChecked from (lines ++ lines_of text.now) self.new) }
+            ((from : Checking) (lines : List (List ℕ)) → HasCheckedBut from chunks.old lines self.old
+            → HasCheckedBut from chunks.new (lines ++ lines_of text.now) self.new) }
         ensures fault { IfErr result.1
-            (λ f. (from : Checking) (lines more : List (List ℕ)) → HasChecked from lines self.old
+            (λ f. (from : Checking) (lines more : List (List ℕ)) → HasCheckedBut from chunks.old lines self.old
             → HasFault (lines ++ (lines_of text.now ++ more)) f) }
     {
         if text.len() < ENOUGH {
             return (meanwhile(), self.take_text(alloc, text));
         }
         let answer = look_meanwhile(rt, self, text, chunks, meanwhile);
+        self.note(chunks);
         (answer, self.take_chunks(alloc, text, chunks))
+    }
+
+    /// Checks the lines that chunks hold.
+    fn check_held<R: Threads>(&mut self, rt: &R, chunks: &mut [Chunk])
+        ensures { (from : Checking) (lines : List (List ℕ)) → HasCheckedBut from chunks.old lines self.old
+            → HasChecked from lines self.new }
+    {
+        let mut nothing = || {};
+        look_meanwhile(rt, self, &[], chunks, &mut nothing);
+        self.note(chunks);
     }
 }
 
@@ -169,6 +209,11 @@ impl Chunks {
     }
 
     /// Takes in the whole lines that wait, and reads on meanwhile, in so many turns.
+    ///
+    /// # Errors
+    ///
+    /// `CertFault` with the first faulty line of the text, or that there is no memory, at line 0. It is to be dropped
+    /// then.
     pub fn step<R: Threads, S: Source>(
         &mut self,
         rt: &R,
@@ -202,6 +247,10 @@ impl Chunks {
     }
 
     /// The certificate of the text, which has come to its end, or what is wrong with it.
+    ///
+    /// # Errors
+    ///
+    /// `CertFault` with the first faulty line of the text, or that there is no memory, at line 0.
     pub fn finish<R: Threads>(self, rt: &R, alloc: Global) -> Result<ReadCertificate, CertFault>
         ensures { (from : Checking) (text : List ℕ) → HasWaiting from text self
             → FinishedOf from result (lines_of text) }
@@ -215,6 +264,7 @@ impl Chunks {
         let mut nothing = || {};
         let (_, taken) = checking.take_meanwhile(rt, alloc, &waiting, &mut chunks, &mut nothing);
         taken?;
+        checking.check_held(rt, &mut chunks);
         checking.finish()
     }
 }

@@ -2,23 +2,24 @@ use Rattle.std.proofs.Common.{◌≡◌, ◌+◌, ◌↔◌, ◌==◌, sym, subs
 use Rattle.std.specs.List.{AllZip}
 use Rattle.hq_model.specs.Certificate.{signals}
 use Rattle.std.proofs.lemmas.List.{length-map, get_or-map}
-use Rattle.hq_cert.specs.View.{line_of, cited}
+use Rattle.hq_cert.specs.View.{cited}
 use Rattle.hq_job.specs.Plan.{plan}
 use Rattle.hq_certcheck.specs.Listed.{HoldsFor}
 use Rattle.hq_certcheck.proofs.Zipped.{Zipped, zip_pass, zip_step, zip_bad, zip_short, zip_end, no_signal}
 use Rattle.hq_certcheck.proofs.lines.hold_for_each.Goals as goal
+use Rattle.hq_certcheck.specs.Concluded.{bare}
 use Rattle.hq_certcheck.proofs.lines.hold_for_each.Goals.{in-Some+else-next-branches+else-not-holds_for, in_default}
 
 pub returns-then-next-branches : goal.returns-then-next-branches
 returns-then-next-branches c = (
   λ t. let never : ⊥ = cc in absurd never,
-  λ h. absurd (zip_short (HoldsFor (plan c.args.job.now) (map line_of c.args.lines.now) c.args.limit c.args.p) c.args.slots.now (map cited c.args.branches.now)
+  λ h. absurd (zip_short (HoldsFor (plan c.args.job.now) (map bare c.args.lines.now) c.args.limit c.args.p) c.args.slots.now (map cited c.args.branches.now)
       c.loop-slot.slot-index c.loop-slot.next c.in-Some.signal c.loop-slot.invariant c.loop-slot-test.true c.in-Some.is (omega (arith, c.if-next-branches.true, length-map c.args.branches.now cited)) h),
 )
 
 pub returns-then-not-holds_for : goal.returns-then-not-holds_for
 returns-then-not-holds_for c =
-    let R = HoldsFor (plan c.args.job.now) (map line_of c.args.lines.now) c.args.limit c.args.p in
+    let R = HoldsFor (plan c.args.job.now) (map bare c.args.lines.now) c.args.limit c.args.p in
     let read = get_or-map cited c.args.branches.now c.loop-slot.next (record { code = 0 }) None c.if-next-branches.false in (
       λ t. let never : ⊥ = cc in absurd never,
       λ h. absurd (zip_bad R c.args.slots.now (map cited c.args.branches.now)
@@ -29,7 +30,7 @@ returns-then-not-holds_for c =
 
 pub loop-slot-preserved : goal.loop-slot-preserved
 loop-slot-preserved c =
-    let R = HoldsFor (plan c.args.job.now) (map line_of c.args.lines.now) c.args.limit c.args.p in
+    let R = HoldsFor (plan c.args.job.now) (map bare c.args.lines.now) c.args.limit c.args.p in
     elim c.match-slot.branch [
       | in-Some+else-next-branches+else-not-holds_for w ↦
           let read = get_or-map cited c.args.branches.now c.loop-slot.next (record { code = 0 }) None w.if-next-branches.false in
@@ -43,5 +44,5 @@ loop-slot-preserved c =
 
 pub returns : goal.returns
 returns c =
-    let end = zip_end (HoldsFor (plan c.args.job.now) (map line_of c.args.lines.now) c.args.limit c.args.p) c.args.slots.now (map cited c.args.branches.now) c.loop-slot.slot-index c.loop-slot.next c.loop-slot.invariant c.loop-slot-test.false in
-    subst (λ n. IsTrue (c.loop-slot.next == n) ↔ AllZip (HoldsFor (plan c.args.job.now) (map line_of c.args.lines.now) c.args.limit c.args.p) (signals c.args.slots.now) (map cited c.args.branches.now)) (length-map c.args.branches.now cited) end
+    let end = zip_end (HoldsFor (plan c.args.job.now) (map bare c.args.lines.now) c.args.limit c.args.p) c.args.slots.now (map cited c.args.branches.now) c.loop-slot.slot-index c.loop-slot.next c.loop-slot.invariant c.loop-slot-test.false in
+    subst (λ n. IsTrue (c.loop-slot.next == n) ↔ AllZip (HoldsFor (plan c.args.job.now) (map bare c.args.lines.now) c.args.limit c.args.p) (signals c.args.slots.now) (map cited c.args.branches.now)) (length-map c.args.branches.now cited) end

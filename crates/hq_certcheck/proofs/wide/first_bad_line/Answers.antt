@@ -6,6 +6,7 @@ use Rattle.rayon.specs.Numbers.{nat_range}
 use Rattle.rayon.proofs.ToStd.{nat_range-All}
 use Rattle.hq_cert.specs.View.{line_of}
 use Rattle.hq_job.specs.Plan.{plan}
+use Rattle.hq_certcheck.specs.Concluded.{conclusion_of}
 use Rattle.hq_certcheck.specs.Listed.{LineFollows, FirstBadLine}
 use Rattle.hq_certcheck.proofs.Saying.{meant_within}
 use Rattle.hq_certcheck.proofs.Flagged.{match_change}
@@ -15,20 +16,21 @@ use Rattle.hq_certcheck.proofs.wide.first_bad_line.Goals as goal
 pub position_first-requires-clause-items : goal.position_first-requires-clause-items
 position_first-requires-clause-items g c κs lives =
     let ends = c.into_par_iter.ensures in
-    rw (c.with_min_len-places.ensures.base, ends.0, ends.1) (nat_range-All (λ k. k < length c.args.lines.now) 0 (length c.args.lines.now) (λ i low high. high))
+    rw (c.with_min_len-places.ensures.base, ends.0, ends.1)
+    (nat_range-All (λ k. (k < length c.args.found.now) × (map conclusion_of (map line_of c.args.found.now) ≡ c.args.lines.now)) 0 (length c.args.found.now) (λ i low high. (high, c.requires)))
 
 pub returns : goal.returns
 returns g c =
     let done = c.position_first.ensures in
     let ends = c.into_par_iter.ensures in
-    let n = length c.args.lines.now in
-    let lines = map line_of c.args.lines.now in
+    let n = length c.args.found.now in
+    let lines = map line_of c.args.found.now in
     let P = LineFollows (plan c.args.job.now) lines in
     let whole : n - 0 ≡ n = omega arith in
     let base = c.with_min_len-places.ensures.base in
     let places = done.2 ∙ (λ i. nat_range (range_start (base i)) (range_end (base i))) ∙ (λ i. nat_range (ends.0 i) (ends.1 i)) ∙ ap (range_with_len 0) whole in
     let told : AllZip (Tells P) (range_with_len 0 n) done.1 = subst (λ xs. AllZip (Tells P) xs done.1) places done.3 in
     match_change c.position_first.result ((k : ℕ) → k < n → P k) ((k : ℕ) → P k) (IsLeastOf P n) (FirstBadLine (plan c.args.job.now) lines)
-    (λ all k line e. all k (meant_within line_of c.args.lines.now k line e) line e)
-    (λ k f. record { there = omega (arith, f.low, length-map c.args.lines.now line_of); bad = f.bad; first = f.first })
+    (λ all k line e. all k (meant_within line_of c.args.found.now k line e) line e)
+    (λ k f. record { there = omega (arith, f.low, length-map c.args.found.now line_of); bad = f.bad; first = f.first })
     (subst (λ r. MatchOption r ((k : ℕ) → k < n → P k) (IsLeastOf P n)) (sym done.4) (least_told P n done.1 told (omega (arith, c.into_par_iter.type_inv))))

@@ -4,12 +4,13 @@ use Rattle.std.proofs.lemmas.List.{length-map}
 use Rattle.rayon.specs.Lists.{range_start, range_end}
 use Rattle.rayon.specs.Numbers.{nat_range}
 use Rattle.rayon.proofs.ToStd.{nat_range-All}
-use Rattle.hq_cert.specs.View.{line_of, pair_of}
+use Rattle.hq_cert.specs.View.{pair_of}
 use Rattle.hq_job.specs.Plan.{plan}
 use Rattle.hq_certcheck.specs.Listed.{PairFollowsAt, FirstBadPlace}
 use Rattle.hq_certcheck.proofs.Saying.{meant_within}
 use Rattle.hq_certcheck.proofs.Flagged.{match_change}
 use Rattle.hq_certcheck.proofs.Leasts.{Tells, IsLeastOf, least_told}
+use Rattle.hq_certcheck.specs.Concluded.{bare}
 use Rattle.hq_certcheck.proofs.wide_pairs.first_bad_place.Goals as goal
 
 pub position_first-requires-clause-items : goal.position_first-requires-clause-items
@@ -23,7 +24,7 @@ returns g c =
     let ends = c.into_par_iter.ensures in
     let n = length c.args.pairs.now in
     let job = plan c.args.job.now in
-    let lines = map line_of c.args.lines.now in
+    let lines = map bare c.args.lines.now in
     let pairs = map pair_of c.args.pairs.now in
     let P = PairFollowsAt job lines pairs in
     let whole : n - 0 ≡ n = omega arith in

@@ -4,7 +4,7 @@ use Rattle.hq_judging.proofs.Checks.{certificate_missing}
 use Rattle.hq_judging.proofs.check.check_read.Goals as goal
 
 pub check_found-requires-clause-seen : goal.check_found-requires-clause-seen
-check_found-requires-clause-seen g c κs lives = let h = c.in-Ok.ensures.found.1 in (h.so.pairs, h.so.seen)
+check_found-requires-clause-seen g c κs lives = let h = c.in-Ok.ensures.found.1 in (h.so.whole, h.so.order, h.so.seen)
 
 pub returns-in-Err : goal.returns-in-Err
 returns-in-Err g c = certificate_missing _ g.S.Read.remaining c.args.certificate.now c.take_certificate.new.reader c.args.job _ _ c.in-Err.status c.in-Err.ensures.refused

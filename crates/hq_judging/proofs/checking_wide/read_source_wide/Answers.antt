@@ -1,4 +1,4 @@
-use Rattle.std.proofs.Common.{ℕ, [], ◌++◌, ◌+◌, ◌*◌, inl, inr, refl, subst, arith}
+use Rattle.std.proofs.Common.{ℕ, [], ◌++◌, ◌*◌, inl, inr, refl, subst, arith}
 use Rattle.hq_text.specs.Turns.{ComesTo, Ends, Fails, Gives}
 use Rattle.hq_text.proofs.Taken.{ends_later, fails_later, gives_both, passes, starts}
 use Rattle.hq_judging.proofs.checking_wide.read_source_wide.Goals as goal
