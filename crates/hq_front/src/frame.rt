@@ -9,6 +9,10 @@ use std::process::ExitCode;
 use std::{env, io};
 
 /// The words behind the program's name.
+///
+/// # Errors
+///
+/// `io::Error` where a word isn't UTF-8, or there is no memory.
 pub fn words_of(rt: &HostRuntime) -> io::Result<Vec<String>> {
     Ok(env::args(rt)?.skip(1).collect::<Vec<String>>(rt.alloc())?)
 }
@@ -59,13 +63,21 @@ pub fn finished<W: Write>(rt: &HostRuntime, writer: &mut W, status: Status) -> S
     status
 }
 
+/// Says that a word isn't text.
+fn say_no_text(rt: &HostRuntime) -> Status {
+    let _ = eprintln!(rt;
+        "hsaq: a word isn't UTF-8; a file whose name isn't can be given as standard input, by `@`"
+    );
+    Status::Words
+}
+
 /// The exit status of a program that ended so, or whose words couldn't be had.
 pub fn exit_code(rt: &HostRuntime, ended: io::Result<Status>) -> ExitCode {
     let status = match ended {
         Ok(status) => status,
         Err(error) => match error.kind() {
             io::ErrorKind::OutOfMemory => say_memory(&mut rt.stdout()),
-            _ => Status::Words,
+            _ => say_no_text(rt),
         },
     };
     ExitCode::from(status.code())

@@ -9,6 +9,10 @@ use std::{fmt, io};
 
 const WORDS: &str = "these words are no packet; `hsaq pack --help` lists the fields";
 
+const MEMORY: &str = "there is no memory for it";
+
+const FILE: &str = "a file or a stream failed, so there is no whole answer";
+
 const PAIR: &str = "--pair wants the numbers of two packets, as in --pair 0 2";
 
 const NOT_ENABLED: &str = "an event isn't enabled after those before it";
@@ -123,7 +127,9 @@ fn explain_drawn<R: Eprint>(rt: &R, found: Found) -> io::Result<()> {
 /// Says what a status means. An explanation says all of that itself.
 fn say_meaning<R: Eprint>(rt: &R, status: Status) -> io::Result<()> {
     match status {
-        Status::Done | Status::Explained(_) | Status::Memory | Status::File => Ok(()),
+        Status::Done | Status::Explained(_) => Ok(()),
+        Status::Memory => eprintln!(rt; "hsaq: {MEMORY}"),
+        Status::File => eprintln!(rt; "hsaq: {FILE}"),
         Status::Words => eprintln!(rt; "hsaq: {WORDS}"),
         Status::PairWords => eprintln!(rt; "hsaq: {PAIR}"),
         Status::JobRefused(fault) => eprintln!(rt; "hsaq: {}", JobWords(fault)),
