@@ -63,6 +63,10 @@ impl Told<'_> {
     }
 
     /// The line, for good.
+    ///
+    /// # Errors
+    ///
+    /// `AllocError` where there is no memory.
     pub fn into_line(self, alloc: Global) -> Result<Line, AllocError>
         ensures { IfOk result (λ line. line_of line ≡ told self.entry) }
     {

@@ -91,6 +91,10 @@ fn is_kept(
 }
 
 /// Whether a list of packets is an order list of the job.
+///
+/// # Errors
+///
+/// `AllocError` where there is no memory.
 pub fn is_order_list(alloc: Global, job: &Job, list: &[u16]) -> Result<bool, AllocError>
     requires { All (IsPacket (plan job.now)) list.now }
     ensures { IfOk result (λ is. IsTrue is ↔ OrderList (plan job.now) list.now) }

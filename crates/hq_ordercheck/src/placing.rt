@@ -10,6 +10,10 @@ use hq_job::Job;
 use std::alloc::{AllocError, Global};
 
 /// The numbers of the list, if all are numbers of packets.
+///
+/// # Errors
+///
+/// `AllocError` where there is no memory.
 pub fn numbers(alloc: Global, job: &Job, list: &[u32]) -> Result<Option<Vec<u16>>, AllocError>
     ensures { IfOk result
         (λ found. MatchOption found (¬ All (IsPacket (plan job.now)) list.now)
