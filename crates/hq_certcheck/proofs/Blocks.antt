@@ -104,10 +104,11 @@ but_none job lines (Some b) h = record {
     by j l (inr (inr high)) = absurd (omega (arith, l, high))
 
 -- the least line that doesn't hold is that of the block of all
-pub block_of_all : (job : Job) (lines : List Line) (count : ℕ) (found : Option ℕ) → BadLineIs job lines found → BadLineOf job lines (record { from = 0; count = count }) found
-block_of_all job lines count None h = record { bad = tt; others = λ k l. inl (h k) }
-block_of_all job lines count (Some b) h = record {
+pub block_of_all : (job : Job) (lines : List Line) (count : ℕ) (found : Option ℕ) → count ≡ length lines → BadLineIs job lines found → BadLineOf job lines (record { from = 0; count = count }) found
+block_of_all job lines count None e h = record { bad = tt; here = tt; others = λ k l. inl (h k) }
+block_of_all job lines count (Some b) e h = record {
   bad = (h.there, h.bad);
+  here = (omega arith, omega (arith, e, h.there));
   others = λ k l. elim (cases_lt k b) [ inl low ↦ inl (h.first k low) | inr high ↦ inr high ];
 }
 
@@ -121,3 +122,7 @@ pub stands_here : (all : List Line) (from k : ℕ) (found : List CertLine) (line
 stands_here all from k found line high low is stand =
     let e : from + (k - from) ≡ k = omega (arith, high) in
     ap (slice_get all) (sym e) ∙ stand (k - from) (line_of line) (meant_at line_of found (k - from) line low is)
+
+-- the place of a line that was found among so many from this one on is one of theirs
+pub within_here : (from k count : ℕ) → from ≤ k → k - from < count → IsWithin (record { from = from; count = count }) k
+within_here from k count high low = (high, omega (arith, high, low))

@@ -46,9 +46,10 @@ IsUpTo found k = MatchOption found ⊥ (λ b. b ≤ k)
 abbrev pub IsBad : Job → List Line → Option ℕ → Type 0
 IsBad job lines found = IfSome found (λ b. (b < length lines) × ¬ LineFollows job lines b)
 
--- Each line of the block follows, unless a line that doesn't was found at its place or before it.
+-- Each line of the block follows, unless a line of it that doesn't was found at its place or before it.
 pub record BadLineOf (job : Job) (lines : List Line) (block : Block) (found : Option ℕ) : Type 0 where
   pub bad : IsBad job lines found
+  pub here : IfSome found (IsWithin block)
   pub others : (k : ℕ) → IsWithin block k → LineFollows job lines k ⊎ IsUpTo found k
 
 -- The same of all lines but those of blocks that are left to be checked.

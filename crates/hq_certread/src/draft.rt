@@ -1,6 +1,6 @@
 //! A certificate as far as it is read.
 
-ghost use Rattle.std.specs.Prelude.{◌≡◌, ◌↔◌, ◌&&◌, ◌+◌, ◌<◌, true, false, map, length};
+ghost use Rattle.std.specs.Prelude.{◌≡◌, ◌↔◌, ◌&&◌, ◌+◌, ◌^◌, ◌<◌, ◌≤◌, true, false, map, length};
 ghost use Rattle.std.specs.Prelude.{IfOk, IfErr, IfSome, IsTrue};
 ghost use Rattle.hq_certread.specs.LineTests.{head_said, order_said};
 ghost use Rattle.hq_certread.specs.TextFaults.{start, add_head, add_order, add_line, add_pair, add_end, add_behind};
@@ -315,7 +315,7 @@ impl Draft {
         ensures passed { IsTrue result
             → (self.new.gone ≡ self.old.gone + lines) × (self.new.stage ≡ self.old.stage)
             × (kept_of self.new ≡ kept_of self.old) }
-        ensures full { result ≡ false → self.new ≡ self.old }
+        ensures full { result ≡ false → (self.new ≡ self.old) × (2 ^ 64 ≤ self.old.gone + lines) }
     {
         match self.gone.checked_add(lines) {
             Some(gone) => {
@@ -331,7 +331,8 @@ impl Draft {
         ensures gone { IsTrue result
             → (self.new.gone ≡ self.old.gone + length (kept_of self.old).lines)
             × (kept_of self.new ≡ without_lines (kept_of self.old)) }
-        ensures full { result ≡ false → self.new ≡ self.old }
+        ensures full { result ≡ false
+            → (self.new ≡ self.old) × (2 ^ 64 ≤ self.old.gone + length (kept_of self.old).lines) }
     {
         let lines = self.lines.len();
         if !self.pass(lines) {

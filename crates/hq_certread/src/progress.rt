@@ -1,11 +1,11 @@
 //! A certificate as far as its lines were taken in.
 
-ghost use Rattle.std.specs.Prelude.{◌≡◌, ℕ, ◌≤◌, ◌⊎◌, List, [], ◌++◌, map, length, OnOk, OnErr, IfOk, IfErr};
+ghost use Rattle.std.specs.Prelude.{◌≡◌, ℕ, ◌+◌, ◌^◌, ◌≤◌, ◌⊎◌, List, [], ◌++◌, map, length, OnOk, OnErr, IfOk, IfErr};
 ghost use Rattle.std.specs.Prelude.{IfSome, IsTrue, MatchOption};
 ghost use Rattle.hq_cert.specs.View.{line_of, pair_of};
 ghost use Rattle.hq_model.specs.Certificate as model;
 ghost use Rattle.hq_text.specs.Lines.{lines_of};
-ghost use Rattle.hq_certread.specs.Ahead.{IsAhead, pairs_ahead};
+ghost use Rattle.hq_certread.specs.Ahead.{IsAhead, lines_ahead, pairs_ahead};
 ghost use Rattle.hq_certread.specs.Gives.{ReadOf, no_memory};
 ghost use Rattle.hq_certread.specs.SoFar.{HasFault, HasTaken, LinesStand, ReadBehind, lines_in, pairs_in};
 ghost use Rattle.hq_certread.specs.SoFar.{CanPass, HasPassed, IsClosed, StaysClosed};
@@ -89,7 +89,8 @@ impl Progress {
             → HasTaken lines (front ++ lines_in self.old) (gone ++ pairs_in self.old) self.new) }
         ensures none { OnOk result ((lines_in self.new ≡ []) × (pairs_in self.new ≡ [])) }
         ensures closed { OnOk result (IsClosed self.old → IsClosed self.new) }
-        ensures memory { IfErr result (λ f. f ≡ no_memory) }
+        ensures memory { IfErr result
+            (λ f. (f ≡ no_memory) × (2 ^ 64 ≤ self.old.draft.gone + length (lines_in self.old))) }
     {
         if self.draft.let_go() {
             Ok(())
@@ -135,7 +136,10 @@ impl Progress {
             (λ passed. MatchOption passed (¬ CanPass self.old ahead.now) (λ at. CanPass self.old ahead.now)) }
         ensures within { IfOk result
             (λ passed. IfSome passed (λ at. (text : List ℕ) → IsAhead text ahead.now → at ≤ length text)) }
-        ensures memory { IfErr result (λ f. (f ≡ no_memory) × CanPass self.old ahead.now) }
+        ensures memory { IfErr result
+            (λ f. (f ≡ no_memory) × CanPass self.old ahead.now
+            × ((2 ^ 64 ≤ self.old.count + ahead.now.count)
+            ⊎ (2 ^ 64 ≤ self.old.draft.gone + length (lines_ahead ahead.now)))) }
         ensures full { OnErr result (self.new ≡ self.old) }
     {
         if !self.draft.awaits(ahead.next, ahead.before) {

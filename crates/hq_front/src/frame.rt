@@ -40,11 +40,18 @@ fn say_error(rt: &HostRuntime, error: &clap::Error) -> Status {
     }
 }
 
+/// Writes that there was no memory before a command was asked for, and says so in plain words.
+fn say_no_memory(rt: &HostRuntime) -> Status {
+    let status = say_memory(&mut rt.stdout());
+    explain(rt, &status);
+    status
+}
+
 /// Says why words ask for no command.
 pub fn say_words(rt: &HostRuntime, fault: &WordsFault) -> Status {
     match fault {
         WordsFault::Words(error) => say_error(rt, error),
-        WordsFault::Memory => say_memory(&mut rt.stdout()),
+        WordsFault::Memory => say_no_memory(rt),
     }
 }
 
@@ -76,7 +83,7 @@ pub fn exit_code(rt: &HostRuntime, ended: io::Result<Status>) -> ExitCode {
     let status = match ended {
         Ok(status) => status,
         Err(error) => match error.kind() {
-            io::ErrorKind::OutOfMemory => say_memory(&mut rt.stdout()),
+            io::ErrorKind::OutOfMemory => say_no_memory(rt),
             _ => say_no_text(rt),
         },
     };

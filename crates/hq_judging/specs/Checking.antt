@@ -22,6 +22,7 @@ block_of chunk = record { from = chunk.ahead.before; count = length (lines_ahead
 abbrev pub IsHeld : List model.Line → Chunk → Type 0
 IsHeld lines chunk = StandAt lines chunk.ahead.before (lines_ahead chunk.ahead)
 
+-- the same of each of these chunks
 abbrev pub AreHeld : List model.Line → List Chunk → Type 0
 AreHeld lines [] = Unit {0}
 AreHeld lines (chunk ∷ chunks) = IsHeld lines chunk × AreHeld lines chunks

@@ -7,7 +7,7 @@ use Rattle.hq_job.specs.Plan.{plan}
 use Rattle.hq_model.specs.Certificate as model
 use Rattle.hq_certcheck.specs.Listed.{LineFollows}
 use Rattle.hq_certcheck.specs.Concluded.{conclusion_of}
-use Rattle.hq_certcheck.proofs.Blocks.{stands_here}
+use Rattle.hq_certcheck.proofs.Blocks.{stands_here, within_here}
 use Rattle.hq_certcheck.proofs.lines.first_bad_line.Goals as goal
 
 pub returns-then-not-line_holds : goal.returns-then-not-line_holds
@@ -20,6 +20,7 @@ returns-then-not-line_holds c all same stand =
         slice_get_within all k (line_of c.in_ok-line.line.now) there,
         λ h. let t : IsTrue c.line_holds.result = (c.line_holds.ensures all same there).1 h in let no : c.line_holds.result ≡ false = c.if-not-line_holds.true in let never : ⊥ = cc in never,
       );
+      here = within_here c.args.from k (length c.args.found.now) (omega arith) (ltb-true (k - c.args.from) (length c.args.found.now) (sym found.0));
       others = λ j within. elim (cases_lt j k) [ inl low ↦ inl (c.loop-k.invariant all same stand j within.0 low) | inr high ↦ inr high ];
     }
 
@@ -38,6 +39,7 @@ loop-k-preserved c all same stand j high low =
 pub returns : goal.returns
 returns c all same stand = record {
   bad = tt;
+  here = tt;
   others = λ j within. inl (c.loop-k.invariant all same stand j within.0 (below j within));
 }
   where
