@@ -1,11 +1,17 @@
-//! Faults of certificates, timelines and runs in plain words, for standard error.
+//! Faults of certificates, timelines and runs in plain words.
+
+ghost use Rattle.std.specs.Prelude.{◌≡◌, Some};
+ghost use Rattle.hq_plain.specs.Faults.{cert_reason, cert_words, check_words, time_reason, time_words};
+ghost use Rattle.hq_plain.specs.Faults.{failure_words};
 
 use hq_certread::{CertFault, CertReason};
 use hq_status::{CheckFault, RunFailure, TimelineFault, TimelineReason};
 use std::fmt;
 
 /// What is wrong with a certificate's line.
-fn words_of_cert(reason: CertReason) -> &'static str {
+fn words_of_cert(reason: CertReason) -> &'static str
+    ensures { result.now ≡ cert_reason reason }
+{
     match reason {
         CertReason::Word => {
             "an unknown or misplaced first word, an unknown rule or kind, a wrong count of words, or a line behind \
@@ -20,11 +26,13 @@ fn words_of_cert(reason: CertReason) -> &'static str {
     }
 }
 
-/// The refusal of a certificate's text in plain words: the line, and what is wrong with it.
+/// The refusal of a certificate's text: the line, and what is wrong with it.
 #[derive(Clone, Copy, Debug)]
 pub struct CertWords(pub CertFault);
 
 impl fmt::Display for CertWords {
+    ghost output = { λ w. Some (cert_words w.0) };
+
     fn fmt<W: fmt::Write>(&self, f: &mut fmt::Formatter<W>) -> fmt::Result {
         let line = self.0.line;
         let reason = words_of_cert(self.0.reason);
@@ -32,11 +40,13 @@ impl fmt::Display for CertWords {
     }
 }
 
-/// Why a certificate doesn't hold, in plain words.
+/// Why a certificate doesn't hold.
 #[derive(Clone, Copy, Debug)]
 pub struct CheckWords(pub CheckFault);
 
 impl fmt::Display for CheckWords {
+    ghost output = { λ w. Some (check_words w.0) };
+
     fn fmt<W: fmt::Write>(&self, f: &mut fmt::Formatter<W>) -> fmt::Result {
         match self.0 {
             CheckFault::Order => f.write_str("the packets can't come in this order"),
@@ -52,7 +62,9 @@ impl fmt::Display for CheckWords {
 }
 
 /// What is wrong with a timeline's line.
-fn words_of_time(reason: TimelineReason) -> &'static str {
+fn words_of_time(reason: TimelineReason) -> &'static str
+    ensures { result.now ≡ time_reason reason }
+{
     match reason {
         TimelineReason::Word => {
             "an unknown or misplaced first word, a wrong count of words, or a line behind `end`"
@@ -62,11 +74,13 @@ fn words_of_time(reason: TimelineReason) -> &'static str {
     }
 }
 
-/// The refusal of a timeline's text in plain words: the line, and what is wrong with it.
+/// The refusal of a timeline's text: the line, and what is wrong with it.
 #[derive(Clone, Copy, Debug)]
 pub struct TimeWords(pub TimelineFault);
 
 impl fmt::Display for TimeWords {
+    ghost output = { λ w. Some (time_words w.0) };
+
     fn fmt<W: fmt::Write>(&self, f: &mut fmt::Formatter<W>) -> fmt::Result {
         let line = self.0.line;
         let reason = words_of_time(self.0.reason);
@@ -74,11 +88,13 @@ impl fmt::Display for TimeWords {
     }
 }
 
-/// Why a run was stopped, in plain words.
+/// Why a run was stopped.
 #[derive(Clone, Copy, Debug)]
 pub struct FailureWords(pub RunFailure);
 
 impl fmt::Display for FailureWords {
+    ghost output = { λ w. Some (failure_words w.0) };
+
     fn fmt<W: fmt::Write>(&self, f: &mut fmt::Formatter<W>) -> fmt::Result {
         match self.0 {
             RunFailure::Kernel(packet) => {

@@ -1,27 +1,16 @@
 //! Plain words on standard error, beside the answer on standard output: made of the status, in which stands what the
 //! answer says.
 
+ghost use Rattle.std.specs.Prelude.{◌≡◌, ◌↔◌, IsTrue, Some, []};
+ghost use Rattle.hq_plain.specs.Statuses.{clash_words, lack_words, origin_words, subject_words, difference_words};
+ghost use Rattle.hq_plain.specs.Statuses.{drawn_words, meaning};
+
 use crate::faults::{CertWords, CheckWords, FailureWords, TimeWords};
+use crate::jobs::{JobWords, PacketWords};
 use hq_finding::{Found, Kind, Why};
-use hq_report::{JobWords, OffsetText, PacketWords};
+use hq_report::OffsetText;
 use hq_status::{Difference, Differs, Status};
 use std::{fmt, io};
-
-const WORDS: &str = "these words are no packet; `hsaq pack --help` lists the fields";
-
-const MEMORY: &str = "there is no memory for it";
-
-const FILE: &str = "a file or a stream failed, so there is no whole answer";
-
-const PAIR: &str = "--pair wants the numbers of two packets, as in --pair 0 2";
-
-const NOT_ENABLED: &str = "an event isn't enabled after those before it";
-
-const STUCK: &str = "these packets can never complete, in any run";
-
-const DRAWN_STUCK: &str = "the packets drawn in red can never complete, in any run";
-
-const DRAWN_CONFLICT: &str = "nothing orders the conflicts that are drawn in red";
 
 /// What packets `p` and `r` do that conflicts.
 #[derive(Clone, Copy)]
@@ -32,6 +21,8 @@ struct Clash {
 }
 
 impl fmt::Display for Clash {
+    ghost output = { λ c. Some (clash_words c.p c.r c.kind) };
+
     fn fmt<W: fmt::Write>(&self, f: &mut fmt::Formatter<W>) -> fmt::Result {
         let Clash { p, r, kind } = *self;
         match kind {
@@ -51,6 +42,8 @@ struct Lack {
 }
 
 impl fmt::Display for Lack {
+    ghost output = { λ l. Some (lack_words l.p l.r l.why) };
+
     fn fmt<W: fmt::Write>(&self, f: &mut fmt::Formatter<W>) -> fmt::Result {
         let Lack { p, r, why } = *self;
         match why {
@@ -75,6 +68,8 @@ impl fmt::Display for Lack {
 struct OriginWords(Option<u32>);
 
 impl fmt::Display for OriginWords {
+    ghost output = { λ w. Some (origin_words w.0) };
+
     fn fmt<W: fmt::Write>(&self, f: &mut fmt::Formatter<W>) -> fmt::Result {
         match self.0 {
             Some(packet) => write!(f, "as packet {packet} stored it"),
@@ -88,6 +83,8 @@ impl fmt::Display for OriginWords {
 struct Subject(Differs);
 
 impl fmt::Display for Subject {
+    ghost output = { λ s. Some (subject_words s.0) };
+
     fn fmt<W: fmt::Write>(&self, f: &mut fmt::Formatter<W>) -> fmt::Result {
         match self.0 {
             Differs::Read { packet, entry } => write!(f, "packet {packet} can read entry {entry}"),
@@ -102,6 +99,8 @@ impl fmt::Display for Subject {
 struct DifferenceWords(Difference);
 
 impl fmt::Display for DifferenceWords {
+    ghost output = { λ w. Some (difference_words w.0) };
+
     fn fmt<W: fmt::Write>(&self, f: &mut fmt::Formatter<W>) -> fmt::Result {
         let subject = Subject(self.0.place);
         let good = OriginWords(self.0.good);
@@ -110,52 +109,79 @@ impl fmt::Display for DifferenceWords {
     }
 }
 
-/// Says what a conflict is.
-fn explain_conflict<R: Eprint>(rt: &R, clash: Clash, lack: Lack) -> io::Result<()> {
-    eprintln!(rt; "hsaq: {clash}, but {lack}")
-}
-
-/// Says what is drawn in red.
-fn explain_drawn<R: Eprint>(rt: &R, found: Found) -> io::Result<()> {
+/// What is drawn in red.
+fn words_of_drawn(found: Found) -> &'static str
+    ensures { result.now ≡ drawn_words found }
+{
     match found {
-        Found::Ordered => Ok(()),
-        Found::Conflict => eprintln!(rt; "hsaq: {DRAWN_CONFLICT}"),
-        Found::Stuck => eprintln!(rt; "hsaq: {DRAWN_STUCK}"),
+        Found::Ordered => "",
+        Found::Conflict => "nothing orders the conflicts that are drawn in red",
+        Found::Stuck => "the packets drawn in red can never complete, in any run",
     }
 }
 
-/// Says what a status means. An explanation says all of that itself.
-fn say_meaning<R: Eprint>(rt: &R, status: Status) -> io::Result<()> {
-    match status {
-        Status::Done | Status::Explained(_) => Ok(()),
-        Status::Memory => eprintln!(rt; "hsaq: {MEMORY}"),
-        Status::File => eprintln!(rt; "hsaq: {FILE}"),
-        Status::Words => eprintln!(rt; "hsaq: {WORDS}"),
-        Status::PairWords => eprintln!(rt; "hsaq: {PAIR}"),
-        Status::JobRefused(fault) => eprintln!(rt; "hsaq: {}", JobWords(fault)),
-        Status::PacketRefused(fault) => eprintln!(rt; "hsaq: {}", PacketWords(fault)),
-        Status::Conflict { p, r, kind, why } => {
-            explain_conflict(rt, Clash { p, r, kind }, Lack { p, r, why })
+/// What a status means. An explanation says all of that itself.
+#[derive(Clone, Copy)]
+pub struct Meaning(pub Status);
+
+impl fmt::Display for Meaning {
+    ghost output = { λ m. Some (meaning m.0) };
+
+    fn fmt<W: fmt::Write>(&self, f: &mut fmt::Formatter<W>) -> fmt::Result {
+        match self.0 {
+            Status::Done | Status::Explained(_) => Ok(()),
+            Status::Words => f.write_str(
+                "these words are no packet; `hsaq pack --help` lists the fields",
+            ),
+            Status::PairWords => f.write_str(
+                "--pair wants the numbers of two packets, as in --pair 0 2",
+            ),
+            Status::JobRefused(fault) => JobWords(fault).fmt(f),
+            Status::PacketRefused(fault) => PacketWords(fault).fmt(f),
+            Status::Conflict { p, r, kind, why } => {
+                write!(f, "{}, but {}", Clash { p, r, kind }, Lack { p, r, why })
+            }
+            Status::Stuck => f.write_str("these packets can never complete, in any run"),
+            Status::Drawn(found) => f.write_str(words_of_drawn(found)),
+            Status::Shown(difference) => DifferenceWords(difference).fmt(f),
+            Status::CertificateRefused(fault) => CertWords(fault).fmt(f),
+            Status::CertificateFails(fault) => CheckWords(fault).fmt(f),
+            Status::TimelineRefused(fault) => TimeWords(fault).fmt(f),
+            Status::NotEnabled(place) => {
+                write!(
+                    f,
+                    "an event isn't enabled after those before it: counted from 0, number {place}"
+                )
+            }
+            Status::DrawnUntil(place) => {
+                write!(
+                    f,
+                    "an event isn't enabled after those before it, up to which the timeline is drawn: counted from 0, \
+                     number {place}"
+                )
+            }
+            Status::RunFailed(failure) => FailureWords(failure).fmt(f),
+            Status::Memory => f.write_str("there is no memory for it"),
+            Status::File => f.write_str("a file or a stream failed, so there is no whole answer"),
         }
-        Status::Stuck => eprintln!(rt; "hsaq: {STUCK}"),
-        Status::Drawn(found) => explain_drawn(rt, found),
-        Status::Shown(difference) => eprintln!(rt; "hsaq: {}", DifferenceWords(difference)),
-        Status::CertificateRefused(fault) => eprintln!(rt; "hsaq: {}", CertWords(fault)),
-        Status::CertificateFails(fault) => eprintln!(rt; "hsaq: {}", CheckWords(fault)),
-        Status::TimelineRefused(fault) => eprintln!(rt; "hsaq: {}", TimeWords(fault)),
-        Status::NotEnabled(place) => {
-            eprintln!(rt; "hsaq: {NOT_ENABLED}: counted from 0, number {place}")
-        }
-        Status::DrawnUntil(place) => eprintln!(rt;
-            "hsaq: {NOT_ENABLED}, up to which the timeline is drawn: counted from 0, number {place}"
-        ),
-        Status::RunFailed(failure) => eprintln!(rt; "hsaq: {}", FailureWords(failure)),
     }
 }
 
-/// Says what a status means. Where standard error fails, nothing is said.
+/// Whether there is nothing to say of a status.
+fn is_silent(status: Status) -> bool
+    ensures { IsTrue result ↔ (meaning status ≡ []) }
+{
+    matches!(
+        status,
+        Status::Done | Status::Explained(_) | Status::Drawn(Found::Ordered)
+    )
+}
+
+/// Says what a status means, if there is something to say. Where standard error fails, nothing is said.
 pub fn explain<R: Eprint>(rt: &R, status: &Status) {
-    let _ = say_meaning(rt, *status);
+    if !is_silent(*status) {
+        let _ = eprintln!(rt; "hsaq: {}", Meaning(*status));
+    }
 }
 
 /// Says why a file can't be opened. Where standard error fails, nothing is said.

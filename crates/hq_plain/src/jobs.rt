@@ -1,4 +1,7 @@
-//! Faults in plain words, for standard error.
+//! Faults of jobs and packets in plain words.
+
+ghost use Rattle.std.specs.Prelude.{◌≡◌, Some};
+ghost use Rattle.hq_plain.specs.Jobs.{packet_words, foot_words, plain_reason, detail_words, job_words};
 
 use hq_footprint::FootFault;
 use hq_jobtext::JobFault;
@@ -6,40 +9,41 @@ use hq_packet::PacketFault;
 use hq_tables::Reason;
 use std::fmt;
 
-/// What is wrong with a packet, the offset of its reserved field aside.
-fn words_of_packet(fault: PacketFault) -> &'static str {
-    match fault {
-        PacketFault::ReservedFormat => "a reserved format",
-        PacketFault::Vendor => "a vendor-specific packet",
-        PacketFault::Invalid => "an invalid packet",
-        PacketFault::HeaderReserved => "reserved bits of the header that aren't zero",
-        PacketFault::FenceScope => "a reserved fence scope",
-        PacketFault::ReservedField(_) => "a reserved field that isn't zero",
-        PacketFault::Dimensions => "a count of dimensions other than 1, 2 or 3",
-        PacketFault::ZeroSize => "a used dimension of size zero",
-        PacketFault::UnusedNotOne => "an unused dimension of a size other than one",
-    }
-}
-
-/// A packet fault in plain words.
+/// What is wrong with a packet.
 #[derive(Clone, Copy, Debug)]
 pub struct PacketWords(pub PacketFault);
 
 impl fmt::Display for PacketWords {
+    ghost output = { λ w. Some (packet_words w.0) };
+
     fn fmt<W: fmt::Write>(&self, f: &mut fmt::Formatter<W>) -> fmt::Result {
-        f.write_str(words_of_packet(self.0))?;
         match self.0 {
-            PacketFault::ReservedField(offset) => write!(f, ", at byte {offset}"),
-            _ => Ok(()),
+            PacketFault::ReservedFormat => f.write_str("a reserved format"),
+            PacketFault::Vendor => f.write_str("a vendor-specific packet"),
+            PacketFault::Invalid => f.write_str("an invalid packet"),
+            PacketFault::HeaderReserved => f.write_str(
+                "reserved bits of the header that aren't zero",
+            ),
+            PacketFault::FenceScope => f.write_str("a reserved fence scope"),
+            PacketFault::ReservedField(offset) => {
+                write!(f, "a reserved field that isn't zero, at byte {offset}")
+            }
+            PacketFault::Dimensions => f.write_str("a count of dimensions other than 1, 2 or 3"),
+            PacketFault::ZeroSize => f.write_str("a used dimension of size zero"),
+            PacketFault::UnusedNotOne => f.write_str(
+                "an unused dimension of a size other than one",
+            ),
         }
     }
 }
 
-/// A footprint fault in plain words.
+/// What is wrong with a footprint.
 #[derive(Clone, Copy, Debug)]
 pub struct FootWords(pub FootFault);
 
 impl fmt::Display for FootWords {
+    ghost output = { λ w. Some (foot_words w.0) };
+
     fn fmt<W: fmt::Write>(&self, f: &mut fmt::Formatter<W>) -> fmt::Result {
         f.write_str(match self.0 {
             FootFault::Overflow => "a range that passes 2^64",
@@ -50,8 +54,11 @@ impl fmt::Display for FootWords {
     }
 }
 
-/// The reason of a job's refusal, its detail aside.
-fn words_of_reason(reason: Reason) -> &'static str {
+/// What is wrong with a job's line, without what is wrong with its packet or its footprint, and without the signal's
+/// handle.
+fn words_of_reason(reason: Reason) -> &'static str
+    ensures { result.now ≡ plain_reason reason }
+{
     match reason {
         Reason::Byte => "a byte that is neither printable ASCII nor a line feed",
         Reason::Word => {
@@ -81,14 +88,14 @@ fn words_of_reason(reason: Reason) -> &'static str {
     }
 }
 
-/// The reason of a job's refusal in plain words, with its detail: what is wrong with the packet or the footprint, or
-/// the signal's handle.
+/// What is wrong with the packet or the footprint of a job's line, or the signal's handle.
 #[derive(Clone, Copy, Debug)]
-pub struct ReasonWords(pub Reason);
+struct DetailWords(Reason);
 
-impl fmt::Display for ReasonWords {
+impl fmt::Display for DetailWords {
+    ghost output = { λ w. Some (detail_words w.0) };
+
     fn fmt<W: fmt::Write>(&self, f: &mut fmt::Formatter<W>) -> fmt::Result {
-        f.write_str(words_of_reason(self.0))?;
         match self.0 {
             Reason::Packet(fault) => write!(f, ": {}", PacketWords(fault)),
             Reason::Footprint(fault) => write!(f, ": {}", FootWords(fault)),
@@ -101,14 +108,18 @@ impl fmt::Display for ReasonWords {
     }
 }
 
-/// The refusal of a job text in plain words: the line, and the reason.
+/// The refusal of a job's text: the line, and what is wrong with it, its packet or its footprint, or the signal's
+/// handle.
 #[derive(Clone, Copy, Debug)]
 pub struct JobWords(pub JobFault);
 
 impl fmt::Display for JobWords {
+    ghost output = { λ w. Some (job_words w.0) };
+
     fn fmt<W: fmt::Write>(&self, f: &mut fmt::Formatter<W>) -> fmt::Result {
         let line = self.0.line;
-        let reason = ReasonWords(self.0.reason);
-        write!(f, "in the job, line {line}: {reason}")
+        let reason = words_of_reason(self.0.reason);
+        let detail = DetailWords(self.0.reason);
+        write!(f, "in the job, line {line}: {reason}{detail}")
     }
 }
