@@ -27,12 +27,12 @@ pub enum Reading {
 }
 
 impl Reading {
-    /// Before the first byte.
-    fn new<R: Threads>(rt: &R, alloc: Global, checking: Checking) -> Reading
+    /// Before the first byte, for so many threads beside the caller's.
+    fn new(alloc: Global, checking: Checking, threads: usize) -> Reading
         requires { HasChecked checking [] checking }
         ensures { HasRead checking [] result }
     {
-        Reading::Taking(Chunks::new(rt, alloc, checking))
+        Reading::Taking(Chunks::new(alloc, checking, threads))
     }
 
     /// Takes in what came, and reads on meanwhile.
@@ -78,10 +78,11 @@ pub fn read_source_wide<R: Threads, S: Source>(
         (λ e. FaultOf e (λ f. OfText S S.Turned TURNS source.old source.new (λ text. HasFault (lines_of text) f))
         (Fails S S.Turned TURNS source.old source.new ⊎ Passes S S.Turned TURNS source.old source.new)) }
 {
-    if current_num_threads(rt) < 2 {
+    let threads = current_num_threads(rt);
+    if threads < 2 {
         return read_source(alloc, source, checking);
     }
-    let mut reading = Reading::new(rt, alloc, checking);
+    let mut reading = Reading::new(alloc, checking, threads - 1);
     for _step in 0..TURNS / STEP {
         match reading.step(rt, alloc, source) {
             Came::More => {}

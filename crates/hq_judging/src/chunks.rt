@@ -17,7 +17,6 @@ use crate::checking::{Checking, ReadCertificate};
 use crate::chunk::Chunk;
 use hq_certread::{CertFault, Progress};
 use hq_text::{Came, Source, TakesLines, read_on, whole_lines};
-use rayon::current_num_threads;
 use std::alloc::{AllocError, Global};
 use std::mem::swap;
 use std::thread::{Threads, join_mut};
@@ -25,7 +24,7 @@ use std::thread::{Threads, join_mut};
 /// How many bytes are worth more threads than one.
 const ENOUGH: usize = 262_144;
 
-/// How many threads there are at most.
+/// How many threads there are at most beside the caller's.
 const MOST: usize = 16;
 
 /// How long the first of so many chunks of a text is: they are of whole lines, and about as long as each other.
@@ -190,12 +189,12 @@ pub struct Chunks {
 }
 
 impl Chunks {
-    /// Before the first byte. Where there is no memory, there are fewer threads.
-    pub fn new<R: Threads>(rt: &R, alloc: Global, checking: Checking) -> Chunks
+    /// Before the first byte, for so many threads beside the caller's. Where there is no memory, there are fewer.
+    pub fn new(alloc: Global, checking: Checking, threads: usize) -> Chunks
         ensures { HasChecked checking [] checking → HasWaiting checking [] result }
     {
         let mut chunks = Vec::new(alloc);
-        for _thread in 1..current_num_threads(rt).min(MOST) {
+        for _thread in 0..threads.min(MOST) {
             if chunks.push(Chunk::new(alloc)).is_err() {
                 break;
             }

@@ -6,13 +6,13 @@ use Rattle.hq_judging.proofs.chunks.Chunks.new.Goals as goal
 use Rattle.hq_judging.proofs.chunks.Chunks.new.Goals.{else-loop-thread-test, then-loop-thread-test+then-is_err}
 
 pub loop-thread-preserved : goal.loop-thread-preserved
-loop-thread-preserved g c h =
+loop-thread-preserved c h =
     let from = c.args.checking in
     let held = was_held c.push.result c.push.new.self.items (c.loop-thread.chunks.items ++ c.new.result ∷ []) c.loop-thread.chunks.items (sym c.is_err.ensures.value ∙ c.if-is_err.false) c.push.ensures.items in
     subst (λ (cs : List Chunk). HasCheckedBut from cs [] from) (sym held) (hold_none from c.loop-thread.chunks.items [] from c.new.result c.new.ensures.none (c.loop-thread.invariant h))
 
 pub returns : goal.returns
-returns g c h =
+returns c h =
     let from = c.args.checking in
     record {
       front = [];
