@@ -4,12 +4,12 @@ use Rattle.hq_job.specs.Value.{JobValue}
 use Rattle.hq_status.specs.Reports.{JobTextReport, NoJob, Reported, Said, with_feed}
 use Rattle.hq_status.specs.Reports.JobTextReport.{of_job, no_job}
 use Rattle.hq_status.specs.declared.status.Status.{Status}
-use Rattle.hq_status.specs.declared.status.Status.TheVariants.{Memory, File}
+use Rattle.hq_status.specs.declared.status.Status.TheVariants.{Memory, Unopened}
 use Rattle.hq_engines.specs.Recording.{BothSaid, Recorded}
 use Rattle.hq_engines.specs.Witness.{AllSaid, Held, WitnessReport, Witnessed}
 use Rattle.hq_run_engine.specs.Run.{RunReport}
 use Rattle.hq_front.specs.Files.{FileReport, HasText, SaysUnopened}
-use Rattle.hq_front.specs.Files.FileReport.{of_text, no_text, no_memory}
+use Rattle.hq_front.specs.Files.FileReport.{of_text, not_opened, no_text, no_memory}
 use Rattle.hq_commands.specs.Judged.{JudgeReport}
 use Rattle.hq_words.specs.declared.words.Asked.{Asked}
 use Rattle.hq_words.specs.declared.words.Asked.TheVariants.{Show, Pack, Audit, Check, Run, Replay, Chart, Graph}
@@ -23,6 +23,7 @@ of_taken Report job was mid is answered text same said = (said.0, said.1, of_tex
 
 none_taken : (Report : JobValue → List ℕ → Status → Type 0) (out : List ℕ) (status : Status) → FileReport NoJob out status → FileReport (JobTextReport Report) out status
 none_taken Report out status (of_text text why) = of_text text (no_job why)
+none_taken Report out status not_opened = not_opened
 none_taken Report out status no_text = no_text
 none_taken Report out status no_memory = no_memory
 
@@ -32,7 +33,7 @@ of_none Report was is answered said = (said.0, said.1, none_taken Report said.0 
 -- ---- runs
 
 pub run_unmade : (job : JobValue) (was is : Option (List ℕ)) (answered : Status) → SaysUnopened was is answered → Reported (RunAnswer job) was is answered
-run_unmade job was is answered (inl said) = (with_feed (codes "file fault"), File, run_not_made, said)
+run_unmade job was is answered (inl said) = (with_feed (codes "file fault"), Unopened, run_not_made, said)
 run_unmade job was is answered (inr said) = (with_feed (codes "out of memory"), Memory, run_no_memory, said)
 
 one_said : (begun recorded : Option (List ℕ)) (events : List ℕ) (old new : Option (List ℕ)) (text : List ℕ) (status answered : Status) → BothSaid begun recorded events old new text status answered → Said old new text status answered
@@ -46,7 +47,7 @@ has_run job begun recorded was mid is answered same r =
 -- ---- witnesses
 
 pub witness_unmade : (job : JobValue) (was mid is : Option (List ℕ)) (answered : Status) → mid ≡ was → SaysUnopened mid is answered → Reported (WitnessAnswer job) was is answered
-witness_unmade job was mid is answered same (inl said) = (with_feed (codes "file fault"), File, witness_not_made, subst (λ o. Said o is (with_feed (codes "file fault")) File answered) same said)
+witness_unmade job was mid is answered same (inl said) = (with_feed (codes "file fault"), Unopened, witness_not_made, subst (λ o. Said o is (with_feed (codes "file fault")) Unopened answered) same said)
 witness_unmade job was mid is answered same (inr said) = (with_feed (codes "out of memory"), Memory, witness_no_memory, subst (λ o. Said o is (with_feed (codes "out of memory")) Memory answered) same said)
 
 answer_said : (old new : Held) (good bad text : List ℕ) (status answered : Status) → AllSaid old new good bad text status answered → Said old.answer new.answer text status answered

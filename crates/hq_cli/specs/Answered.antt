@@ -4,7 +4,7 @@ use Rattle.hq_text.specs.Numbers.{number_of}
 use Rattle.hq_job.specs.Value.{JobValue}
 use Rattle.hq_status.specs.Reports.{JobTextReport, with_feed}
 use Rattle.hq_status.specs.declared.status.Status.{Status}
-use Rattle.hq_status.specs.declared.status.Status.TheVariants.{Memory, File, PairWords}
+use Rattle.hq_status.specs.declared.status.Status.TheVariants.{Memory, Unopened, PairWords}
 use Rattle.hq_engines.specs.Change.{ChangeReport}
 use Rattle.hq_engines.specs.declared.change.Aim.TheVariants as aim
 use Rattle.hq_engines.specs.Chart.{ChartReport}
@@ -46,14 +46,14 @@ pub data ExplainAnswer (asked : Option Which) : List ℕ → Status → Type 0 w
 pub data RunAnswer (job : JobValue) : List ℕ → Status → Type 0 where
   ran : {out : List ℕ} {status : Status} (timeline : List ℕ) → RunReport job timeline out status
       → RunAnswer job out status
-  not_made : RunAnswer job (with_feed (codes "file fault")) File
+  not_made : RunAnswer job (with_feed (codes "file fault")) Unopened
   no_memory : RunAnswer job (with_feed (codes "out of memory")) Memory
 
 -- What `witness` writes beside the two timelines: the same.
 pub data WitnessAnswer (job : JobValue) : List ℕ → Status → Type 0 where
   looked : {out : List ℕ} {status : Status} (good bad : List ℕ) → WitnessReport job good bad out status
       → WitnessAnswer job out status
-  not_made : WitnessAnswer job (with_feed (codes "file fault")) File
+  not_made : WitnessAnswer job (with_feed (codes "file fault")) Unopened
   no_memory : WitnessAnswer job (with_feed (codes "out of memory")) Memory
 
 -- What is to be written of what is asked for.

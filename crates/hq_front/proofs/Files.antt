@@ -5,9 +5,9 @@ use Rattle.hq_status.specs.Reports.{JobTextReport, ReaderReport, Reported, Said,
 use Rattle.hq_status.specs.Reports.JobTextReport.{of_job, no_job}
 use Rattle.hq_status.specs.Reports.ReaderReport.{of_text, no_text, no_memory}
 use Rattle.hq_status.specs.declared.status.Status.{Status}
-use Rattle.hq_status.specs.declared.status.Status.TheVariants.{Memory, File}
+use Rattle.hq_status.specs.declared.status.Status.TheVariants.{Memory, Unopened}
 use Rattle.hq_front.specs.Files.{FileReport, SaysUnopened}
-use Rattle.hq_front.specs.Files.FileReport.{of_text as of_file, no_text as no_file, no_memory as no_room}
+use Rattle.hq_front.specs.Files.FileReport.{of_text as of_file, not_opened, no_text as no_file, no_memory as no_room}
 
 pub of_reader : (S : Type 0) (left : S → Option (List ℕ)) (a b : S) (Part Report : List ℕ → List ℕ → Status → Type 0) → ((text out : List ℕ) (status : Status) → Part text out status → Report text out status) → (out : List ℕ) (status : Status)
     → ReaderReport S left a b Part out status → FileReport Report out status
@@ -26,5 +26,5 @@ file_reported S left a b Part Report lift was mid is answered same said =
     (said.0, said.1, of_reader S left a b Part Report lift said.0 said.1 said.2, subst (λ o. Said o is said.0 said.1 answered) same said.3)
 
 pub unopened : (Report : List ℕ → List ℕ → Status → Type 0) (was is : Option (List ℕ)) (answered : Status) → SaysUnopened was is answered → Reported (FileReport Report) was is answered
-unopened Report was is answered (inl said) = (with_feed (codes "file fault"), File, no_file, said)
+unopened Report was is answered (inl said) = (with_feed (codes "file fault"), Unopened, not_opened, said)
 unopened Report was is answered (inr said) = (with_feed (codes "out of memory"), Memory, no_room, said)

@@ -8,18 +8,18 @@ use crate::input::{Input, open, open_file};
 use crate::output::{Output, create};
 use hq_job::Job;
 use hq_plain::explain_unopened;
-use hq_status::{Status, say_file, say_memory, take_job};
+use hq_status::{Status, say_memory, say_unopened, take_job};
 use std::io;
 use std::io::{BufReader, Write};
 
-/// Writes that a file can't be opened, and says why.
-fn say_unopened<W: Write>(rt: &HostRuntime, path: &str, error: &io::Error, writer: &mut W) -> Status
+/// Writes that a file can't be opened or made, and says why.
+fn say_why<W: Write>(rt: &HostRuntime, path: &str, error: &io::Error, writer: &mut W) -> Status
     ensures { SaysUnopened (W.contents writer.old) (W.contents writer.new) result }
 {
     explain_unopened(rt, path, error);
     match error.kind() {
         io::ErrorKind::OutOfMemory => say_memory(writer),
-        _ => say_file(writer),
+        _ => say_unopened(writer),
     }
 }
 
@@ -38,7 +38,7 @@ pub fn opened<W: Write>(
 {
     match open(rt, path) {
         Ok(input) => Ok(input),
-        Err(error) => Err(say_unopened(rt, path, &error, writer)),
+        Err(error) => Err(say_why(rt, path, &error, writer)),
     }
 }
 
@@ -59,7 +59,7 @@ pub fn opened_both<W: Write>(
     let input = opened(rt, job, writer)?;
     match open_file(rt, path) {
         Ok(file) => Ok((input, file)),
-        Err(error) => Err(say_unopened(rt, path, &error, writer)),
+        Err(error) => Err(say_why(rt, path, &error, writer)),
     }
 }
 
@@ -81,7 +81,7 @@ pub fn created<W: Write>(
     };
     match create(rt, path) {
         Ok(out) => Ok(Some(out)),
-        Err(error) => Err(say_unopened(rt, path, &error, writer)),
+        Err(error) => Err(say_why(rt, path, &error, writer)),
     }
 }
 

@@ -54,10 +54,11 @@ drawn_words found.Ordered = []
 drawn_words found.Conflict = codes "nothing orders the conflicts that are drawn in red"
 drawn_words found.Stuck = codes "the packets drawn in red can never complete, in any run"
 
--- What a status means. Of an answer that is all that was asked for there is nothing to say, and an explanation says all
--- of it itself.
+-- What a status means. Of an answer that is all that was asked for there is nothing to say, an explanation says all of
+-- it itself, and why a file can't be opened was said by then.
 abbrev pub meaning : Status → List ℕ
 meaning status.Done = []
+meaning status.Unopened = []
 meaning (status.Explained found) = []
 meaning status.Words = codes "these words are no packet; `hsaq pack --help` lists the fields"
 meaning status.PairWords = codes "--pair wants the numbers of two packets, as in --pair 0 2"

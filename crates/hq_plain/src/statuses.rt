@@ -120,7 +120,7 @@ fn words_of_drawn(found: Found) -> &'static str
     }
 }
 
-/// What a status means. An explanation says all of that itself.
+/// What a status means. An explanation says all of that itself, and why a file can't be opened was said by then.
 #[derive(Clone, Copy)]
 pub struct Meaning(pub Status);
 
@@ -129,7 +129,7 @@ impl fmt::Display for Meaning {
 
     fn fmt<W: fmt::Write>(&self, f: &mut fmt::Formatter<W>) -> fmt::Result {
         match self.0 {
-            Status::Done | Status::Explained(_) => Ok(()),
+            Status::Done | Status::Explained(_) | Status::Unopened => Ok(()),
             Status::Words => f.write_str(
                 "these words are no packet; `hsaq pack --help` lists the fields",
             ),
@@ -173,7 +173,7 @@ fn is_silent(status: Status) -> bool
 {
     matches!(
         status,
-        Status::Done | Status::Explained(_) | Status::Drawn(Found::Ordered)
+        Status::Done | Status::Explained(_) | Status::Drawn(Found::Ordered) | Status::Unopened
     )
 }
 

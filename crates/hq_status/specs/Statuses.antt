@@ -30,4 +30,5 @@ code_of (status.NotEnabled place) = 7
 code_of (status.DrawnUntil place) = 7
 code_of (status.RunFailed failure) = 7
 code_of status.Memory = 8
+code_of status.Unopened = 9
 code_of status.File = 9

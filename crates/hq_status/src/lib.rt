@@ -10,7 +10,7 @@ mod saying;
 mod status;
 mod taking;
 
-pub use saying::{say, say_file, say_memory, say_text};
+pub use saying::{say, say_file, say_memory, say_text, say_unopened};
 pub use status::{
     CheckFault, Difference, Differs, RunFailure, Status, TimelineFault, TimelineReason,
 };

@@ -33,6 +33,14 @@ pub fn say_file<W: Write>(writer: &mut W) -> Status
     say(writer, "file fault", Status::File)
 }
 
+/// Writes that a file can't be opened or made.
+pub fn say_unopened<W: Write>(writer: &mut W) -> Status
+    ensures { Said (W.contents writer.old) (W.contents writer.new)
+        (with_feed (codes "file fault")) Status.Unopened result }
+{
+    say(writer, "file fault", Status::Unopened)
+}
+
 /// Writes a whole text, and answers `Done`; where the writer fails that is `File`. It takes no memory.
 pub fn say_text<W: Write>(writer: &mut W, text: &[u8]) -> Status
     ensures { Said (W.contents writer.old) (W.contents writer.new) text.now Status.Done result }

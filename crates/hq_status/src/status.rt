@@ -102,6 +102,8 @@ pub enum Status {
     RunFailed(RunFailure),
     /// Memory ran out.
     Memory,
+    /// A file can't be opened or made. Why is said where that is known.
+    Unopened,
     /// A file or a stream failed.
     File,
 }
@@ -135,7 +137,7 @@ impl Status {
             | Status::DrawnUntil(_)
             | Status::RunFailed(_) => 7,
             Status::Memory => 8,
-            Status::File => 9,
+            Status::Unopened | Status::File => 9,
         }
     }
 }
