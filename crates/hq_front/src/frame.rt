@@ -1,5 +1,11 @@
 //! From the words of a command line to an exit status.
 
+ghost use Rattle.std.specs.Prelude.{◌≡◌, ◌⊎◌, IfOk, map};
+ghost use Rattle.std.specs.Io.KnownBytes.{Keeps};
+ghost use Rattle.std.specs.Process.{exit_status};
+ghost use Rattle.std.specs.String.{string_bytes};
+ghost use Rattle.hq_status.specs.Statuses.{code_of};
+
 use hq_plain::explain;
 use hq_status::{Status, say_memory};
 use hq_words::WordsFault;
@@ -22,7 +28,9 @@ pub fn words_of(rt: &HostRuntime) -> io::Result<Vec<String>> {
 /// # Errors
 ///
 /// `AllocError` where there is no memory.
-pub fn texts_of(alloc: Global, words: &[String]) -> Result<Vec<&str>, AllocError> {
+pub fn texts_of(alloc: Global, words: &[String]) -> Result<Vec<&str>, AllocError>
+    ensures { IfOk result (λ texts. map (λ text. text.now) texts.items ≡ map (λ word. string_bytes word) words.now) }
+{
     let mut texts = Vec::with_capacity(alloc, words.len())?;
     for word in words {
         texts.push(word.as_str())?;
@@ -56,15 +64,22 @@ pub fn say_words(rt: &HostRuntime, fault: &WordsFault) -> Status {
 }
 
 /// Writes what is held back, and answers the status; where that fails it is `File`.
-fn flushed<W: Write>(writer: &mut W, status: Status) -> Status {
+fn flushed<W: Write>(writer: &mut W, status: Status) -> Status
+    ensures kept { Keeps (W.contents writer.old) (W.contents writer.new) }
+    ensures same { (result ≡ status) ⊎ (result ≡ Status.File) }
+{
     match writer.flush() {
         Ok(()) => status,
         Err(_) => Status::File,
     }
 }
 
-/// Writes what is held back of an answer, and says in plain words how the command ended.
-pub fn finished<W: Write>(rt: &HostRuntime, writer: &mut W, status: Status) -> Status {
+/// Writes what is held back of an answer, and says in plain words how the command ended. The status is `File` where
+/// that can't be written.
+pub fn finished<W: Write>(rt: &HostRuntime, writer: &mut W, status: Status) -> Status
+    ensures kept { Keeps (W.contents writer.old) (W.contents writer.new) }
+    ensures same { (result ≡ status) ⊎ (result ≡ Status.File) }
+{
     let status = flushed(writer, status);
     explain(rt, &status);
     status
@@ -79,7 +94,9 @@ fn say_no_text(rt: &HostRuntime) -> Status {
 }
 
 /// The exit status of a program that ended so, or whose words couldn't be had.
-pub fn exit_code(rt: &HostRuntime, ended: io::Result<Status>) -> ExitCode {
+pub fn exit_code(rt: &HostRuntime, ended: io::Result<Status>) -> ExitCode
+    ensures { IfOk ended (λ status. exit_status result ≡ code_of status) }
+{
     let status = match ended {
         Ok(status) => status,
         Err(error) => match error.kind() {

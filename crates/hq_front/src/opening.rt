@@ -1,6 +1,6 @@
 //! Files that commands read and write: where one can't be opened, that is written, and said on standard error.
 
-ghost use Rattle.std.specs.Prelude.{◌≡◌, IfErr, IfOk, OnOk};
+ghost use Rattle.std.specs.Prelude.{◌≡◌, IfErr, IfOk, OnOk, is_some};
 ghost use Rattle.hq_front.specs.Files.{FileReport, HasText, SaysUnopened};
 ghost use Rattle.hq_status.specs.Reports.{NoJob, Reported};
 
@@ -73,6 +73,7 @@ pub fn created<W: Write>(
     timeline: Option<&str>,
     writer: &mut W,
 ) -> Result<Option<Output>, Status>
+    ensures asked { IfOk result (λ out. is_some out ≡ is_some timeline.entry) }
     ensures unwritten { OnOk result (writer.new ≡ writer.old) }
     ensures unopened { IfErr result (SaysUnopened (W.contents writer.old) (W.contents writer.new)) }
 {
