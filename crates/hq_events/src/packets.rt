@@ -1,13 +1,12 @@
 //! What the job says of a packet.
 
-ghost use Rattle.std.specs.Prelude.{◌≡◌, ◌+◌, ◌-◌, ◌<◌, ◌≤◌, ◌↔◌, ℕ, Some, IfSome, MatchOption, All, slice_get};
-ghost use Rattle.std.specs.Prelude.{slice_index, IsTrue, IfOk, length};
+ghost use Rattle.std.specs.Prelude.{◌≡◌, ◌+◌, ◌<◌, ◌≤◌, ◌↔◌, ℕ, Some, IfSome, MatchOption, All, slice_get, slice_index};
+ghost use Rattle.std.specs.Prelude.{IsTrue, IfOk, length};
 ghost use Rattle.std.specs.List.{flat_map};
 ghost use Rattle.hq_footprint.specs.Bytes.{bytes_of};
 ghost use Rattle.hq_footprint.specs.Tasks.{Suits};
-ghost use Rattle.hq_job.specs.Access.{AreOfQueue};
 ghost use Rattle.hq_job.specs.Plan.{plan};
-ghost use Rattle.hq_model.specs.Job.{IsPacket, Dependency, Earlier, Frees, agent_of, packet, size_of};
+ghost use Rattle.hq_model.specs.Job.{IsPacket, Dependency, agent_of, packet};
 ghost use Rattle.hq_events.specs.Packets.{AllAre, IsEntry};
 ghost use Rattle.hq_model.specs.Machine.{IsByte};
 
@@ -16,30 +15,6 @@ use hq_footprint::{Range as ByteRange, Task};
 use hq_job::Job;
 use hq_model::BYTES;
 use std::alloc::{AllocError, Global};
-use std::ops::Range;
-
-/// How many slots the packet's queue has.
-pub fn slots_of(job: &Job, number: usize) -> usize
-    requires { IsPacket (plan job.now) number }
-    ensures { result ≡ size_of (plan job.now) number }
-{
-    job.valid();
-    let queue = job.packet(number).queue as usize;
-    job.queues()[queue].size as usize
-}
-
-/// The number of the first packet of the packet's queue.
-pub fn first_of_queue(job: &Job, number: usize) -> usize
-    requires { IsPacket (plan job.now) number }
-    ensures first { result ≤ number }
-    ensures frees { IsTrue job.now.rings → (e : ℕ) → Frees (plan job.now) e number
-        ↔ ((result ≤ e) × (e < number + 1 - size_of (plan job.now) number)) }
-    ensures earlier { (e : ℕ) → Earlier (plan job.now) e number ↔ ((result ≤ e) × (e < number)) }
-{
-    job.valid();
-    let queue = job.packet(number).queue as usize;
-    job.of_queue(queue).start
-}
 
 /// The signal of a slot of the packet, if the slot isn't null.
 pub fn dependency(job: &Job, number: usize, slot: usize) -> Option<u16>
@@ -51,18 +26,6 @@ pub fn dependency(job: &Job, number: usize, slot: usize) -> Option<u16>
         Some(signal) => *signal,
         None => None,
     }
-}
-
-/// The numbers of the packets of the packet's queue.
-pub fn queue_of(job: &Job, number: usize) -> Range<usize>
-    requires { IsPacket (plan job.now) number }
-    ensures are { AreOfQueue (plan job.now) (packet (plan job.now) number).queue result.start result.end }
-    ensures rising { result.start ≤ result.end }
-    ensures within { result.end ≤ length (plan job.now).packets }
-{
-    job.valid();
-    let queue = job.packet(number).queue as usize;
-    job.of_queue(queue)
 }
 
 /// How many slots for dependencies the packet has.

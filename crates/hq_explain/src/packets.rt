@@ -5,7 +5,7 @@ ghost use Rattle.std.specs.Io.KnownBytes.{Appends};
 ghost use Rattle.hq_explain.specs.Texts.{head_text, ordered_text, packet_line, packet_text, place_text};
 ghost use Rattle.hq_explain.specs.Texts.{standing_of, standing_text, title};
 
-use hq_graph::{Work, place_of, work_of};
+use hq_graph::{Work, work_of};
 use hq_job::Job;
 use hq_packet::Packet;
 use hq_report::KindWord;
@@ -93,7 +93,7 @@ fn standing_of(job: &Job, p: usize) -> Option<Standing>
     Some(Standing {
         packet: placed.packet,
         work: work_of(job, &placed.packet),
-        place: place_of(job, p),
+        place: job.place_in_queue(p),
         queue: queue_of(job, placed.queue as usize),
     })
 }

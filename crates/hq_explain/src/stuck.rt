@@ -67,7 +67,7 @@ fn wait_of(job: &Job, stuck: &Stuck, r: usize) -> (usize, Wait)
     ensures { IsFirstWait (plan job.now) r result.0 result.1 }
 {
     job.valid();
-    let _own = job.of_queue(job.packet(r).queue as usize);
+    let _own = job.queue_of(r);
     for p in 0..job.packets().len() {
         if let Some(by) = wait_at(job, stuck, p, r) {
             return (p, by);

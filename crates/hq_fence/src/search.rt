@@ -64,7 +64,7 @@ fn queue_of(before: &Before, p: usize) -> Circuit
 {
     let job = before.job();
     job.valid();
-    let numbers = job.of_queue(job.packet(p).queue as usize);
+    let numbers = job.queue_of(p);
     Circuit {
         start: numbers.start,
         first: p,

@@ -58,38 +58,6 @@ no_way job p r a f s t wait.Slot = f
 no_way job p r a f s t (wait.Signal k) = s k
 no_way job p r a f s t wait.Turn = t
 
--- the first n packets that are of the queue: none up to its first, then each
-counted : (job : Job) (q start stop : ℕ) → AreOfQueue job q start stop → stop ≤ length job.packets → (n : ℕ) → n ≤ stop → count_by (λ e. eqb e.queue q) (take n job.packets) ≡ n - start
-counted job q start stop are within zero l = omega arith
-counted job q start stop are within (suc n) l =
-    let there : n < length job.packets = omega arith in
-    let before = counted job q start stop are within n (omega arith) in
-    let one : suc n ≡ n + 1 = omega arith in
-    elim (cases_lt n start) [
-      | inl low ↦
-          let same = count_by_more_no (λ e. eqb e.queue q) job.packets n no_packet there (ne_eqb (packet job n).queue q (λ e. let h = are.within n there e in omega arith)) in
-          ap (λ m. count_by (λ e. eqb e.queue q) (take m job.packets)) one ∙ same ∙ before ∙ omega arith
-      | inr high ↦
-          let more = count_by_more_yes (λ e. eqb e.queue q) job.packets n no_packet there (eq-eqb (packet job n).queue q (are.of_queue n high (omega arith)).1) in
-          ap (λ m. count_by (λ e. eqb e.queue q) (take m job.packets)) one ∙ more ∙ ap (λ m. m + 1) before ∙ omega arith
-    ]
-
-stop_within : (job : Job) (q start stop : ℕ) → AreOfQueue job q start stop → start < stop → stop ≤ length job.packets
-stop_within job q start stop are l = let h = (are.of_queue (stop - 1) (omega arith) (omega arith)).0 in omega arith
-
--- Within its queue a packet stands as far behind the first as its number says.
-place_is : (job : Job) (q start stop p : ℕ) → AreOfQueue job q start stop → (packet job p).queue ≡ q → start ≤ p → p < stop → place_in_queue job p + start ≡ p
-place_is job q start stop p are e low high =
-    let h = counted job q start stop are (stop_within job q start stop are (omega arith)) p (omega arith) in
-    let g : place_in_queue job p ≡ p - start = ap (λ r. count_by (λ x. eqb x.queue r) (take p job.packets)) e ∙ h in
-    omega arith
-
-pub place_of : (job : Job) (q start stop p : ℕ) → AreOfQueue job q start stop → (packet job p).queue ≡ q → IsPacket job p → (start ≤ p) × (p - start ≡ place_in_queue job p)
-place_of job q start stop p are of is =
-    let b = are.within p is of in
-    let y : place_in_queue job p + start ≡ p = place_is job q start stop p are of b.0 b.1 in
-    (b.0, omega arith)
-
 pub some_stuck : (job : Job) (stuck : declared.Stuck) (p : ℕ) → TellsStuck job stuck → Stuck job p → IsTrue stuck.some
 some_stuck job stuck p t s = elim (is_or_not stuck.some) [ inl y ↦ y | inr n ↦ absurd (t.free n p s) ]
   where

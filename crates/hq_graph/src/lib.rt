@@ -29,7 +29,6 @@ pub use nodes::{Work, work_of};
 pub use rule::Rule;
 pub use ruling::rule_in;
 pub use stuck::{Stuck, stuck_of};
-pub use turns::place_of;
 pub use wait::Wait;
 pub use waiting::way_of;
 pub use words::NameWord;

@@ -3,7 +3,7 @@
 
 ghost use Rattle.std.specs.Prelude.{◌≡◌, ◌↔◌, ℕ, ◌<◌, ◌≤◌, IsTrue, IfOk, length, slice_index};
 ghost use Rattle.hq_job.specs.Plan.{plan};
-ghost use Rattle.hq_model.specs.Job.{Frees, IsPacket, place_in_queue};
+ghost use Rattle.hq_model.specs.Job.{Frees, IsPacket};
 ghost use Rattle.hq_model.specs.Order.{place};
 ghost use Rattle.hq_rows.specs.Lists.{AllAre};
 ghost use Rattle.hq_graph.specs.Known.{HasNoSlot};
@@ -13,34 +13,14 @@ use hq_job::Job;
 use hq_schedule::turn;
 use std::alloc::{AllocError, Global};
 
-/// How many packets of its queue stand before a packet.
-pub fn place_of(job: &Job, p: usize) -> usize
-    requires { IsPacket (plan job.now) p }
-    ensures { result ≡ place_in_queue (plan job.now) p }
-{
-    job.valid();
-    let numbers = job.of_queue(job.packet(p).queue as usize);
-    p - numbers.start
-}
-
-/// Whether p, which is below r, has its slot.
-fn frees(job: &Job, p: usize, r: usize) -> bool
-    requires earlier { p < r }
-    requires r_is { r < length job.now.packets }
-    ensures { IsTrue result ↔ Frees (plan job.now) p r }
-{
-    job.valid();
-    let size = job.queues()[job.packet(r).queue as usize].size as usize;
-    job.rings() && job.same_queue(p, r) && place_of(job, p) + size <= place_of(job, r)
-}
-
 /// Whether p has the slot of r.
 pub fn has_slot(job: &Job, p: usize, r: usize) -> bool
     requires p_is { IsPacket (plan job.now) p }
     requires r_is { IsPacket (plan job.now) r }
     ensures { IsTrue result ↔ Frees (plan job.now) p r }
 {
-    p < r && frees(job, p, r)
+    let freeing = job.freeing(r);
+    freeing.start <= p && p < freeing.end
 }
 
 /// When each packet is submitted.
@@ -61,8 +41,9 @@ fn has_no_slot(job: &Job, set: &[u64], r: usize) -> bool
     requires { IsPacket (plan job.now) r }
     ensures { IsTrue result ↔ HasNoSlot (plan job.now) set.now r }
 {
-    for q in 0..r {
-        if has(set, q) && has_slot(job, q, r) {
+    let freeing = job.freeing(r);
+    for q in freeing.start..freeing.end {
+        if has(set, q) {
             return true;
         }
     }

@@ -13,3 +13,4 @@ pub mod Spans
 pub mod Options
 pub mod BlockRows
 pub mod AllHeads
+pub mod Rings

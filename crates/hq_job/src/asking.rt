@@ -1,13 +1,16 @@
 //! What is asked of a job's packets, by their numbers.
 
-ghost use Rattle.std.specs.Prelude.{◌≡◌, ℕ, ◌↔◌, IsTrue, Some};
+ghost use Rattle.std.specs.Prelude.{◌≡◌, ℕ, ◌<◌, ◌≤◌, ◌↔◌, IsTrue, Some, length};
+ghost use Rattle.hq_job.specs.Access.{AreOfQueue};
 ghost use Rattle.hq_job.specs.Plan.{plan};
-ghost use Rattle.hq_model.specs.Job.{packet, IsPacket, Earlier, IsBarrier, Decrements, Dependency, agent_of};
+ghost use Rattle.hq_model.specs.Job.{packet, IsPacket, Earlier, IsBarrier, Decrements, Dependency, Frees, agent_of};
+ghost use Rattle.hq_model.specs.Job.{place_in_queue, size_of};
 ghost use Rattle.hq_model.specs.Job.Kind.{BarrierAnd, BarrierOr};
 ghost use Rattle.hq_model.specs.Fence.{need};
 
 use crate::job::Job;
 use hq_packet::{Packet, Scope};
+use std::ops::Range;
 
 impl Job {
     /// Whether there is a packet of this number.
@@ -34,6 +37,61 @@ impl Job {
         ensures { IsTrue result ↔ Earlier (plan self.now) p r }
     {
         p < r && self.is_packet(r) && self.same_queue(p, r)
+    }
+
+    /// The numbers of the packets of a packet's queue, itself among them.
+    pub fn queue_of(&self, number: usize) -> Range<usize>
+        requires { IsPacket (plan self.now) number }
+        ensures are { AreOfQueue (plan self.now) (packet (plan self.now) number).queue result.start result.end }
+        ensures from { result.start ≤ number }
+        ensures to { number < result.end }
+        ensures within { result.end ≤ length (plan self.now).packets }
+    {
+        self.valid();
+        self.of_queue(self.packet(number).queue as usize)
+    }
+
+    /// The numbers of the packets that stand before a packet in its queue.
+    pub fn earlier(&self, number: usize) -> Range<usize>
+        requires { IsPacket (plan self.now) number }
+        ensures are { (e : ℕ) → Earlier (plan self.now) e number ↔ ((result.start ≤ e) × (e < result.end)) }
+        ensures order { result.start ≤ result.end }
+        ensures end { result.end ≡ number }
+    {
+        self.queue_of(number).start..number
+    }
+
+    /// How many packets of its queue stand before a packet.
+    pub fn place_in_queue(&self, number: usize) -> usize
+        requires { IsPacket (plan self.now) number }
+        ensures { result ≡ place_in_queue (plan self.now) number }
+    {
+        number - self.queue_of(number).start
+    }
+
+    /// How many slots a packet's queue has.
+    fn slots_of(&self, number: usize) -> usize
+        requires { IsPacket (plan self.now) number }
+        ensures { result ≡ size_of (plan self.now) number }
+    {
+        self.valid();
+        self.queues()[self.packet(number).queue as usize].size as usize
+    }
+
+    /// The numbers of the packets that free a packet's slot: none where queues aren't rings.
+    pub fn freeing(&self, number: usize) -> Range<usize>
+        requires { IsPacket (plan self.now) number }
+        ensures are { (e : ℕ) → Frees (plan self.now) e number ↔ ((result.start ≤ e) × (e < result.end)) }
+        ensures order { result.start ≤ result.end }
+        ensures ahead { result.end ≤ number }
+    {
+        self.valid();
+        let start = self.queue_of(number).start;
+        if !self.rings() {
+            return start..start;
+        }
+        let end = (number + 1).saturating_sub(self.slots_of(number));
+        start..end.max(start)
     }
 
     /// Whether a packet has the barrier bit.

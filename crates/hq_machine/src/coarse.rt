@@ -12,7 +12,7 @@ ghost use Rattle.hq_model.specs.Journal.Coarse.{Complete, Rest};
 
 use crate::state::State;
 use hq_copies::{Copies, CopiesFault};
-use hq_events::packets::{done_of, queue_of};
+use hq_events::packets::done_of;
 use hq_events::{Phase, StepFault};
 use hq_job::Job;
 use hq_packet::Scope;
@@ -26,7 +26,7 @@ fn push_lanes(job: &Job, copies: &mut Copies) -> Result<(), CopiesFault>
 {
     let mut lane = 0;
     'queues: while lane < job.packets().len() {
-        let end = queue_of(job, lane).end;
+        let end = job.queue_of(lane).end;
         copies.release(lane..end, job.agent_of(lane), Scope::Agent)?;
         lane = end;
     }
@@ -117,7 +117,7 @@ impl State {
             return Err(StepFault::NotEnabled);
         }
         let done = done_of(job, number);
-        let numbers = queue_of(job, number);
+        let numbers = job.queue_of(number);
         self.write_back(job, number, numbers)?;
         self.decrement(done);
         self.set_phase(number, Phase::Complete);

@@ -13,7 +13,6 @@ ghost use Rattle.hq_machine.specs.Enabled.{IsFirstWaiting, IsFirstUnlaunched, Is
 ghost use Rattle.hq_machine.specs.View.{IsStateOf, state_of};
 
 use crate::state::State;
-use hq_events::packets::{first_of_queue, slots_of};
 use hq_events::{Phase, StepFault};
 use hq_job::Job;
 use std::ops::Range;
@@ -48,12 +47,7 @@ impl State {
             → (state_of (plan job.now) self.now).phase e ≡ machine.Phase.Complete) }
     {
         job.valid();
-        if !job.rings() {
-            return true;
-        }
-        let first = first_of_queue(job, number);
-        let end = (number + 1).saturating_sub(slots_of(job, number));
-        self.all_complete(first..end)
+        self.all_complete(job.freeing(number))
     }
 
     /// The packet that may be submitted, if one may.
@@ -154,7 +148,7 @@ impl State {
         if !job.has_bit(number) {
             return true;
         }
-        self.all_complete(first_of_queue(job, number)..number)
+        self.all_complete(job.earlier(number))
     }
 
     /// Whether all barrier packets before the packet in its queue are complete.
@@ -165,7 +159,7 @@ impl State {
             ↔ ((e : ℕ) → Earlier (plan job.now) e number → IsBarrier (plan job.now) e
             → (state_of (plan job.now) self.now).phase e ≡ machine.Phase.Complete) }
     {
-        self.barriers_complete(job, first_of_queue(job, number)..number)
+        self.barriers_complete(job, job.earlier(number))
     }
 
     /// Whether the packet is in its queue, and nothing before it there keeps it from its launch.

@@ -11,7 +11,7 @@ ghost use Rattle.hq_machine.specs.Enabled.{Observes, SlotObserved, SlotMissing, 
 ghost use Rattle.hq_machine.specs.View.{IsStateOf, row_of, state_of};
 
 use crate::state::State;
-use hq_events::packets::{dependency, queue_of, slot_count};
+use hq_events::packets::{dependency, slot_count};
 use hq_events::{Phase, StepFault};
 use hq_job::Job;
 use hq_packet::Packet;
@@ -177,7 +177,7 @@ impl State {
         ensures { Acquired (plan job.now) self.old packet self.new }
     {
         job.valid();
-        let numbers = queue_of(job, packet);
+        let numbers = job.queue_of(packet);
         let agent = job.agent_of(packet);
         let scope = job.acquire_of(packet);
         self.copies.acquire(numbers, agent, scope);

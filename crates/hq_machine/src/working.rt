@@ -11,7 +11,7 @@ ghost use Rattle.hq_machine.specs.Enabled.{MayFinish, Refused};
 ghost use Rattle.hq_machine.specs.View.{IsStateOf, row_of, stores_of, state_of};
 
 use crate::state::State;
-use hq_events::packets::{done_of, queue_of, read_at, read_count, write_count};
+use hq_events::packets::{done_of, read_at, read_count, write_count};
 use hq_events::{Phase, StepFault};
 use hq_job::Job;
 use std::alloc::AllocError;
@@ -60,7 +60,7 @@ impl State {
             (packet_of (plan job.now) packet).release }
     {
         job.valid();
-        let numbers = queue_of(job, packet);
+        let numbers = job.queue_of(packet);
         let agent = job.agent_of(packet);
         let scope = job.release_of(packet);
         self.copies.is_released(numbers, agent, scope)

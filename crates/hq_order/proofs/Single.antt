@@ -10,7 +10,7 @@ use Rattle.hq_model.specs.Job.{Job, packet, IsPacket, Earlier, Dependency, Decre
 use Rattle.hq_model.specs.Job.Kind.{BarrierAnd, BarrierOr}
 use Rattle.hq_job.specs.Access.{AreOfQueue}
 use Rattle.hq_waits.specs.Waits.{OfDependencies}
-use Rattle.hq_waits.proofs.Packets.{earlier_range}
+use Rattle.hq_job.proofs.Rings.{earlier_range}
 use Rattle.hq_order.specs.Rounds.{Precedes, Awaits, Direct}
 use Rattle.hq_model.specs.Order.{AwaitsAny, Whichever}
 use Rattle.hq_model.proofs.Orders.{bit_packet, earlier_packet}

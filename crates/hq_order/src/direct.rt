@@ -24,11 +24,10 @@ pub fn go_on(ahead: &mut [u64], job: &Job, r: usize)
     ensures { (p : ℕ) → IsTrue (has ahead.new p) ↔ Precedes (plan job.now) p r }
 {
     job.valid();
-    let placed = job.packet(r);
-    let start = job.of_queue(placed.queue as usize).start;
+    let start = job.queue_of(r).start;
     if r <= start {
         clear(ahead);
-    } else if placed.packet.head().barrier {
+    } else if job.has_bit(r) {
         insert_all(ahead, start, r);
     } else if job.is_barrier(r - 1) {
         insert(ahead, r - 1);

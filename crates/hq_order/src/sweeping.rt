@@ -49,13 +49,12 @@ fn unite_ahead(row: &mut [u64], job: &Job, rows: &[Vec<u64>], r: usize)
     ensures bit { (p : ℕ) → Earlier (plan job.now) p r → IsTrue (packet (plan job.now) r).bit → IsTrue (has row.new p) }
 {
     job.valid();
-    let placed = job.packet(r);
-    let start = job.of_queue(placed.queue as usize).start;
+    let start = job.queue_of(r).start;
     if r <= start {
         return;
     }
     unite(row, row_of(rows, r - 1));
-    if placed.packet.head().barrier {
+    if job.has_bit(r) {
         insert_all(row, start, r);
     } else if job.is_barrier(r - 1) {
         insert(row, r - 1);

@@ -3,5 +3,4 @@ pub mod Packets
 pub mod Orders
 pub mod Places
 pub mod Lasts
-pub mod Counts
 pub mod Slots

@@ -2,13 +2,13 @@
 
 ghost use Rattle.std.specs.Prelude.{◌≡◌, ℕ, ◌<◌, ◌≤◌, ◌↔◌, IsTrue, IfOk, All, length};
 ghost use Rattle.hq_job.specs.Plan.{plan};
-ghost use Rattle.hq_model.specs.Job.{IsPacket, Earlier, place_in_queue};
+ghost use Rattle.hq_model.specs.Job.{IsPacket, Earlier};
 ghost use Rattle.hq_model.specs.Order.{OrderList};
-ghost use Rattle.hq_ordercheck.specs.Placed.{IsTable, ArePlaces, StandsAhead, RisesOn, KeepsQueue};
+ghost use Rattle.hq_ordercheck.specs.Placed.{ArePlaces, StandsAhead, RisesOn, KeepsQueue};
 ghost use Rattle.hq_ordercheck.specs.Placed.{AreLasts, KeepsOrder};
 
 use crate::placing::{each_once, places};
-use crate::rings::{all_have_slots, queue_places};
+use crate::rings::all_have_slots;
 use crate::waits::{all_have_waited, last_places};
 use hq_job::Job;
 use std::alloc::{AllocError, Global};
@@ -52,42 +52,33 @@ fn all_keep_queues(job: &Job, places: &[usize]) -> bool
 }
 
 /// Whether the places keep the order of the queues, of what is waited for, and of slots.
-fn keeps_order(
-    job: &Job,
-    queue_places: &[usize],
-    turns: &[usize],
-    places: &[usize],
-    lasts: &[Option<usize>],
-) -> bool
+fn keeps_order(job: &Job, turns: &[usize], places: &[usize], lasts: &[Option<usize>]) -> bool
     requires lasts { AreLasts (plan job.now) places.now (length job.now.signals) lasts.now }
-    requires queue_places { IsTable (length job.now.packets) (place_in_queue (plan job.now)) queue_places.now }
     requires turns { length turns.now ≡ length job.now.packets }
     requires count { length places.now ≡ length job.now.packets }
     ensures { IsTrue result ↔ KeepsOrder (plan job.now) turns.now places.now }
 {
     all_keep_queues(job, places)
         && all_have_waited(job, places, lasts)
-        && all_have_slots(job, queue_places, turns, places)
+        && all_have_slots(job, turns, places)
 }
 
 /// Whether a list of packets is an order list of the job, by its tables.
 fn is_kept(
     job: &Job,
-    queue_places: &[usize],
     turns: &[usize],
     list: &[u16],
     places: &[usize],
     lasts: &[Option<usize>],
 ) -> bool
     requires lasts { AreLasts (plan job.now) places.now (length job.now.signals) lasts.now }
-    requires queue_places { IsTable (length job.now.packets) (place_in_queue (plan job.now)) queue_places.now }
     requires turns { ArePlaces (plan job.now) job.now.submissions turns.now }
     requires packets { All (IsPacket (plan job.now)) list.now }
     requires places { ArePlaces (plan job.now) list.now places.now }
     ensures { IsTrue result ↔ OrderList (plan job.now) list.now }
 {
     job.valid();
-    each_once(job, list, places) && keeps_order(job, queue_places, turns, places, lasts)
+    each_once(job, list, places) && keeps_order(job, turns, places, lasts)
 }
 
 /// Whether a list of packets is an order list of the job.
@@ -99,9 +90,8 @@ pub fn is_order_list(alloc: Global, job: &Job, list: &[u16]) -> Result<bool, All
     requires { All (IsPacket (plan job.now)) list.now }
     ensures { IfOk result (λ is. IsTrue is ↔ OrderList (plan job.now) list.now) }
 {
-    let queue_places = queue_places(alloc, job)?;
     let turns = places(alloc, job, job.submissions())?;
     let places = places(alloc, job, list)?;
     let lasts = last_places(alloc, job, &places)?;
-    Ok(is_kept(job, &queue_places, &turns, list, &places, &lasts))
+    Ok(is_kept(job, &turns, list, &places, &lasts))
 }

@@ -14,12 +14,6 @@ use Rattle.hq_schedule.specs.Placing.{Freeing}
 use Rattle.hq_waits.proofs.Packets.{packet_at}
 use Rattle.hq_rows.proofs.Filling.{Gathered}
 
-pub counted : (v : JobValue) (n : ℕ) (x : Placed) → n < length v.packets → x ≡ slice_index_or v.packets n x → count_by (λ y. y.queue == x.queue) (take n v.packets) ≡ place_in_queue (plan v) n
-counted v n x l e =
-    sym (ap (λ q. count_by (λ y. y.queue == q.queue) (take n (map planned v.packets))) (packet_at v n x l e)
-    ∙ ap (λ ys. count_by (λ y. y.queue == x.queue) ys) (take-map planned n v.packets)
-    ∙ simp fold-map refl)
-
 -- the first place where p stands
 pub first_place : (list : List ℕ) (i p : ℕ) → i < length list → slice_index list i ≡ p → ((k : ℕ) → k < i → slice_index list k ≢ p) → i ≡ place list p
 first_place list i p l e none =

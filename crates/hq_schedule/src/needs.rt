@@ -23,8 +23,8 @@ fn insert_earlier(job: &Job, number: usize, row: &mut [u64])
     ensures len { length row.new ≡ length row.old }
 {
     job.valid();
-    let numbers = job.of_queue(job.packet(number).queue as usize);
-    insert_all(row, numbers.start, number);
+    let numbers = job.earlier(number);
+    insert_all(row, numbers.start, numbers.end);
 }
 
 /// When a packet is submitted.

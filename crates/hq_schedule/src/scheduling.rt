@@ -75,7 +75,7 @@ fn end_of_queue(job: &Job, number: usize) -> usize
     ensures behind { (r : ℕ) → number < r → r < result → Earlier (plan job.now) number r }
 {
     job.valid();
-    job.of_queue(job.packet(number).queue as usize).end
+    job.queue_of(number).end
 }
 
 /// The packet to look at behind one that may not come next: none between them may.
