@@ -1,3 +1,4 @@
 pub mod Jobs
 pub mod Faults
 pub mod Statuses
+pub mod Changes

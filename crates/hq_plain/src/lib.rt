@@ -4,8 +4,10 @@
 //! that displays itself; what it displays is its definition's text. Where standard error fails, nothing is said.
 #![tactic(auto)]
 
+mod changes;
 mod faults;
 mod jobs;
 mod statuses;
 
+pub use changes::{HeadLines, Lowered, Place};
 pub use statuses::{Meaning, explain, explain_unopened};
