@@ -6,7 +6,8 @@ import tempfile
 import time
 
 HERE = os.path.dirname(os.path.abspath(__file__))
-HSAQ = os.path.join(HERE, '..', 'crates', 'hq_cli', 'out', 'hq_cli')
+# the program with all commands, as users get it
+HSAQ = subprocess.run([os.path.join(HERE, '..', 'tools', 'whole'), 'hq_cli'], stdout=subprocess.PIPE, text=True, check=True).stdout.strip()
 
 
 def surroundings():
