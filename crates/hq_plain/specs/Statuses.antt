@@ -54,6 +54,11 @@ drawn_words found.Ordered = []
 drawn_words found.Conflict = codes "nothing orders the conflicts that are drawn in red"
 drawn_words found.Stuck = codes "the packets drawn in red can never complete, in any run"
 
+-- which event can't happen where it stands, with what is said of that aside
+abbrev pub event_words : List ℕ → ℕ → List ℕ
+event_words aside place = codes "an event isn't enabled after those before it" ++ aside
+    ++ codes ": counted from 0, number " ++ decimal place
+
 -- What a status means. Of an answer that is all that was asked for there is nothing to say, an explanation says all of
 -- it itself, and why a file can't be opened was said by then.
 abbrev pub meaning : Status → List ℕ
@@ -71,10 +76,8 @@ meaning (status.Shown difference) = difference_words difference
 meaning (status.CertificateRefused fault) = cert_words fault
 meaning (status.CertificateFails fault) = check_words fault
 meaning (status.TimelineRefused fault) = time_words fault
-meaning (status.NotEnabled place) =
-    codes "an event isn't enabled after those before it: counted from 0, number " ++ decimal place
-meaning (status.DrawnUntil place) = codes "an event isn't enabled after those before it, "
-    ++ codes "up to which the timeline is drawn: counted from 0, number " ++ decimal place
+meaning (status.NotEnabled place) = event_words [] place
+meaning (status.DrawnUntil place) = event_words (codes ", up to which the timeline is drawn") place
 meaning (status.RunFailed failure) = failure_words failure
 meaning status.Memory = codes "there is no memory for it"
 meaning status.File = codes "a file or a stream failed, so there is no whole answer"

@@ -3,7 +3,7 @@
 
 ghost use Rattle.std.specs.Prelude.{◌≡◌, ◌↔◌, IsTrue, Some, []};
 ghost use Rattle.hq_plain.specs.Statuses.{clash_words, lack_words, origin_words, subject_words, difference_words};
-ghost use Rattle.hq_plain.specs.Statuses.{drawn_words, meaning};
+ghost use Rattle.hq_plain.specs.Statuses.{drawn_words, event_words, meaning};
 
 use crate::faults::{CertWords, CheckWords, FailureWords, TimeWords};
 use crate::jobs::{JobWords, PacketWords};
@@ -120,6 +120,26 @@ fn words_of_drawn(found: Found) -> &'static str
     }
 }
 
+/// Which event can't happen where it stands, with what is said of that aside.
+#[derive(Clone, Copy)]
+struct EventWords {
+    aside: &'static str,
+    place: usize,
+}
+
+impl fmt::Display for EventWords {
+    ghost output = { λ w. Some (event_words w.aside.now w.place) };
+
+    fn fmt<W: fmt::Write>(&self, f: &mut fmt::Formatter<W>) -> fmt::Result {
+        let aside = self.aside;
+        let place = self.place;
+        write!(
+            f,
+            "an event isn't enabled after those before it{aside}: counted from 0, number {place}"
+        )
+    }
+}
+
 /// What a status means. An explanation says all of that itself, and why a file can't be opened was said by then.
 #[derive(Clone, Copy)]
 pub struct Meaning(pub Status);
@@ -147,19 +167,12 @@ impl fmt::Display for Meaning {
             Status::CertificateRefused(fault) => CertWords(fault).fmt(f),
             Status::CertificateFails(fault) => CheckWords(fault).fmt(f),
             Status::TimelineRefused(fault) => TimeWords(fault).fmt(f),
-            Status::NotEnabled(place) => {
-                write!(
-                    f,
-                    "an event isn't enabled after those before it: counted from 0, number {place}"
-                )
+            Status::NotEnabled(place) => EventWords { aside: "", place }.fmt(f),
+            Status::DrawnUntil(place) => EventWords {
+                aside: ", up to which the timeline is drawn",
+                place,
             }
-            Status::DrawnUntil(place) => {
-                write!(
-                    f,
-                    "an event isn't enabled after those before it, up to which the timeline is drawn: counted from 0, \
-                     number {place}"
-                )
-            }
+            .fmt(f),
             Status::RunFailed(failure) => FailureWords(failure).fmt(f),
             Status::Memory => f.write_str("there is no memory for it"),
             Status::File => f.write_str("a file or a stream failed, so there is no whole answer"),
