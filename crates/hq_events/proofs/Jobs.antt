@@ -1,6 +1,6 @@
 -- What is known of a valid job's numbers.
-use Rattle.std.proofs.Common.{◌≡◌, ℕ, zero, suc, ◌+◌, ◌-◌, ◌<◌, ◌≤◌, ◌↔◌, inl, inr, IsTrue, IfSome, All, List, [], ◌∷◌, ◌++◌, Option, Some, None, MatchOption, slice_get, subst, get_or, length-append, length, take, count_by, eqb, sym, ◌∙◌, ap, arith}
-use Rattle.std.proofs.lemmas.Bool.{cases_lt, eq-eqb, ne_eqb}
+use Rattle.std.proofs.Common.{◌≡◌, ℕ, zero, suc, ◌+◌, ◌-◌, ◌<◌, ◌≤◌, inl, inr, IfSome, All, List, [], ◌∷◌, ◌++◌, Option, Some, None, MatchOption, slice_get, subst, get_or, length-append, length, sym, ◌∙◌, ap, arith}
+use Rattle.std.proofs.lemmas.Bool.{cases_lt}
 use Rattle.std.specs.List.{flat_map}
 use Rattle.std.proofs.lemmas.List.{get_or_append_left, get_or-append-add, get_or-append_right, get_or-map}
 use Rattle.std.proofs.lemmas.Option.{slice_get-get_or}
@@ -16,9 +16,7 @@ use Rattle.hq_job.specs.View.{PacketIsRead}
 use Rattle.hq_job.specs.Plan.{plan, planned}
 use Rattle.hq_tables.specs.Tables.{total_of}
 use Rattle.hq_tables.specs.declared.rows.Placed.{Placed}
-use Rattle.std.proofs.lemmas.List.Sums.{count_by_more_no, count_by_more_yes}
-use Rattle.hq_job.specs.Access.{AreOfQueue}
-use Rattle.hq_model.specs.Job.{Job, Packet, packet, IsPacket, agent_of, no_packet, place_in_queue, size_of, Frees}
+use Rattle.hq_model.specs.Job.{Job, Packet, packet, IsPacket, agent_of, no_packet}
 use Rattle.hq_model.specs.Theorems.{Valid}
 
 pub agent_below : (job : Job) (p : ℕ) → Valid job → IsPacket job p → agent_of job p < job.agents

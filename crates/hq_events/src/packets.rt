@@ -1,7 +1,7 @@
 //! What the job says of a packet.
 
 ghost use Rattle.std.specs.Prelude.{◌≡◌, ◌+◌, ◌<◌, ◌≤◌, ◌↔◌, ℕ, Some, IfSome, MatchOption, All, slice_get, slice_index};
-ghost use Rattle.std.specs.Prelude.{IsTrue, IfOk, length};
+ghost use Rattle.std.specs.Prelude.{IfOk, length};
 ghost use Rattle.std.specs.List.{flat_map};
 ghost use Rattle.hq_footprint.specs.Bytes.{bytes_of};
 ghost use Rattle.hq_footprint.specs.Tasks.{Suits};

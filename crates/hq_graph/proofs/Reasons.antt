@@ -1,16 +1,14 @@
 -- Rules, waits and conflicts.
 use Rattle.std.specs.Prelude.{MatchOption}
-use Rattle.std.proofs.Common.{◌≡◌, ◌↔◌, ℕ, zero, suc, ◌+◌, ◌-◌, ◌<◌, ◌≤◌, ◌⊎◌, inl, inr, Bool, true, false, IsTrue, List, [], ◌∷◌, Option, Some, None, length, take, slice_index, count_by, eqb, refl, sym, subst, ◌∙◌, ap, arith}
-use Rattle.std.proofs.lemmas.Bool.{cases_lt, eq-eqb, ne_eqb}
-use Rattle.std.proofs.lemmas.List.Sums.{count_by_more_no, count_by_more_yes}
-use Rattle.hq_model.specs.Job.{Job, packet, no_packet, IsPacket, place_in_queue, Frees}
+use Rattle.std.proofs.Common.{◌≡◌, ◌↔◌, ℕ, suc, ◌-◌, ◌<◌, ◌≤◌, ◌⊎◌, inl, inr, Bool, true, false, IsTrue, List, [], ◌∷◌, Option, Some, None, length, slice_index, refl, sym, subst, ◌∙◌, ap, arith}
+use Rattle.std.proofs.lemmas.Bool.{cases_lt}
+use Rattle.hq_model.specs.Job.{Job, packet, IsPacket, Frees}
 use Rattle.hq_model.specs.Order.{Before, OrderList, In, Stuck, place}
 use Rattle.hq_model.specs.Order.Before.{by_bit, by_queue, by_and, by_or, through}
 use Rattle.hq_model.specs.Fence.{Ordered}
 use Rattle.hq_model.specs.Theorems.{Valid}
 use Rattle.hq_model.proofs.Places.{at_place, place_at, in_more, in_pushed}
 use Rattle.hq_bits.specs.Bits.{has}
-use Rattle.hq_job.specs.Access.{AreOfQueue}
 use Rattle.hq_audit.specs.declared.directed.Unshown.{Unshown}
 use Rattle.hq_audit.specs.declared.fault.AuditNo.TheVariants as audit
 use Rattle.hq_audit.specs.Refused.{AllShown, IsFirstUnshown}

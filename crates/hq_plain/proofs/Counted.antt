@@ -1,5 +1,5 @@
 -- How many heads pass a test at most.
-use Rattle.std.proofs.Common.{ℕ, ◌≤◌, Bool, List, length, zip, arith}
+use Rattle.std.proofs.Common.{◌≤◌, Bool, List, length, zip, arith}
 use Rattle.std.proofs.lemmas.List.Sums.{count_by-le-length}
 use Rattle.std.proofs.lemmas.Slice.Zip.{length-zip}
 use Rattle.hq_packet.specs.declared.packet.Head.{Head}

@@ -1,17 +1,11 @@
 -- Places in queues and in the order of submission, and what frees slots.
-use Rattle.std.proofs.Common.{◌≡◌, ℕ, ◌+◌, ◌<◌, ◌≤◌, ◌≢◌, ◌↔◌, inl, inr, ◌==◌, IsTrue, List, length, map, take, count_by, refl, sym, ◌∙◌, ap, subst, arith, slice_index, slice_index_or}
+use Rattle.std.proofs.Common.{◌≡◌, ℕ, ◌+◌, ◌<◌, ◌≤◌, ◌≢◌, ◌↔◌, inl, inr, IsTrue, List, length, sym, ◌∙◌, ap, subst, arith, slice_index}
 use Rattle.std.proofs.lemmas.Bool.{cases_lt}
-use Rattle.std.proofs.lemmas.List.Folds.{fold-map}
-use Rattle.std.proofs.lemmas.List.{take-map}
-use Rattle.hq_tables.specs.declared.rows.Placed.{Placed}
-use Rattle.hq_job.specs.Value.{JobValue}
-use Rattle.hq_job.specs.Plan.{plan, planned}
-use Rattle.hq_model.specs.Job.{Job, IsPacket, place_in_queue, Frees}
+use Rattle.hq_model.specs.Job.{Job, IsPacket, Frees}
 use Rattle.hq_model.specs.Order.{place, In, FreesFor}
 use Rattle.hq_model.proofs.Places.{at_place, place_at, in_of}
 use Rattle.hq_bits.specs.Bits.{has}
 use Rattle.hq_schedule.specs.Placing.{Freeing}
-use Rattle.hq_waits.proofs.Packets.{packet_at}
 use Rattle.hq_rows.proofs.Filling.{Gathered}
 
 -- the first place where p stands
