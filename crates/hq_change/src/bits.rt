@@ -71,9 +71,6 @@ fn foresee(
     Ok(())
 }
 
-/// Drops a job. In a proof a call is one step, and a drop among others takes as long as a hundred.
-pub fn let_go(_job: Job) {}
-
 /// Puts another job in the place of one.
 fn put(job: &mut Job, other: Job)
     ensures { job.new ≡ other }
@@ -133,11 +130,11 @@ fn foreseen(
     match foresee_all(alloc, &mut low, search, foresight, watch) {
         Ok(true) => Ok(Some(low)),
         Ok(false) => {
-            let_go(low);
+            low.let_go();
             Ok(None)
         }
         Err(error) => {
-            let_go(low);
+            low.let_go();
             Err(error)
         }
     }

@@ -13,7 +13,7 @@ ghost use Rattle.hq_audit.specs.declared.fault.AuditNo.TheVariants.{Memory};
 ghost use Rattle.hq_change.specs.Minimal.{AtOrAbove, IsFixed, IsMinimal, IsOn, IsTrimmed};
 
 use crate::attempt::Search;
-use crate::bits::{let_go, settle_bits};
+use crate::bits::settle_bits;
 use crate::foresight::{Foresight, conflicts_of};
 use crate::level::Level;
 use crate::settling::settle;
@@ -166,7 +166,7 @@ pub fn trim(alloc: Global, mut job: Job, watch: &dyn Watch) -> Result<Job, Audit
     match take_needless(alloc, &mut job, watch) {
         Ok(()) => Ok(job),
         Err(no) => {
-            let_go(job);
+            job.let_go();
             Err(no)
         }
     }
@@ -188,7 +188,7 @@ pub fn fix(alloc: Global, mut job: Job, watch: &dyn Watch) -> Result<Job, AuditN
     match give_lacking(alloc, &mut job, watch) {
         Ok(()) => Ok(job),
         Err(no) => {
-            let_go(job);
+            job.let_go();
             Err(no)
         }
     }

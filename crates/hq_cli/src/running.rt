@@ -15,9 +15,6 @@ use std::io::Write;
 use std::sync::Wait;
 use std::thread::Threads;
 
-/// Drops a job. In a proof a call is one step, and a drop among others takes as long as a hundred.
-fn let_go(_job: Job) {}
-
 /// Drops kits.
 fn let_kits_go(_kits: Vec<Kit>) {}
 
@@ -32,13 +29,13 @@ fn run_found<W: Write>(
     ensures { Reported (RunAnswer job) (W.contents writer.old) (W.contents writer.new) result }
 {
     let Ok(kits) = stock_kits(rt.alloc(), &job) else {
-        let_go(job);
+        job.let_go();
         return say_memory(writer);
     };
     let mut out = match created(rt, timeline, writer) {
         Ok(out) => out,
         Err(status) => {
-            let_go(job);
+            job.let_go();
             let_kits_go(kits);
             return status;
         }
@@ -100,7 +97,7 @@ pub fn witness<W: Write>(
     match job_of(rt, job, writer) {
         Ok(job) => {
             let status = witness_found(rt, &job, good, bad, writer);
-            let_go(job);
+            job.let_go();
             status
         }
         Err(status) => status,

@@ -7,7 +7,6 @@ ghost use Rattle.hq_cert.specs.View.{rule_of, line_of};
 ghost use Rattle.hq_model.specs.Job.{packet};
 ghost use Rattle.hq_model.specs.Job.{IsPacket};
 ghost use Rattle.hq_model.specs.Certificate.{Says, signals};
-ghost use Rattle.hq_model.specs.Order as order;
 ghost use Rattle.hq_order.specs.Rounds.{IsFirstWithin, Reaches, ByOr};
 ghost use Rattle.hq_derive.specs.Rests.{Below, ByMiddle, FollowsAlone};
 ghost use Rattle.hq_derive.specs.Gathered.{initial_of, lines_of, AreSound, AddsLine, Numbered, Ruled};
@@ -37,14 +36,6 @@ pub struct Lines {
     /// The numbers of the lines of later rounds, by their ranks.
     numbers: Vec<u32>,
     lines: Store,
-}
-
-/// The first round in which p is before r.
-pub fn round_of(before: &Before, p: usize, r: usize) -> usize
-    requires { order.Before before.now p r }
-    ensures { IsFirstWithin before.now result p r }
-{
-    before.round(p, r).unwrap()
 }
 
 impl Lines {
@@ -298,7 +289,7 @@ impl Lines {
         if let Some(number) = self.known(p, r) {
             return Ok(number);
         }
-        self.numbered(alloc, before, round_of(before, p, r), p, r)
+        self.numbered(alloc, before, before.first_round(p, r), p, r)
     }
 
     /// The rule by which p is before r, with the lines that it cites.

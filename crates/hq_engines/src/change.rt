@@ -18,7 +18,7 @@ use hq_jobtext::rewrite;
 use hq_judging::laws::stuck_exactly;
 use hq_judging::say_no_certificate;
 use hq_packet::Head;
-use hq_status::{Status, let_go, say_text, take_job_text};
+use hq_status::{Status, say_text, take_job_text};
 use std::alloc::{AllocError, Global};
 use std::io::{Read, Write};
 
@@ -77,11 +77,11 @@ fn with_text(
     ensures memory { IfErr result (λ no. no ≡ Memory) }
 {
     let Ok(new) = rewritten(alloc, text, job, &changed) else {
-        let_go(changed);
+        changed.let_go();
         return Err(AuditNo::Memory);
     };
     let Ok(heads) = job.heads(alloc) else {
-        let_go(changed);
+        changed.let_go();
         return Err(AuditNo::Memory);
     };
     let changed = Changed {
@@ -152,7 +152,7 @@ pub fn change_engine<R: Read, W: Write>(
     match take_job_text(alloc, reader, writer) {
         Ok((text, job)) => {
             let answer = change_found(alloc, writer, &text, &job, aim, watch);
-            let_go(job);
+            job.let_go();
             answer
         }
         Err(status) => (status, None),

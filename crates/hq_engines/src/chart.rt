@@ -12,7 +12,7 @@ use crate::replay::take_journal;
 use hq_chart::{ChartFault, chart};
 use hq_events::{Event, Journal};
 use hq_job::Job;
-use hq_status::{Status, let_go, say_memory, take_job};
+use hq_status::{Status, say_memory, take_job};
 use hq_timeline::{ReplayFault, replay};
 use std::alloc::Global;
 use std::io::{Read, Write};
@@ -132,7 +132,7 @@ pub fn chart_engine<R: Read, S: Read, W: Write>(
     match take_job(alloc, reader, writer) {
         Ok(job) => {
             let status = chart_read(alloc, timeline, writer, &job, copies);
-            let_go(job);
+            job.let_go();
             status
         }
         Err(status) => status,

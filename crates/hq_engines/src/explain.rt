@@ -5,7 +5,7 @@ ghost use Rattle.hq_status.specs.Reports.{JobTextReport, ReaderReport, Reported}
 
 use hq_explain::{ExplainFault, Which, explain};
 use hq_job::Job;
-use hq_status::{Status, let_go, say_memory, take_job};
+use hq_status::{Status, say_memory, take_job};
 use std::alloc::Global;
 use std::io::{Read, Write};
 
@@ -34,7 +34,7 @@ pub fn explain_engine<R: Read, W: Write>(
     match take_job(alloc, reader, writer) {
         Ok(job) => {
             let status = explain_found(alloc, writer, &job, which);
-            let_go(job);
+            job.let_go();
             status
         }
         Err(status) => status,

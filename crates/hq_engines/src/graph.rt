@@ -5,7 +5,7 @@ ghost use Rattle.hq_status.specs.Reports.{JobTextReport, ReaderReport, Reported}
 
 use hq_graph::{GraphFault, graph};
 use hq_job::Job;
-use hq_status::{Status, let_go, say_memory, take_job};
+use hq_status::{Status, say_memory, take_job};
 use std::alloc::Global;
 use std::io::{Read, Write};
 
@@ -29,7 +29,7 @@ pub fn graph_engine<R: Read, W: Write>(alloc: Global, reader: &mut R, writer: &m
     match take_job(alloc, reader, writer) {
         Ok(job) => {
             let status = graph_found(alloc, writer, &job);
-            let_go(job);
+            job.let_go();
             status
         }
         Err(status) => status,

@@ -10,9 +10,7 @@ ghost use Rattle.hq_status.specs.Reports.{JobTextReport, OfReader, ReaderReport,
 use crate::buffers::say_buffers;
 use hq_events::Journal;
 use hq_job::Job;
-use hq_status::{
-    Status, TimelineFault, TimelineReason, let_go, say, say_file, say_memory, take_job,
-};
+use hq_status::{Status, TimelineFault, TimelineReason, say, say_file, say_memory, take_job};
 use hq_timeline::{ReadFault, ReplayFault, TimeFault, TimeReason, read, replay};
 use std::alloc::Global;
 use std::fmt;
@@ -150,7 +148,7 @@ pub fn replay_engine<R: Read, S: Read, W: Write>(
     match take_job(alloc, reader, writer) {
         Ok(job) => {
             let status = replay_read(alloc, timeline, writer, &job);
-            let_go(job);
+            job.let_go();
             status
         }
         Err(status) => status,

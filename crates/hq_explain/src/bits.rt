@@ -12,7 +12,7 @@ ghost use Rattle.hq_explain.specs.declared.fault.ExplainFault.TheVariants.{Memor
 
 use crate::change::{Change, changed};
 use crate::fault::ExplainFault;
-use crate::scopes::{is_ordered, let_go};
+use crate::scopes::is_ordered;
 use hq_bits::{WORDS, insert};
 use hq_job::Job;
 use hq_order::Before;
@@ -61,7 +61,7 @@ fn bits_order(
     let mut copy = job.copy(alloc)?;
     set_bits(&mut copy, lo, hi);
     let ordered = orders(alloc, &copy, a, b);
-    let_go(copy);
+    copy.let_go();
     ordered
 }
 

@@ -68,14 +68,6 @@ fn write_rule<W: Write>(writer: &mut W, job: &Job, p: usize, r: usize, rule: Rul
     write!(writer, "{step}: {words}\n")
 }
 
-/// The first round in which p is before r.
-fn round_of(before: &Before, p: usize, r: usize) -> usize
-    requires { order.Before before.now p r }
-    ensures { IsFirstWithin before.now result p r }
-{
-    before.round(p, r).unwrap()
-}
-
 /// Writes the step from p to r, which one rule makes.
 fn write_step<W: Write>(
     writer: &mut W,
@@ -107,9 +99,9 @@ fn write_steps<W: Write>(
 {
     match before.middle(round, p, r) {
         Some(m) => {
-            let first = round_of(before, p, m);
+            let first = before.first_round(p, m);
             write_steps(writer, job, before, first, p, m)?;
-            let second = round_of(before, m, r);
+            let second = before.first_round(m, r);
             write_steps(writer, job, before, second, m, r)
         }
         None => write_step(writer, job, before, p, r),
@@ -138,7 +130,7 @@ fn write_there<W: Write>(
     ensures { OnOk result (Wrote (W.contents writer.old) (W.contents writer.new) (PathText job.now before.now p r)) }
 {
     write_title(writer, p, r)?;
-    let round = round_of(before, p, r);
+    let round = before.first_round(p, r);
     write_steps(writer, job, before, round, p, r)
 }
 

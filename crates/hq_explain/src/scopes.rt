@@ -29,9 +29,6 @@ pub fn is_ordered(before: &Before, a: usize, b: usize) -> bool
     direct(before, a, b).is_ok()
 }
 
-/// Drops a job. In a proof a call is one step, and a drop among others takes as long as a hundred.
-pub fn let_go(_job: Job) {}
-
 /// The rounds of a job's order.
 fn rounds_of(alloc: Global, job: &Job) -> Result<Rounds, ExplainFault>
     ensures rounds { IfOk result (AreOf (plan job.now)) }
@@ -61,7 +58,7 @@ impl Trial {
         match rounds_of(alloc, &copy) {
             Ok(rounds) => Ok(Trial { copy, rounds }),
             Err(error) => {
-                let_go(copy);
+                copy.let_go();
                 Err(error)
             }
         }

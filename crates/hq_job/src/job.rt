@@ -105,6 +105,9 @@ impl Job {
         let _tables = &self.tables;
     }
 
+    /// Drops the job. In a proof this call is one step, where a drop among others is one for each field of a job.
+    pub fn let_go(self) {}
+
     /// How many agents there are.
     pub fn agents(&self) -> usize
         ensures { result ≡ length self.now.agents }

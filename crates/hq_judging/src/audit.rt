@@ -16,7 +16,7 @@ use hq_cert::Certificate;
 use hq_certtext::{PrintFault, print};
 use hq_finding::{Kind, Why};
 use hq_job::Job;
-use hq_status::{Status, let_go, say, say_memory, take_job};
+use hq_status::{Status, say, say_memory, take_job};
 use std::alloc::Global;
 use std::fmt;
 use std::io::{Read, Write};
@@ -102,7 +102,7 @@ pub fn audit_engine<R: Read, W: Write>(alloc: Global, reader: &mut R, writer: &m
         Ok(job) => {
             let found = find(alloc, &job);
             let status = say_found(alloc, writer, &job, found);
-            let_go(job);
+            job.let_go();
             status
         }
         Err(status) => status,
@@ -123,7 +123,7 @@ pub fn audit_wide_engine<T: Threads + Sync, R: Read, W: Write>(
         Ok(job) => {
             let found = find_wide(rt, alloc, &job);
             let status = say_found(alloc, writer, &job, found);
-            let_go(job);
+            job.let_go();
             status
         }
         Err(status) => status,

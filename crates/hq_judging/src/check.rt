@@ -15,7 +15,7 @@ use crate::readers::Together;
 use hq_certcheck::{Accepted, CheckNo, check_seen_wide};
 use hq_certread::{CertFault, CertReason};
 use hq_job::Job;
-use hq_status::{CheckFault, Status, let_go, say, say_memory, take_job};
+use hq_status::{CheckFault, Status, say, say_memory, take_job};
 use std::alloc::Global;
 use std::fmt;
 use std::io::{Read, Write};
@@ -159,7 +159,7 @@ pub fn say_checked<W: Write>(writer: &mut W, checked: Result<Accepted, (CheckNo,
             status
         }
         Err((no, job)) => {
-            let_go(job);
+            job.let_go();
             say_refused(writer, &no)
         }
     }

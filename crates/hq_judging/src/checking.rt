@@ -16,7 +16,7 @@ use hq_cert::Certificate;
 use hq_certcheck::Seen;
 use hq_certread::{CertFault, Progress, ReadFault};
 use hq_job::Job;
-use hq_status::{Status, let_go, say_file, say_memory};
+use hq_status::{Status, say_file, say_memory};
 use hq_text::{Source, TURNS, TakesLines, read_lines};
 use std::alloc::Global;
 use std::io::{Read, Write};
@@ -183,7 +183,7 @@ pub fn take_certificate<K: ReadsCertificates, R: Read, W: Write>(
     match Checking::new(alloc, job) {
         Ok(checking) => read_certificate(by, alloc, reader, writer, checking),
         Err(job) => {
-            let_go(job);
+            job.let_go();
             Err(say_memory(writer))
         }
     }

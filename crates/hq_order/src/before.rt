@@ -276,6 +276,14 @@ impl<'a> Before<'a> {
         first_turned(rounds, &self.columns, p, r)
     }
 
+    /// That round, where it is known that p is before r.
+    pub fn first_round(&self, p: usize, r: usize) -> usize
+        requires { order.Before self.now p r }
+        ensures { IsFirstWithin self.now result p r }
+    {
+        self.round(p, r).unwrap()
+    }
+
     /// The least packet that p is before, and that is before r, by rounds below that in which p is first before r.
     pub fn middle(&self, round: usize, p: usize, r: usize) -> Option<usize>
         requires p_is { p < length self.now.packets }

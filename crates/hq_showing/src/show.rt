@@ -7,7 +7,7 @@ ghost use Rattle.hq_showing.specs.Show.{packets_text, packet_line, show_text, Sh
 
 use hq_job::Job;
 use hq_report::ShownPacket;
-use hq_status::{Status, let_go, take_job};
+use hq_status::{Status, take_job};
 use hq_tables::{Placed, Queue};
 use std::alloc::Global;
 use std::io;
@@ -74,7 +74,7 @@ pub fn show_engine<R: Read, W: Write>(alloc: Global, reader: &mut R, writer: &mu
     match take_job(alloc, reader, writer) {
         Ok(job) => {
             let status = show_found(writer, &job);
-            let_go(job);
+            job.let_go();
             status
         }
         Err(status) => status,

@@ -14,4 +14,4 @@ pub use saying::{say, say_file, say_memory, say_text, say_unopened};
 pub use status::{
     CheckFault, Difference, Differs, RunFailure, Status, TimelineFault, TimelineReason,
 };
-pub use taking::{let_go, take_job, take_job_text};
+pub use taking::{take_job, take_job_text};

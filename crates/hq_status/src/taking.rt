@@ -14,9 +14,6 @@ use hq_tables::Reason;
 use std::alloc::Global;
 use std::io::{Read, Write};
 
-/// Drops a job. In a proof its call is one step, where a drop at the end of a function is one for each field of a job.
-pub fn let_go(_job: Job) {}
-
 /// Writes why there is no job.
 fn say_no_job<W: Write>(writer: &mut W, fault: JobFault) -> Status
     ensures { SaysNoJob fault (W.contents writer.old) (W.contents writer.new) result }

@@ -8,8 +8,9 @@ ghost use Rattle.hq_model.specs.Machine.{IsByte};
 ghost use Rattle.hq_model.specs.Order as order;
 ghost use Rattle.hq_witness.specs.Traces.{EndsWith, IsRecording};
 
-use crate::packets::{agent_of, agent_total, packet_total, queue_total, written};
+use crate::packets::{agent_of, written};
 use crate::recording::{Recording, let_go};
+use hq_events::packets::{agent_total, packet_total, queue_total};
 use hq_job::Job;
 use hq_machine::Event;
 use hq_order::Before;

@@ -7,9 +7,10 @@ ghost use Rattle.hq_model.specs.Machine.{IsByte};
 ghost use Rattle.hq_witness.specs.Traces.{IsRecording};
 
 use crate::origin::Origin;
-use crate::packets::{acquire_of, agent_of, agent_total, packet_total, queue_of, release_of};
+use crate::packets::{acquire_of, agent_of, queue_of, release_of};
 use crate::recording::{Recording, let_go};
 use crate::target::Target;
+use hq_events::packets::{agent_total, packet_total};
 use hq_finding::Kind;
 use hq_job::Job;
 use hq_machine::Event;

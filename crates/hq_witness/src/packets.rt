@@ -1,6 +1,6 @@
 //! What the job says of a packet, of any number.
 
-ghost use Rattle.std.specs.Prelude.{◌≡◌, ◌↔◌, ℕ, ◌<◌, ◌≤◌, Contains, IsTrue, length, slice_index};
+ghost use Rattle.std.specs.Prelude.{◌≡◌, ◌↔◌, ℕ, ◌<◌, ◌≤◌, Contains, IsTrue, slice_index};
 ghost use Rattle.std.specs.List.{flat_map};
 ghost use Rattle.hq_footprint.specs.Bytes.{bytes_of};
 ghost use Rattle.hq_job.specs.Plan.{plan};
@@ -12,30 +12,6 @@ use hq_job::Job;
 use hq_model::BYTES;
 use hq_packet::Scope;
 use std::ops::Range;
-
-/// How many packets the job has.
-pub fn packet_total(job: &Job) -> u32
-    ensures { result ≡ length job.now.packets }
-{
-    job.valid();
-    job.packets().len() as u32
-}
-
-/// How many queues the job has.
-pub fn queue_total(job: &Job) -> u32
-    ensures { result ≡ length job.now.queues }
-{
-    job.valid();
-    job.queues().len() as u32
-}
-
-/// How many agents the job has.
-pub fn agent_total(job: &Job) -> u32
-    ensures { result ≡ length job.now.agents }
-{
-    job.valid();
-    job.agents() as u32
-}
 
 /// The number of the agent of a queue, 0 where there is no such queue.
 fn agent_of_queue(job: &Job, queue: u16) -> u32

@@ -5,11 +5,11 @@ use Rattle.hq_explain.proofs.paths.+write_steps.Goals as goal
 pub middle-requires-clause-p_is : goal.middle-requires-clause-p_is
 middle-requires-clause-p_is g t c = within_first c.args.before.now c.args.round c.args.p c.args.r c.requires.within
 
-pub round_of-first-requires : goal.round_of-first-requires
-round_of-first-requires g t c = first_half c.args.before.now c.args.round c.args.p c.args.r c.in-Some.m c.in-Some.ensures.between
+pub first_round-first-requires : goal.first_round-first-requires
+first_round-first-requires g t c = first_half c.args.before.now c.args.round c.args.p c.args.r c.in-Some.m c.in-Some.ensures.between
 
-pub round_of-second-requires : goal.round_of-second-requires
-round_of-second-requires g t c = second_half c.args.before.now c.args.round c.args.p c.args.r c.in-Some.m c.in-Some.ensures.between
+pub first_round-second-requires : goal.first_round-second-requires
+first_round-second-requires g t c = second_half c.args.before.now c.args.round c.args.p c.args.r c.in-Some.m c.in-Some.ensures.between
 
 pub write_step-requires-clause-p_is : goal.write_step-requires-clause-p_is
 write_step-requires-clause-p_is g t c = within_first c.args.before.now c.args.round c.args.p c.args.r c.requires.within

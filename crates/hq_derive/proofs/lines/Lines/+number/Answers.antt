@@ -79,8 +79,8 @@ numbered-returns t c =
     (within_first c.args.before.now c.args.round c.args.p c.args.r w) (within_second c.args.before.now c.args.round c.args.p c.args.r w) c.in_ok-rule.ensures.follows
     c.add.ensures.lines c.add.ensures.number c.add.ensures.small c.add.ensures.ranks
 
-pub cited-round_of-requires : goal.cited-round_of-requires
-cited-round_of-requires t c = below_before c.args.before.now c.args.round c.args.p c.args.r c.requires.below
+pub cited-first_round-requires : goal.cited-first_round-requires
+cited-first_round-requires t c = below_before c.args.before.now c.args.round c.args.p c.args.r c.requires.below
 
 pub through-returns : goal.through-returns
 through-returns t c = record {
