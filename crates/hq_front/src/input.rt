@@ -4,8 +4,11 @@ use std::fs::File;
 use std::io;
 use std::io::{BufReader, Read, Stdin};
 
-/// How many bytes of a file are asked for at once.
-const CAPACITY: usize = 65_536;
+/// How many bytes of a job are asked for at once. Most jobs are shorter: of more, more would be cleared for nothing.
+const OF_JOB: usize = 16_384;
+
+/// How many bytes of another file are: certificates and timelines are long.
+const OF_FILE: usize = 65_536;
 
 /// A file, or standard input.
 #[derive(Drop)]
@@ -23,16 +26,21 @@ impl Read for Input {
     }
 }
 
-/// The file of a path.
-pub fn open_file(rt: &HostRuntime, path: &str) -> io::Result<BufReader<Input>> {
+/// The file of a path, of which so many bytes are asked for at once.
+fn buffered(rt: &HostRuntime, path: &str, capacity: usize) -> io::Result<BufReader<Input>> {
     let file = File::open(rt, path)?;
-    BufReader::with_capacity(rt.alloc(), CAPACITY, Input::File(file))
+    BufReader::with_capacity(rt.alloc(), capacity, Input::File(file))
 }
 
-/// The file of a path, or standard input for `@`.
+/// The file of a path.
+pub fn open_file(rt: &HostRuntime, path: &str) -> io::Result<BufReader<Input>> {
+    buffered(rt, path, OF_FILE)
+}
+
+/// The job's file of a path, or standard input for `@`.
 pub fn open(rt: &HostRuntime, path: &str) -> io::Result<BufReader<Input>> {
     if path == "@" {
-        return BufReader::with_capacity(rt.alloc(), CAPACITY, Input::Standard(rt.stdin()));
+        return BufReader::with_capacity(rt.alloc(), OF_JOB, Input::Standard(rt.stdin()));
     }
-    open_file(rt, path)
+    buffered(rt, path, OF_JOB)
 }
