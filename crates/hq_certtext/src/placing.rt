@@ -4,10 +4,9 @@ ghost use Rattle.std.specs.Prelude.{◌≡◌, ◌+◌, ◌<◌, ◌≤◌, ◌�
 ghost use Rattle.std.specs.Fmt.{decimal};
 ghost use Rattle.hq_certtext.specs.Grammar.{citation_word, fences_words, pair_words, head_words};
 ghost use Rattle.hq_text.specs.Printed.{spaced, line_text};
-ghost use Rattle.hq_certtext.specs.Rows.{three_digits};
 ghost use Rattle.hq_cert.specs.View.{cited, fences_of, pair_of};
 
-use crate::rows::Rows;
+use crate::rows::{Row, Rows};
 use hq_cert::{Citation, Fences, Line, Pair, ReadChain, WriteChain};
 use std::simd::prelude::*;
 
@@ -35,42 +34,6 @@ fn put_word(bytes: &mut [u8], at: usize, word: &[u8; 4], count: usize) -> usize
     at + count
 }
 
-/// A number below 1,000, behind a space.
-#[inline(always)]
-fn put_small(bytes: &mut [u8], at: usize, rows: &Rows, number: usize) -> usize
-    requires small { number < 1000 }
-    requires room { at + 4 ≤ length bytes.old }
-    ensures put { take result bytes.new ≡ take at bytes.old ++ 32 ∷ decimal number }
-    ensures near { result ≤ at + 4 }
-{
-    let row = rows.row(number);
-    put_word(bytes, at, &row.word, row.length as usize)
-}
-
-/// Three digits.
-#[inline(always)]
-fn put_three(bytes: &mut [u8], at: usize, rows: &Rows, number: usize) -> usize
-    requires small { number < 1000 }
-    requires room { at + 4 ≤ length bytes.old }
-    ensures put { take result bytes.new ≡ take at bytes.old ++ three_digits number }
-    ensures end { result ≡ at + 3 }
-{
-    put_word(bytes, at, &rows.row(number).digits, 3)
-}
-
-/// A number of four to six digits, behind a space.
-#[inline(always)]
-fn put_middle(bytes: &mut [u8], at: usize, rows: &Rows, number: usize) -> usize
-    requires large { 1000 ≤ number }
-    requires small { number < 1000000 }
-    requires room { at + 8 ≤ length bytes.old }
-    ensures put { take result bytes.new ≡ take at bytes.old ++ 32 ∷ decimal number }
-    ensures near { result ≤ at + 7 }
-{
-    let at = put_small(bytes, at, rows, number / 1000);
-    put_three(bytes, at, rows, number % 1000)
-}
-
 /// Any number, behind a space.
 #[cold]
 #[inline(never)]
@@ -84,19 +47,48 @@ fn put_large(bytes: &mut [u8], at: usize, number: u64) -> usize
     put(bytes, at, digits.format(number).as_bytes())
 }
 
-/// A number, behind a space.
+/// A number from 1,000 on that the rows of its thousands and of what is left spell, behind a space.
+#[inline(always)]
+fn put_both(bytes: &mut [u8], at: usize, thousands: &Row, rest: &Row) -> usize
+    requires short { thousands.now.length ≤ 4 }
+    requires room { at + 8 ≤ length bytes.old }
+    ensures put { take result bytes.new
+        ≡ take at bytes.old ++ (take thousands.now.length thousands.now.word ++ take 3 rest.now.digits) }
+    ensures near { result ≤ at + 7 }
+{
+    let at = put_word(bytes, at, &thousands.word, thousands.length as usize);
+    put_word(bytes, at, &rest.digits, 3)
+}
+
+/// A number that has no row, behind a space.
+#[inline(always)]
+fn put_longer(bytes: &mut [u8], at: usize, rows: &Rows, number: u64) -> usize
+    requires { at + 24 ≤ length bytes.old }
+    ensures put { take result bytes.new ≡ take at bytes.old ++ 32 ∷ decimal number }
+    ensures near { result ≤ at + 21 }
+{
+    if number < 1000 {
+        return put_large(bytes, at, number);
+    }
+    match (
+        rows.row((number / 1000) as usize),
+        rows.row((number % 1000) as usize),
+    ) {
+        (Some(thousands), Some(rest)) => put_both(bytes, at, thousands, rest),
+        _ => put_large(bytes, at, number),
+    }
+}
+
+/// A number, behind a space: by its row, where it has one.
 #[inline(always)]
 pub fn put_number(bytes: &mut [u8], at: usize, rows: &Rows, number: u64) -> usize
     requires { at + 24 ≤ length bytes.old }
     ensures put { take result bytes.new ≡ take at bytes.old ++ 32 ∷ decimal number }
     ensures near { result ≤ at + 21 }
 {
-    if number < 1000 {
-        put_small(bytes, at, rows, number as usize)
-    } else if number < 1_000_000 {
-        put_middle(bytes, at, rows, number as usize)
-    } else {
-        put_large(bytes, at, number)
+    match rows.row(number as usize) {
+        Some(row) => put_word(bytes, at, &row.word, row.length as usize),
+        None => put_longer(bytes, at, rows, number),
     }
 }
 

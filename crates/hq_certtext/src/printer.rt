@@ -24,16 +24,17 @@ pub struct Printer {
 }
 
 impl Printer {
-    /// A printer, with all memory that it takes.
+    /// A printer, with all memory that it takes, which goes by how many packets and lines the certificate is to have.
+    /// It prints others, too, in more time.
     ///
     /// # Errors
     ///
     /// `AllocError` where there is no memory.
-    pub fn new(alloc: Global) -> Result<Printer, AllocError>
+    pub fn new(alloc: Global, packets: usize, lines: usize) -> Result<Printer, AllocError>
         ensures ready { IfOk result IsReady }
         ensures empty { IfOk result IsEmpty }
     {
-        let (bytes, rows) = taken(alloc)?;
+        let (bytes, rows) = taken(alloc, packets, lines)?;
         Ok(Printer { bytes, rows, at: 0 })
     }
 

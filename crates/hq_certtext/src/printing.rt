@@ -21,11 +21,11 @@ use std::alloc::{AllocError, Global};
 use std::io::Write;
 use thiserror::Error;
 
-/// How many bytes are gathered before they are written.
-const ROOM: usize = 32_768;
-
 /// How many bytes a line takes at most, apart from an order and from branches.
 const LINE: usize = 256;
+
+/// Of how many numbers a certificate may have pair lines that one buffer holds.
+const SIDE: usize = 32;
 
 fn is_chain(fences: &Fences) -> bool
     ensures { result ≡ is_chain (fences_of fences.now) }
@@ -322,19 +322,22 @@ pub enum PrintFault {
     Writer,
 }
 
-/// A buffer for texts.
-fn buffer(alloc: Global) -> Result<Vec<u8>, AllocError>
-    ensures { IfOk result (λ bytes. length bytes.items ≡ 32768) }
+/// A buffer for the text of a certificate whose numbers are below `numbers`: room for a pair line of any two of them,
+/// and for one line more. Where there are many, it is written again and again.
+fn buffer(alloc: Global, numbers: usize) -> Result<Vec<u8>, AllocError>
+    ensures { IfOk result (λ bytes. 256 ≤ length bytes.items) }
 {
-    vec![in alloc; 0; ROOM]
+    let side = numbers.min(SIDE);
+    vec![in alloc; 0; LINE + 32 * side * side]
 }
 
-/// All memory that printing takes: a buffer, and the texts of small numbers.
-pub fn taken(alloc: Global) -> Result<(Vec<u8>, Rows), AllocError>
-    ensures { IfOk result (λ t. length t.0.items ≡ 32768) }
+/// All memory that printing a certificate of so many packets and lines takes: a buffer, and the texts of small numbers.
+pub fn taken(alloc: Global, packets: usize, lines: usize) -> Result<(Vec<u8>, Rows), AllocError>
+    ensures { IfOk result (λ t. 256 ≤ length t.0.items) }
 {
-    let bytes = buffer(alloc)?;
-    Ok((bytes, Rows::new(alloc)?))
+    let numbers = packets.max(lines);
+    let bytes = buffer(alloc, numbers)?;
+    Ok((bytes, Rows::new(alloc, numbers)?))
 }
 
 /// Writes the text of a certificate, which begins `hsac 2` exactly where a chained pair line is there. Where the
@@ -356,7 +359,8 @@ pub fn print<W: Write>(
         → CertText (lines_of (text_of certificate.now)) certificate.now) }
     ensures unwritten { result ≡ Err PrintFault.Memory → writer.new ≡ writer.old }
 {
-    let (mut bytes, rows) = match taken(alloc) {
+    let (packets, lines) = (certificate.order().len(), certificate.lines().len());
+    let (mut bytes, rows) = match taken(alloc, packets, lines) {
         Ok(taken) => taken,
         Err(_) => return Err(PrintFault::Memory),
     };

@@ -1,13 +1,13 @@
-//! The decimal texts of the numbers below 1,000, made once for each text that is printed.
+//! The decimal texts of the numbers below 1,000, or of fewer, made once for each text that is printed.
 
-ghost use Rattle.std.specs.Prelude.{◌≡◌, ℕ, ◌<◌, length, slice_index_or};
+ghost use Rattle.std.specs.Prelude.{◌≡◌, ℕ, ◌<◌, IfSome, length, slice_index_or};
 ghost use Rattle.hq_certtext.specs.Rows.{IsRow};
 ghost use Rattle.hq_certtext.specs.declared.rows.Row.{Row};
 
 use std::alloc::{AllocError, Global};
 
-/// How many numbers have a row.
-const COUNT: usize = 1000;
+/// How many numbers have a row at most.
+const MOST: usize = 1000;
 
 /// The text of a number behind a space, and its three digits, each in four bytes, since so many are copied at once.
 #[derive(Clone, Copy)]
@@ -48,29 +48,29 @@ fn row_of(number: usize) -> Row
     }
 }
 
-/// A row for each number below 1,000.
+/// A row for each number below some number, which is at most 1,000.
 #[derive(Drop)]
 pub struct Rows {
     rows: Vec<Row>,
-    ghost long: { length rows.items ≡ 1000 },
-    ghost all: { (n : ℕ) (d : Row) → n < 1000 → IsRow n (slice_index_or rows.items n d) },
+    ghost all: { (n : ℕ) (d : Row) → n < length rows.items → IsRow n (slice_index_or rows.items n d) },
 }
 
 impl Rows {
-    pub fn new(alloc: Global) -> Result<Rows, AllocError> {
-        let mut rows = Vec::with_capacity(alloc, COUNT)?;
-        for number in 0..COUNT {
+    /// The rows of the numbers below `numbers` that are below 1,000.
+    pub fn new(alloc: Global, numbers: usize) -> Result<Rows, AllocError> {
+        let count = numbers.min(MOST);
+        let mut rows = Vec::with_capacity(alloc, count)?;
+        for number in 0..count {
             rows.push(row_of(number))?;
         }
         Ok(Rows { rows })
     }
 
-    /// The row of a number.
-    #[inline]
-    pub fn row(&self, number: usize) -> &Row
-        requires { number < 1000 }
-        ensures { IsRow number result.now }
+    /// The row of a number, where it has one.
+    #[inline(always)]
+    pub fn row(&self, number: usize) -> Option<&Row>
+        ensures { IfSome result (λ row. IsRow number row.now) }
     {
-        &self.rows[number]
+        self.rows.get(number)
     }
 }

@@ -131,7 +131,7 @@ fn print_audited<W: Write>(
         (WritesCertificate (plan job.now) (W.contents writer.old) (W.contents writer.new)) }
     ensures unwritten { result ≡ Err PrintFault.Memory → writer.new ≡ writer.old }
 {
-    let Ok(printer) = Printer::new(alloc) else {
+    let Ok(printer) = Printer::new(alloc, job.packets().len(), audited.lines()) else {
         return Err(PrintFault::Memory);
     };
     match print_all(printer, job, audited, writer) {

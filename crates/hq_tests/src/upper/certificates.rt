@@ -51,7 +51,7 @@ fn printed_by_parts(alloc: Global, certificate: &Certificate) -> Result<Vec<u8>,
     let [pair] = certificate.pairs() else {
         return Err("one pair line".into());
     };
-    let Ok(mut printer) = Printer::new(alloc) else {
+    let Ok(mut printer) = Printer::new(alloc, 2, 1) else {
         return Err("a printer".into());
     };
     if printer
