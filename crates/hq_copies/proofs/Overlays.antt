@@ -190,21 +190,6 @@ covered_last edges start end r l none = record {
 pub covered_held : (edges : List ℕ) (start k : ℕ) → IsRising 0 edges → count_below (has edges) (start + k) ≡ count_below (has edges) start + k → Covered edges start (start + k) edges
 covered_held edges start k r e = record { rising = r; odd = refl; below = λ n h. refl; within = all_held (has edges) start k e; past = λ n h. refl }
 
--- ---- byte after byte
-
-take_other : (xs : List ℕ) (i k : ℕ) → k ≢ i → slice_get (take (suc i) xs) k ≡ slice_get (take i xs) k
-take_other [] zero k d = refl
-take_other [] (suc i) k d = refl
-take_other (x ∷ xs) zero zero d = absurd (d refl)
-take_other (x ∷ xs) zero (suc k) d = refl
-take_other (x ∷ xs) (suc i) zero d = refl
-take_other (x ∷ xs) (suc i) (suc k) d = take_other xs i k (λ e. d (ap suc e))
-
-take_same : (xs : List ℕ) (i : ℕ) → i < length xs → slice_get (take (suc i) xs) i ≡ Some (get_or xs i 0)
-take_same [] i l = absurd (omega arith)
-take_same (x ∷ xs) zero l = refl
-take_same (x ∷ xs) (suc i) l = take_same xs i (omega arith)
-
 -- ---- one run over those behind it
 
 pub over_behind : (run behind below : Option ℕ) → ((byte : ℕ) → run ≡ Some byte → behind ≡ None) → or_lower behind (or_lower run below) ≡ or_lower (or_lower run behind) below

@@ -1,5 +1,5 @@
 -- Each place of a list has one number among the grouped, and each number one place.
-use Rattle.std.proofs.Common.{◌≡◌, ℕ, zero, suc, ◌+◌, ◌<◌, ◌≤◌, ◌≢◌, inl, inr, List, [], ◌∷◌, ◌++◌, length, refl, sym, ◌∙◌, ap, subst, arith, Bool, true, false, cond, ◌==◌, Some, slice_get, slice_index, All, filter, map, take, length-append, ◌-◌, append-nil, add-one}
+use Rattle.std.proofs.Common.{◌≡◌, ℕ, zero, suc, ◌+◌, ◌<◌, ◌≤◌, ◌≢◌, inl, inr, List, [], ◌∷◌, ◌++◌, length, refl, ◌∙◌, ap, subst, arith, Bool, true, false, cond, ◌==◌, Some, slice_get, slice_index, filter, map, take, length-append, ◌-◌, append-nil, add-one}
 use Rattle.std.proofs.lemmas.Bool.{cases_eq, cases_lt, cond-true, eq-eqb, eqb-true, ne_eqb, cond-false}
 use Rattle.std.proofs.lemmas.Grind.{flat_map-append}
 use Rattle.std.proofs.lemmas.List.{map-append}
@@ -115,13 +115,6 @@ numbered {X} key (suc n) xs p l = elim (cases_lt p (length (grouped key n xs))) 
 pub number_below : {X : Type 0} (key : X → ℕ) (n : ℕ) (xs : List X) (k : ℕ) (x : X) → slice_get xs k ≡ Some x → key x < n → number_of key xs k < length (grouped key n xs)
 number_below key n xs k x e l = within (grouped key n xs) (number_of key xs k) x (get_number key n xs k x e l)
 
-grouped_grows : {X : Type 0} (key : X → ℕ) (a b : ℕ) (xs : List X) → a ≤ b → length (grouped key a xs) ≤ length (grouped key b xs)
-grouped_grows key a zero xs l = let e : a ≡ 0 = omega arith in subst (λ m. length (grouped key m xs) ≤ 0) (sym e) (omega arith)
-grouped_grows key a (suc b) xs l = elim (cases_eq a (suc b)) [
-  | inl e ↦ subst (λ m. length (grouped key m xs) ≤ length (grouped key (suc b) xs)) (sym e) (omega arith)
-  | inr d ↦ omega (arith, grouped_grows key a b xs (omega arith), ap length (grouped_more key b xs), length-append (grouped key b xs) (with_key key xs b))
-]
-
 passed_more : {X : Type 0} (test : X → Bool) (xs : List X) (k l : ℕ) (x : X) → slice_get xs k ≡ Some x → test x ≡ true → k < l → length (filter test (take k xs)) < length (filter test (take l xs))
 passed_more test [] k l x e t less = absurd (cc)
 passed_more test (y ∷ ys) k zero x e t less = absurd (omega arith)
@@ -187,7 +180,3 @@ grouped_most key n (x ∷ xs) = elim (cases_lt (key x) n) [
   | inl low ↦ omega (arith, low_key key n x xs low, grouped_most key n xs)
   | inr high ↦ omega (arith, high_key key n x xs high, grouped_most key n xs)
 ]
-
-pub grouped_all : {X : Type 0} (key : X → ℕ) (n : ℕ) (xs : List X) → All (λ x. key x < n) xs → length (grouped key n xs) ≡ length xs
-grouped_all key n [] all = grouped_nil key n
-grouped_all key n (x ∷ xs) all = omega (arith, low_key key n x xs (all 0 x (omega arith)), grouped_all key n xs (λ k d l. all (suc k) d (omega arith)))

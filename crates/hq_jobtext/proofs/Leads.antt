@@ -9,15 +9,12 @@ use Rattle.hq_tables.specs.declared.fault.Reason.TheVariants as reason
 use Rattle.hq_jobtext.specs.declared.fault.JobFault.{JobFault}
 use Rattle.hq_job.specs.Value.{JobValue}
 use Rattle.hq_tables.specs.Tables.{Tables, empty}
-use Rattle.hq_jobtext.specs.JobText.{SaysVersion, misplaced, Admits, Refused, IsEnd, FirstFault, headless, faulty, behind, endless, at_end, nothing, at_line}
-use Rattle.hq_jobtext.specs.Answered.{Finishes, no_memory}
-use Rattle.hq_jobtext.specs.SoFar.{SoFar, Begun, Closed, HasTaken, HasFault, Steps, TakesAll, ReadOf}
+use Rattle.hq_jobtext.specs.JobText.{SaysVersion, misplaced, Admits, Refused, FirstFault, headless, faulty, behind, endless, at_end, nothing, at_line}
+use Rattle.hq_jobtext.specs.Answered.{Finishes}
+use Rattle.hq_jobtext.specs.SoFar.{SoFar, Begun, HasTaken, HasFault, Steps, TakesAll, ReadOf}
 use Rattle.hq_jobtext.proofs.Lines.{admits_more}
 
 -- ---- one line
-
-pub begins : (line : List ℕ) (rings : Bool) (old new : Tables) → SaysVersion line rings → new ≡ empty rings → Steps (Ok place.Content) place.Head old line new
-begins line rings old new version is lines none = record { rings = rings; first = line; front = []; whole = ap (λ ls. ls ++ line ∷ []) none; version = version; admitted = is }
 
 pub headless_at : (line : List ℕ) (why : Reason) (old new : Tables) → ((rings : Bool) → ¬ SaysVersion line rings) → why ≡ misplaced line → Steps (Err why) place.Head old line new
 headless_at line why old new none is = inr (λ lines more e. subst (λ ls. FirstFault (ls ++ line ∷ more) (at_line (length ls + 1) why)) (sym e)
@@ -27,9 +24,6 @@ admits : (lines : List (List ℕ)) (line : List ℕ) (ts new : Tables) → Begun
 admits lines line ts new b h =
     record { rings = b.rings; first = b.first; front = b.front ++ line ∷ []; whole = ap (λ ls. ls ++ line ∷ []) b.whole; version = b.version; admitted = admits_more b.front (empty b.rings) ts new line b.admitted h }
 
-closes : (lines : List (List ℕ)) (line : List ℕ) (ts new : Tables) → Begun lines ts → IsEnd line → new ≡ ts → Closed (lines ++ line ∷ []) new
-closes lines line ts new b ends same = record { front = lines; last = line; whole = refl; begun = subst (λ (t : Tables). Begun lines t) (sym same) b; ends = ends }
-
 refuses : (lines more : List (List ℕ)) (line : List ℕ) (ts : Tables) (why : Reason) → Begun lines ts → Refused ts line why → FirstFault (lines ++ line ∷ more) (at_line (length lines + 1) why)
 refuses lines more line ts why b h =
     let count : length b.front + 2 ≡ length lines + 1 = omega (arith, ap length b.whole) in
@@ -38,9 +32,6 @@ refuses lines more line ts why b h =
 
 pub content_steps : (line : List ℕ) (ts new : Tables) → Admits ts line new → Steps (Ok place.Content) place.Content ts line new
 content_steps line ts new h lines b = admits lines line ts new b h
-
-pub end_steps : (line : List ℕ) (ts new : Tables) → IsEnd line × (new ≡ ts) → Steps (Ok place.Behind) place.Content ts line new
-end_steps line ts new h lines b = closes lines line ts new b h.0 h.1
 
 pub content_refused : (line : List ℕ) (why : Reason) (ts new : Tables) → (why ≡ reason.Memory) ⊎ Refused ts line why → Steps (Err why) place.Content ts line new
 content_refused line why ts new (inl m) = inl m
@@ -55,24 +46,6 @@ behind_refused line why ts new is = inr (λ lines more c.
     (subst (λ (n : ℕ). FirstFault (lines ++ line ∷ more) (at_line n (misplaced line))) count
     (behind b.rings b.first b.front c.last line more ts whole b.version b.admitted c.ends)))
 
--- ---- with its number
-
-pub nothing_taken : (ts : Tables) → HasTaken [] (record { place = place.Head; tables = ts; count = 0 })
-nothing_taken ts = record { counted = refl; leads = refl }
-
-pub one_taken : (here next : Place) (ts new : Tables) (count number : ℕ) (line : List ℕ) → Steps (Ok next) here ts line new → number ≡ count + 1
-    → (lines : List (List ℕ)) → HasTaken lines (record { place = here; tables = ts; count = count }) → HasTaken (lines ++ line ∷ []) (record { place = next; tables = new; count = number })
-one_taken here next ts new count number line steps is lines h =
-    record { counted = omega (arith, is, h.counted, length-append lines (line ∷ [])); leads = steps lines h.leads }
-
-pub one_refused : (here : Place) (ts new : Tables) (count number : ℕ) (line : List ℕ) (why : Reason) (f : JobFault) → Steps (Err why) here ts line new → number ≡ count + 1
-    → ((why ≡ reason.Memory) × (f ≡ no_memory)) ⊎ ((¬ (why ≡ reason.Memory)) × (f ≡ at_line number why))
-    → (lines more : List (List ℕ)) → HasTaken lines (record { place = here; tables = ts; count = count }) → HasFault (lines ++ line ∷ more) f
-one_refused here ts new count number line why f steps is (inl m) lines more h = inl m.1
-one_refused here ts new count number line why f (inl m) is (inr n) lines more h = absurd (n.0 m)
-one_refused here ts new count number line why f (inr steps) is (inr n) lines more h =
-    inr (subst (λ (g : JobFault). FirstFault (lines ++ line ∷ more) g) (ap (λ k. at_line (k + 1) why) (sym h.counted) ∙ ap (λ k. at_line k why) (sym is) ∙ sym n.1) (steps lines more h.leads))
-
 -- ---- the lines of a text
 
 -- the lines of a text that were taken in, and those that are left
@@ -80,9 +53,6 @@ pub record Partly (text rest : List (List ℕ)) (old s : SoFar) : Type 0 where
   pub front : List (List ℕ)
   pub whole : text ≡ front ++ rest
   pub taken : (lines : List (List ℕ)) → HasTaken lines old → HasTaken (lines ++ front) s
-
-pub none_yet : (text : List (List ℕ)) (s : SoFar) → Partly text text s s
-none_yet text s = record { front = []; whole = refl; taken = λ lines h. subst (λ (ls : List (List ℕ)). HasTaken ls s) (sym (append-nil lines)) h }
 
 pub one_more : (text rest more : List (List ℕ)) (line : List ℕ) (old mid new : SoFar) → Partly text rest old mid → rest ≡ line ∷ more
     → ((lines : List (List ℕ)) → HasTaken lines mid → HasTaken (lines ++ line ∷ []) new) → Partly text more old new

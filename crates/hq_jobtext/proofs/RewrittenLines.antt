@@ -109,9 +109,6 @@ no_cut rest e =
     let none : NoFeed rest = λ k d l. fails_before_first is_line_feed rest k d (omega arith) in
     (slice_split_none is_line_feed rest none, none)
 
-pub room_for_feed : (rest : List ℕ) (at : ℕ) → position is_line_feed rest ≡ Some at → at < length rest
-room_for_feed rest at e = (first_place is_line_feed rest at e).1
-
 -- the line is known by how it begins
 line_ready : (heads : List Head) (left : List ℕ) (line : List ℕ) (more : List (List ℕ)) → Numbered left (line ∷ more) → All (λ n. n < length heads) left → LineReady heads left line
 line_ready heads left line more h below = by h.1 where

@@ -6,21 +6,13 @@ use Rattle.hq_jobtext.specs.declared.fault.JobFault.{JobFault}
 use Rattle.hq_job.specs.Value.{JobValue}
 use Rattle.hq_jobtext.specs.JobText.{SaysVersion, one, two, JobText, FirstFault}
 use Rattle.hq_jobtext.specs.Answered.{FaultOf, GivesJob, GivesUnlessRead}
-use Rattle.hq_jobtext.specs.SoFar.{HasFault, ReadOf}
+use Rattle.hq_jobtext.specs.SoFar.{ReadOf}
 use Rattle.hq_tables.specs.declared.fault.Reason.TheVariants as reason
 use Rattle.hq_jobtext.proofs.NotRead.{not_read}
 use Rattle.hq_jobtext.proofs.Texts.{one_job, faultless_where_job}
 use Rattle.hq_text.specs.Intake.{OfText}
 use Rattle.hq_text.specs.Turns.{Turn, ReadTurn}
 use Rattle.hq_text.proofs.Taken.{any_known, known}
-
-pub read_found : {X : Type 0} (view : X → JobValue) (r : Result X JobFault) (lines : List (List ℕ)) → ReadOf view r lines → IfOk r (λ j. JobText lines (view j))
-read_found view (Ok j) lines h = h
-read_found view (Err f) lines h = tt
-
-pub read_fault : {X : Type 0} (view : X → JobValue) (r : Result X JobFault) (lines : List (List ℕ)) → ReadOf view r lines → IfErr r (λ f. HasFault lines f)
-read_fault view (Ok j) lines h = tt
-read_fault view (Err f) lines h = h
 
 pub text_only : {X : Type 0} (view : X → JobValue) (r : Result X JobFault) (lines : List (List ℕ)) (job : JobValue) → ReadOf view r lines → JobText lines job → GivesJob view r job
 text_only view (Ok j) lines job found t = one_job lines (view j) job found t

@@ -188,13 +188,6 @@ spelled_again a b c d others x y rest len first second decoded =
     ∙ decode_pairs-ok_pair 0 a b x (c ∷ d ∷ others) first
     ∙ ap (cons_byte x) (decode_pairs-ok_pair 2 c d y others (pair_is c d 2 y second) ∙ ap (cons_byte y) decoded)
 
--- the lower case digits of a byte
-high_of : ℕ → ℕ
-high_of byte = slice_index lower_digits (byte / 16)
-
-low_of : ℕ → ℕ
-low_of byte = slice_index lower_digits (byte % 16)
-
 pub lower_pair : (byte : ℕ) → byte < 256 → Pair (slice_index lower_digits (byte / 16)) (slice_index lower_digits (byte % 16)) byte
 lower_pair byte small =
     record { first = byte / 16; second = byte % 16; high_is = IsDigits-lower_digits (byte / 16) (omega arith); low_is = IsDigits-lower_digits (byte % 16) (omega arith); whole = omega arith }

@@ -1,7 +1,7 @@
 -- Rows of bits, as they are filled.
 use Rattle.std.proofs.Common.{◌≡◌, ℕ, ◌+◌, ◌/◌, ◌%◌, ◌<◌, ◌↔◌, ◌⊎◌, inl, inr, Bool, true, false, ◌||◌, ◌==◌, IsTrue, List, length, refl, sym, ◌∙◌, ap, subst, arith, slice_index, replicate}
 use Rattle.std.specs.Int.{bit_at}
-use Rattle.std.proofs.lemmas.Bool.{cases_eq, cases_lt, eq-eqb, eqb-true}
+use Rattle.std.proofs.lemmas.Bool.{cases_eq, cases_lt}
 use Rattle.std.proofs.lemmas.List.{get_or_past, get_or-replicate, length-replicate}
 use Rattle.std.proofs.lemmas.Nat.Bits.{bit_at-zero}
 use Rattle.hq_bits.specs.Bits.{has}
@@ -30,44 +30,6 @@ or_left false b h = absurd (cc)
 pub or_right : (a b : Bool) → b ≡ true → (a || b) ≡ true
 or_right true b h = refl
 or_right false b h = h
-
--- what the old row had, and of the numbers below i those of the statement
-pub record Filled (P : ℕ → Type 0) (old : List ℕ) (i : ℕ) (row : List ℕ) : Type 0 where
-  pub are : (p : ℕ) → IsTrue (has row p) ↔ (IsTrue (has old p) ⊎ ((p < i) × P p))
-  pub len : length row ≡ length old
-
-pub filled_in : (P : ℕ → Type 0) (old : List ℕ) (i : ℕ) (row new : List ℕ) → Filled P old i row → P i → ((p : ℕ) → has new p ≡ (has row p || p == i)) → length new ≡ length row → Filled P old (i + 1) new
-filled_in P old i row new u this grows same_len = record {
-  are = λ p. (
-    λ h. elim (or_either (has row p) (p == i) (sym (grows p) ∙ h)) [
-      | inl before ↦ elim ((u.are p).0 before) [ inl t ↦ inl t | inr b ↦ inr (omega (arith, b.0), b.1) ]
-      | inr e ↦ let same : p ≡ i = eqb-true p i e in inr (omega (arith, same), subst P (sym same) this)
-    ],
-    λ h. grows p ∙ elim h [
-      | inl t ↦ or_left (has row p) (p == i) ((u.are p).1 (inl t))
-      | inr b ↦ elim (cases_eq p i) [
-        | inl same ↦ or_right (has row p) (p == i) (eq-eqb p i same)
-        | inr apart ↦ or_left (has row p) (p == i) ((u.are p).1 (inr (omega (arith, b.0), b.1)))
-      ]
-    ],
-  );
-  len = same_len ∙ u.len;
-}
-
-pub filled_out : (P : ℕ → Type 0) (old : List ℕ) (i : ℕ) (row : List ℕ) → Filled P old i row → (P i → ⊥) → Filled P old (i + 1) row
-filled_out P old i row u never = record {
-  are = λ p. (
-    λ h. elim ((u.are p).0 h) [ inl t ↦ inl t | inr b ↦ inr (omega (arith, b.0), b.1) ],
-    λ h. elim h [
-      | inl t ↦ (u.are p).1 (inl t)
-      | inr b ↦ elim (cases_eq p i) [
-        | inl same ↦ absurd (never (subst P same b.1))
-        | inr apart ↦ (u.are p).1 (inr (omega (arith, b.0), b.1))
-      ]
-    ],
-  );
-  len = u.len;
-}
 
 -- a row of zeros that was filled
 pub filled_zeros : (P : ℕ → Type 0) (old row : List ℕ) (n : ℕ) → old ≡ replicate n 0 → ((p : ℕ) → IsTrue (has row p) ↔ (IsTrue (has old p) ⊎ P p)) → (p : ℕ) → IsTrue (has row p) ↔ P p

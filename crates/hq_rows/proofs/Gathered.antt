@@ -1,8 +1,8 @@
 -- What stands before some packets, taken in four at a time.
-use Rattle.std.proofs.Common.{◌≡◌, ◌≢◌, ◌↔◌, ℕ, ◌-◌, ◌/◌, ◌%◌, ◌+◌, ◌*◌, ◌^◌, ◌<◌, ◌≤◌, ◌⊎◌, ◌&&◌, ◌==◌, inl, inr, List, [], ◌∷◌, ◌++◌, suc, map, length, length-append, slice_index_or, refl, sym, ◌∙◌, ap, subst, arith, IsTrue, Bool, true, false, not}
+use Rattle.std.proofs.Common.{◌≡◌, ◌↔◌, ℕ, ◌-◌, ◌/◌, ◌%◌, ◌+◌, ◌*◌, ◌^◌, ◌<◌, ◌≤◌, ◌⊎◌, ◌&&◌, ◌==◌, inl, inr, List, [], ◌∷◌, ◌++◌, suc, map, length, length-append, slice_index_or, refl, sym, ◌∙◌, ap, subst, arith, IsTrue, Bool, true, false, not}
 use Rattle.std.specs.Global.{Vec}
 use Rattle.std.specs.Int.{bit_at}
-use Rattle.std.proofs.lemmas.Bool.{cases_eq, cases_lt, eq-eqb, eqb-true}
+use Rattle.std.proofs.lemmas.Bool.{cases_lt, eq-eqb, eqb-true}
 use Rattle.std.proofs.lemmas.Nat.{div-add-mod', pow_pos}
 use Rattle.std.proofs.Math.Nat.{mod-lt}
 use Rattle.std.proofs.lemmas.Nat.Bits.{bit_at-zero, bit_at_above, bit_at_cat_low, bit_at_cat_high}
@@ -21,28 +21,6 @@ bit_low choice bit l one = elim (cases_lt bit 4) [
   | inl low ↦ low
   | inr high ↦ let z : bit_at choice bit ≡ 0 = bit_at_above choice 4 bit (omega arith) high in absurd (omega arith)
 ]
-
--- a choice with one packet more
-pub choice_more : (rows : List (Vec ℕ)) (group choice rest bit p : ℕ) (A B : Type 0) → bit < 4 → bit_at choice bit ≡ 1 → bit_at rest bit ≡ 0 → ((i : ℕ) → i < 64 → i ≢ bit → bit_at rest i ≡ bit_at choice i)
-    → A ↔ OfChoice rows group rest p → B ↔ (A ⊎ Marks rows p (group * 4 + bit)) → B ↔ OfChoice rows group choice p
-choice_more rows group choice rest bit p A B low one clear same h g = (
-  λ b. elim (g.0 b) [
-    | inl a ↦
-        let o = h.0 a in
-        elim (cases_eq o.0 bit) [
-          | inl e ↦
-              let none : bit_at rest o.0 ≡ 0 = subst (λ i. bit_at rest i ≡ 0) (sym e) clear in
-              let some : bit_at rest o.0 ≡ 1 = o.2 in
-              absurd (omega arith)
-          | inr d ↦ (o.0, o.1, sym (same o.0 (let l = o.1 in omega arith) d) ∙ o.2, o.3)
-        ]
-    | inr m ↦ (bit, low, one, m)
-  ],
-  λ o. elim (cases_eq o.0 bit) [
-    | inl e ↦ g.1 (inr (subst (λ i. Marks rows p (group * 4 + i)) e o.3))
-    | inr d ↦ g.1 (inl (h.1 (o.0, o.1, same o.0 (let l = o.1 in omega arith) d ∙ o.2, o.3)))
-  ],
-)
 
 -- ---- the groups of a word
 

@@ -47,11 +47,6 @@ given_back len old new e f = grind (arith, common_steps)
 
 -- ---- a row among the rows
 
-pub marked : (rows : List (Vec ℕ)) (p m : ℕ) (x : Vec ℕ) (before : List ℕ) (K : Type 0) → m < length rows → x ≡ slice_index_or rows m x → before ≡ x.items → K → IsTrue (has before p) ↔ (Marks rows p m × K)
-marked rows p m x before K l is e k =
-    let same : before ≡ row rows m = e ∙ sym (row_is rows m x l is) in
-    (λ h. (subst (λ r. IsTrue (has r p)) same h, k), λ t. subst (λ r. IsTrue (has r p)) (sym same) t.0)
-
 length_plain : (rows : List (Vec ℕ)) → length (map (λ v. v.items) rows) ≡ length rows
 length_plain rows = length-map rows (λ v. v.items)
 
