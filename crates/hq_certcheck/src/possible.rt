@@ -36,32 +36,26 @@ fn writes_nothing(foot: &Footprint) -> bool
     foot.write.len == 0
 }
 
-/// The packets that read something.
-fn readers(job: &Job) -> [u64; WORDS]
-    ensures { (s : ℕ) → IsPacket (plan job.now) s → has result s ≡ false → (packet (plan job.now) s).reads ≡ [] }
+/// The packets that read something, and those that write something.
+fn readers_and_writers(job: &Job) -> ([u64; WORDS], [u64; WORDS])
+    ensures readers { (s : ℕ) → IsPacket (plan job.now) s → has result.0 s ≡ false
+        → (packet (plan job.now) s).reads ≡ [] }
+    ensures writers { (s : ℕ) → IsPacket (plan job.now) s → has result.1 s ≡ false
+        → (packet (plan job.now) s).writes ≡ [] }
 {
     job.valid();
-    let mut row = [0; WORDS];
+    let mut readers = [0; WORDS];
+    let mut writers = [0; WORDS];
     for p in 0..job.packets().len() {
-        if !reads_nothing(&job.packet(p).bytes) {
-            insert(&mut row, p);
+        let foot = &job.packet(p).bytes;
+        if !reads_nothing(foot) {
+            insert(&mut readers, p);
+        }
+        if !writes_nothing(foot) {
+            insert(&mut writers, p);
         }
     }
-    row
-}
-
-/// The packets that write something.
-fn writers(job: &Job) -> [u64; WORDS]
-    ensures { (s : ℕ) → IsPacket (plan job.now) s → has result s ≡ false → (packet (plan job.now) s).writes ≡ [] }
-{
-    job.valid();
-    let mut row = [0; WORDS];
-    for p in 0..job.packets().len() {
-        if !writes_nothing(&job.packet(p).bytes) {
-            insert(&mut row, p);
-        }
-    }
-    row
+    (readers, writers)
 }
 
 /// Takes in those of some packets that can be the second of a kind of conflict, if there can be a first, and lack its
@@ -93,10 +87,12 @@ impl Possible {
     pub fn of(alloc: Global, job: &Job) -> Result<Possible, AllocError>
         ensures { IfOk result (IsPossible (plan job.now)) }
     {
+        let parts = Parts::build(alloc, job)?;
+        let (readers, writers) = readers_and_writers(job);
         Ok(Possible {
-            parts: Parts::build(alloc, job)?,
-            readers: readers(job),
-            writers: writers(job),
+            parts,
+            readers,
+            writers,
         })
     }
 
