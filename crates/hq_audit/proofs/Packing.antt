@@ -1,5 +1,5 @@
 -- Drafts are packed in numbers.
-use Rattle.std.proofs.Common.{◌≡◌, ◌≢◌, ℕ, zero, suc, ◌+◌, ◌*◌, ◌/◌, ◌%◌, ◌<◌, ◌≤◌, length, refl, sym, ◌∙◌, ap, arith}
+use Rattle.std.proofs.Common.{◌≡◌, ℕ, ◌+◌, ◌*◌, ◌/◌, ◌%◌, ◌<◌, ◌≤◌, length, refl, ◌∙◌, ap, arith}
 use Rattle.hq_fence.specs.declared.shown.Release.{Release}
 use Rattle.hq_fence.specs.declared.shown.Release.TheVariants as release
 use Rattle.hq_fence.specs.declared.shown.Acquire.{Acquire}
@@ -51,19 +51,6 @@ packed_is packed form p r x y x2 y2 low lp lr lx ly lx2 ly2 is =
     let first : packed.word % 16 ≡ form = omega (arith, low, is) in
     let second : packed.word / 16 ≡ rest = omega (arith, low, is) in
     ap (λ f. draft_by f (packed.word / 16)) first ∙ ap (draft_by form) second ∙ draft_is form p r x y x2 y2 lp lr lx ly lx2 ly2
-
-pub by_form : (form x y x2 y2 n : ℕ) (means : Means) → form ≡ n → means ≡ means_by n x y x2 y2 → means ≡ means_by form x y x2 y2
-by_form form x y x2 y2 n means e is = is ∙ ap (λ f. means_by f x y x2 y2) (sym e)
-
--- another form than those below 6
-pub by_last : (form x y x2 y2 : ℕ) → form ≢ 0 → form ≢ 1 → form ≢ 2 → form ≢ 3 → form ≢ 4 → form ≢ 5 → WriteRead (release.Chained x x2) (acquire.Chained y2 y) ≡ means_by form x y x2 y2
-by_last zero x y x2 y2 a b c d e f = absurd (a refl)
-by_last (suc zero) x y x2 y2 a b c d e f = absurd (b refl)
-by_last (suc (suc zero)) x y x2 y2 a b c d e f = absurd (c refl)
-by_last (suc (suc (suc zero))) x y x2 y2 a b c d e f = absurd (d refl)
-by_last (suc (suc (suc (suc zero)))) x y x2 y2 a b c d e f = absurd (e refl)
-by_last (suc (suc (suc (suc (suc zero))))) x y x2 y2 a b c d e f = absurd (f refl)
-by_last (suc (suc (suc (suc (suc (suc form)))))) x y x2 y2 a b c d e f = refl
 
 -- ---- packets have small numbers
 

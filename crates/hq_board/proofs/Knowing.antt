@@ -186,9 +186,6 @@ is_open job known place slot t l = (
 pub looks_own : (job : Job) (known : Known) (p slot : ℕ) → Tied job known → (packet job p).queue ≡ known.queue → MayLook job (after job (log_of known)) p slot → IsOwn known p
 looks_own job known p slot t q may = own_place job known p t may.dependency.is_packet q
 
-pub looks_open : (job : Job) (known : Known) (p slot : ℕ) → MayLook job (after job (log_of known)) p slot → IsOpen job (after job (log_of known)) p slot
-looks_open job known p slot may = record { barrier = may.barrier; launched = may.launched; fresh = may.fresh }
-
 pub looks_if : (job : Job) (known : Known) (p slot s : ℕ) → Dependency job p slot s → IsOpen job (after job (log_of known)) p slot → MayLook job (after job (log_of known)) p slot
 looks_if job known p slot s d o = record { signal = s; dependency = d; barrier = o.barrier; launched = o.launched; fresh = o.fresh }
 

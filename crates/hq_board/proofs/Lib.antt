@@ -5,4 +5,3 @@ pub mod Steps
 pub mod Opening
 pub mod Knowing
 pub mod Told
-pub mod Tying

@@ -1,5 +1,5 @@
 -- Each step of a seat keeps the rule.
-use Rattle.std.proofs.Common.{◌≡◌, ◌≢◌, ℕ, zero, suc, ◌⊎◌, cond, length-append, None, replicate, ◌++◌, ◌+◌, ◌-◌, ◌%◌, ◌^◌, ◌<◌, inl, inr, Bool, true, false, List, [], ◌∷◌, length, get_or, set, refl, sym, ◌∙◌, ap, subst, arith, eqb, Option, Some, slice_index, slice_get}
+use Rattle.std.proofs.Common.{◌≡◌, ◌≢◌, ℕ, zero, suc, ◌⊎◌, length-append, replicate, ◌++◌, ◌+◌, ◌-◌, ◌%◌, ◌^◌, ◌<◌, inl, inr, Bool, true, false, List, [], ◌∷◌, length, get_or, set, refl, sym, ◌∙◌, ap, subst, arith, eqb, Option, Some, slice_index, slice_get}
 use Rattle.std.proofs.lemmas.Bool.{cases_eq, cond-true, cond-false, eq-eqb, ne_eqb, true≢false}
 use Rattle.std.proofs.lemmas.List.{length-replicate, get_or_append_left, get_or-replicate, set-get_or, get_or-set_same, get_or-set_other, length-set}
 use Rattle.std.proofs.Math.Seq.{get_or-append_right}
@@ -10,10 +10,9 @@ use Rattle.atomic_table.specs.Table.{State, Me, keeps, Allows, Splits}
 use Rattle.atomic_table.proofs.Lists.{at_set}
 use Rattle.hq_model.specs.Job.{Job, packet, Dependency, completes_on}
 use Rattle.hq_model.specs.Machine as machine
-use Rattle.hq_model.specs.Machine.{MayLaunch}
 use Rattle.hq_model.proofs.Kept.{signal_of, signal_is}
 use Rattle.hq_board.specs.declared.entry.Entry.{Entry}
-use Rattle.hq_board.specs.declared.entry.Entry.TheVariants.{DidLaunch, DidEnter, DidObserve, DidComplete, Looked}
+use Rattle.hq_board.specs.declared.entry.Entry.TheVariants.{DidObserve, DidComplete, Looked}
 use Rattle.hq_board.specs.declared.entry.View.{View}
 use Rattle.hq_board.specs.History.{queue_of, next, after, May, MayLook, Sees, Legal, part, own_step, without_signal}
 use Rattle.hq_board.specs.Rule.{own_steps, Fits, Words, Deals, HasHistory, added, dealer, newcomer, seen, OwnStep, IsSettled}
@@ -214,10 +213,6 @@ steps_look job slots id me p slot s plain q may d near t k _ here wide = (added 
 
 -- ---- a new seat
 
--- the dealer hands out its number
-abbrev pub dealt : View → View
-dealt v = record { queue = v.queue + 1; deals = v.deals; log = v.log }
-
 pub deals_out : (job : Job) (id : ℕ) (v : View) → v ≡ dealer v.queue → Splits (kept_by job) id v (dealer (v.queue + 1)) (newcomer v.queue)
 deals_out job id v is s k here = record {
   m = k.m;
@@ -320,44 +315,6 @@ opens job words e = record {
   apart = λ j k v w a b same. (one_view j v a).0 ∙ sym (one_view k w b).0;
   dealers = λ k v at d. record { below = λ j w b n. absurd (n ((one_view j w b).0 ∙ sym (one_view k v at).0)); empty = λ q l. refl };
 }
-
--- ---- steps on the queue's own word
-
-pub own_launch : (job : Job) (v : View) (q p : ℕ) → v.deals ≡ false → v.queue ≡ q → q < length job.queues → MayLaunch job (after job v.log) q p → OwnStep job v (DidLaunch p)
-own_launch job v q p plain is near may = record {
-  plain = plain;
-  queue = may.queue ∙ sym is;
-  near = subst (λ k. k < length job.queues) (sym is) near;
-  one = refl;
-  signals = λ a s. refl;
-  sees = λ a. tt;
-  may = subst (λ k. MayLaunch job (after job v.log) k p) (sym may.queue) may;
-}
-
-pub own_enter : (job : Job) (v : View) (q p : ℕ) → v.deals ≡ false → v.queue ≡ q → (packet job p).queue ≡ q → q < length job.queues → May job (after job v.log) (DidEnter p) → OwnStep job v (DidEnter p)
-own_enter job v q p plain is same near may = record {
-  plain = plain;
-  queue = same ∙ sym is;
-  near = subst (λ k. k < length job.queues) (sym is) near;
-  one = refl;
-  signals = λ a s. refl;
-  sees = λ a. tt;
-  may = may;
-}
-
-pub own_complete : (job : Job) → Fits job → (v : View) (q p : ℕ) → v.deals ≡ false → v.queue ≡ q → (packet job p).queue ≡ q → (packet job p).done ≡ None → May job (after job v.log) (DidComplete p) → OwnStep job v (DidComplete p)
-own_complete job fits v q p plain is same none may = record {
-  plain = plain;
-  queue = same ∙ sym is;
-  near = subst (λ k. k < length job.queues) (same ∙ sym is) (fits.in_range p may.0);
-  one = ap without_signal none;
-  signals = λ a s. ap (λ (o : Option ℕ). cond (on s o) (a.signal s - 1) (a.signal s)) none;
-  sees = λ a. tt;
-  may = may;
-}
-  where
-    on : ℕ → Option ℕ → Bool
-    on s o = Rattle.hq_model.specs.Job.is_signal s o
 
 -- ---- looks
 

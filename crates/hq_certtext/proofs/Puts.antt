@@ -39,15 +39,6 @@ roomed {s = s} h l = as_text (then_gains h l) (append-nil s)
 pub put_gains : (u : Option (List ℕ)) {a b s : List ℕ} {i j : ℕ} → take j b ≡ take i a ++ s → Gains u a i u b j s
 put_gains u {a} {b} {s} {i} {j} e = record { gained = appends_known u (take i a) (take j b) s e }
 
--- all of the text, when what is left in the buffer is written
-pub all_written : (u v w : Option (List ℕ)) (a b t : List ℕ) (j : ℕ) → Gains u a 0 v b j t → Appends v w (take j b) → Appends u w t
-all_written u v w a b t j h k = by u v w h.gained k where
-  by : (u v w : Option (List ℕ)) → Appends (append_known u []) (append_known v (take j b)) t → Appends v w (take j b) → Appends u w t
-  by None v w h k = tt
-  by (Some xs) None w h k = absurd h
-  by (Some xs) (Some ys) None h k = absurd k
-  by (Some xs) (Some ys) (Some zs) h k = k ∙ h ∙ ap (λ r. r ++ t) (append-nil xs)
-
 -- so it is when nothing is left in the buffer
 nothing_left : (u v : Option (List ℕ)) (t : List ℕ) → Appends u (append_known v []) t → Appends u v t
 nothing_left None v t k = tt

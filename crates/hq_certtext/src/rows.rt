@@ -1,6 +1,6 @@
 //! The decimal texts of the numbers below 1,000, or of fewer, made once for each text that is printed.
 
-ghost use Rattle.std.specs.Prelude.{◌≡◌, ℕ, ◌<◌, IfSome, length, slice_index_or};
+ghost use Rattle.std.specs.Prelude.{ℕ, ◌<◌, IfSome, length, slice_index_or};
 ghost use Rattle.hq_certtext.specs.Rows.{IsRow};
 ghost use Rattle.hq_certtext.specs.declared.rows.Row.{Row};
 

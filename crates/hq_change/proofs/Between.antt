@@ -19,7 +19,7 @@ use Rattle.hq_change.specs.declared.level.Level.{Level}
 use Rattle.hq_change.specs.declared.level.Level.TheVariants as level
 use Rattle.hq_change.specs.Levels.{IsAt, part_of, IsLowered, Stays, HeadLowered, AreLowered, SomeOther}
 use Rattle.hq_change.specs.Between.{SetBetween}
-use Rattle.hq_change.specs.Minimal.{AtOrAbove, Settled, IsOn, Fit, Attempted}
+use Rattle.hq_change.specs.Minimal.{AtOrAbove, Settled, IsOn, Attempted}
 use Rattle.hq_change.proofs.Single.{head_itself, lowered_below, lowered_not_at, lowered_bit}
 
 -- ---- lists of heads
@@ -37,9 +37,6 @@ get_set_other xs i p x apart = elim (cases_lt p (length xs)) [
 -- a head that was lowered isn't what it was
 lowered_apart : (l : Level) (low old new : Head) → IsLowered l low old new → new ≢ old
 lowered_apart l low old new x e = lowered_not_at l old x.at (subst (IsAt l) (sym e ∙ x.is) x.at)
-
-pub none_lowered : (l : Level) (floor : List Head) (from : ℕ) (heads : List Head) → AreLowered l floor from from heads heads
-none_lowered l floor from heads = record { len = refl; inside = λ p low head above below. absurd (omega (arith, above, below)); others = λ p out. refl }
 
 module _ (l : Level) (floor : List Head) (from i : ℕ) (old now : List Head) (h : AreLowered l floor from i old now) (above : from ≤ i) (low head : Head) (there : slice_get floor i ≡ Some low) (is : slice_get now i ≡ Some head) where
   as_old : slice_get old i ≡ Some head
@@ -80,9 +77,6 @@ module _ (l : Level) (floor : List Head) (from i : ℕ) (old now : List Head) (h
   one_stays x = inside_more now (λ p apart. refl) (head, is, inr (x, refl)) refl
 
 -- ---- jobs whose packets are given heads
-
-pub none_set : (heads : List Head) (from : ℕ) (job : Job) → SetBetween heads from from job job
-none_set heads from job = record { same = refl; inside = λ p head a b. absurd (omega (arith, a, b)); others = λ p out. refl }
 
 pub one_set : (heads : List Head) (from i : ℕ) (old now : Job) (head : Head) → from ≤ i → IsPacket now i → SetBetween heads from i old now → slice_get heads i ≡ Some head → SetBetween heads from (i + 1) old (with_head now i head)
 one_set heads from i old now head above is h there = record {
@@ -204,28 +198,8 @@ module _ (l : Level) (floor : List Head) (from to : ℕ) (old new : Job) (b : Be
 
 -- ---- attempts
 
-on_itself : (l : Level) (floor : List Head) (from to : ℕ) (job : Job) (heads : List Head) → IsOn floor job heads → to ≤ length job.packets → AreLowered l floor from to heads heads → Between l floor from to job job
-on_itself l floor from to job heads on room lower = record {
-  same = refl;
-  inside = λ p lo a b f.
-      let there = on.has p (omega (arith, b, room)) in
-      let x = lower.inside p lo (head_at job p) a b f there in
-      subst (HeadLowered l lo (head_at job p)) (sym (get_or_from_slice_get heads p x.0 no_head x.1) ∙ get_or_from_slice_get heads p (head_at job p) no_head there) x.2;
-  others = λ p out. refl;
-}
-
 pub itself_below : (job : Job) → Raises job job
 itself_below job = record { same = refl; heads = λ p. head_itself (head_at job p) }
-
--- where there is nothing to lower
-pub attempted_none : (l : Level) (floor : List Head) (from to : ℕ) (job : Job) (heads : List Head) (rounds : Rounds) → IsOn floor job heads → to ≤ length job.packets → AreLowered l floor from to heads heads → Fit l job rounds → Attempted l floor from to job job heads rounds true
-attempted_none l floor from to job heads rounds on room lower fit = record {
-  on = on;
-  below = itself_below job;
-  others = λ p out. refl;
-  fit = fit;
-  settled = λ done p a c at. between_settled l floor from to job job (on_itself l floor from to job heads on room lower) on.floored room p a c at;
-}
 
 module _ (l : Level) (floor : List Head) (from to : ℕ) (old new : Job) (heads low : List Head) (rounds : Rounds) (on : IsOn floor old heads) (room : to ≤ length old.packets) (lower : AreLowered l floor from to heads low) (set : SetBetween low from to old new) where
   b : Between l floor from to old new

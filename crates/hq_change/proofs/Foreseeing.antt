@@ -1,5 +1,5 @@
 -- What is foreseen of bits.
-use Rattle.std.proofs.Common.{◌≡◌, ℕ, ◌+◌, ◌<◌, ◌≤◌, inl, inr, ◌||◌, ◌==◌, IsTrue, List, length, refl, sym, ◌∙◌, ap, subst, arith, Some, slice_get}
+use Rattle.std.proofs.Common.{◌≡◌, ℕ, ◌+◌, ◌<◌, ◌≤◌, inl, inr, ◌||◌, ◌==◌, IsTrue, List, refl, sym, ◌∙◌, ap, subst, arith, Some, slice_get}
 use Rattle.std.specs.Global.{Vec}
 use Rattle.std.proofs.lemmas.Bool.{cases_eq, cases_lt}
 use Rattle.std.proofs.lemmas.Option.{get_or_from_slice_get}
@@ -12,7 +12,7 @@ use Rattle.hq_model.proofs.Fences.{shown_is_before}
 use Rattle.hq_model.proofs.SettingsKept.{heads_leave_conflicts, heads_leave_lists, same_length, packets_same}
 use Rattle.hq_model.proofs.SettingsSteps.{heads_are_set, raises_on, same_by_heads}
 use Rattle.hq_bits.specs.Bits.{has}
-use Rattle.hq_rows.specs.Matrix.{Marks, IsSquare, row, words_for}
+use Rattle.hq_rows.specs.Matrix.{Marks, IsSquare, row}
 use Rattle.hq_bits.proofs.Walked.{mark_bit}
 use Rattle.hq_parts.specs.Parts.{NeverConflict}
 use Rattle.hq_audit.specs.Refused.{AllShown}
@@ -110,9 +110,6 @@ module _ (floor : List Head) (p : ℕ) (job : Job) (low head less : Head) (k : J
 
 -- ---- one bit behind another
 
-pub none_foreseen : (floor : List Head) (n : ℕ) (job : Job) → length job.packets ≤ n → AtOrAbove floor job → AllForeseen floor n job job
-none_foreseen floor n job few above = record { below = itself_below job; above = above; settled = λ p from is at. absurd (omega (arith, from, is, few)) }
-
 pub more_foreseen : (floor : List Head) (p : ℕ) (old now new : Job) → AllForeseen floor (p + 1) old now → Foreseen floor p now new → AllForeseen floor p old new
 more_foreseen floor p old now new all one = record {
   below = raises_on new now old one.below all.below;
@@ -157,9 +154,6 @@ module _ (job : Job) (a b next : ℕ) (old : List ℕ) (all : (x : ℕ) → x < 
       | inr apart ↦ absurd (none_passed job a x (never x (omega (arith, from, apart)) low) h)
     ]
   ]
-
-pub square_rows : (n : ℕ) (rows : List (Vec ℕ)) → n ≤ 1024 → length rows ≡ n → ((r : ℕ) → r < n → length (row rows r) ≡ words_for n) → IsSquare n rows
-square_rows n rows few len wide = record { height = len; width = wide; room = omega arith; few = omega arith }
 
 -- ---- the job so lowered
 

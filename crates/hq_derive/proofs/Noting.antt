@@ -10,11 +10,10 @@ use Rattle.hq_bits.proofs.Sets.{has_insert, has_word}
 use Rattle.hq_bits.proofs.Words.{or_cases, eq_test}
 use Rattle.hq_model.specs.Certificate as model
 use Rattle.hq_model.specs.Certificate.{Says}
-use Rattle.hq_derive.specs.declared.needs.Needs.{Needs}
 use Rattle.hq_derive.specs.declared.ranks.Place.{Place}
 use Rattle.hq_derive.specs.declared.ranks.Ranks.{Ranks}
 use Rattle.hq_derive.specs.Gathered.{initial_of}
-use Rattle.hq_derive.specs.Needed.{AllThere, BitsThere, HasLine, IsNumber, WordThere}
+use Rattle.hq_derive.specs.Needed.{BitsThere, HasLine, IsNumber, WordThere}
 
 -- what a row has, it has when bits are put over one of its words
 pub has_still : (row : List ℕ) (k w x : ℕ) → k < length row → IsTrue (has row x) → IsTrue (has (slice_set row k (bit_or (slice_index row k) w)) x)
@@ -30,15 +29,6 @@ has_noted row k p r place low =
     has_insert row n n (omega (arith, place, low)) ∙ (or_cases (has row n) (n == n)).1 (inr ((eq_test n n).1 refl)) in
     subst (λ b. IsTrue (has (slice_set row k (bit_or (slice_index row k) (1 * 2 ^ b % 2 ^ 64))) n)) bit
     (subst (λ j. IsTrue (has (slice_set row j (bit_or (slice_index row j) (1 * 2 ^ (n % 64) % 2 ^ 64))) n)) at is)
-
--- a number of a bit is that of two packets
-pub all_there : (needs : Needs) (lines : List model.Line) → ((n : ℕ) → IsTrue (has needs.bits.items n) → HasLine lines (n / 1024) (n % 1024)) → AllThere needs lines
-all_there needs lines h = λ p r needed.
-    let low : r < 1024 = needed.0 in
-    let n : ℕ = p * 1024 + r in
-    let first : n / 1024 ≡ p = omega arith in
-    let second : n % 1024 ≡ r = omega arith in
-    subst (λ x. HasLine lines x r) first (subst (HasLine lines (n / 1024)) second (h n needed.1))
 
 -- ---- a line, where it stands
 

@@ -3,7 +3,7 @@ use Rattle.std.proofs.Common.{◌≡◌, ℕ, zero, suc, ◌+◌, ◌*◌, ◌/�
 use Rattle.std.specs.Option.{option_map}
 use Rattle.std.proofs.lemmas.List.{length-map, map-append, take_more}
 use Rattle.std.proofs.lemmas.List.Elements.{All-push}
-use Rattle.std.proofs.lemmas.Option.{slice_get-map, slice_get-get_or, slice_get_within, get_or_from_slice_get}
+use Rattle.std.proofs.lemmas.Option.{slice_get-map, slice_get_within, get_or_from_slice_get}
 use Rattle.hq_job.proofs.Grouped.{get_before, get_after}
 use Rattle.hq_cert.specs.declared.certificate.Line.{Line}
 use Rattle.hq_cert.specs.View.{line_of}
@@ -45,16 +45,6 @@ placed_push kept old new s e h is = subst (ArePlaced kept) (sym e) (All-push (Is
 
 pub placed_more : (kept more : List Line) (words : List Short) → length kept ≤ length more → ArePlaced kept words → ArePlaced more words
 placed_more kept more words long h = λ k d low four. let first = slice_index_or words k d in let there : first_of first < length kept = h k d low four in omega (arith, there, long)
-
-pub line_at : (kept : List Line) (words : List Short) (k : ℕ) (s : Short) → k < length words → s ≡ slice_index_or words k s → slice_get (map (line_in kept) words) k ≡ Some (line_in kept s)
-line_at kept words k s low is = slice_get-map (line_in kept) words k ∙ ap (option_map (line_in kept)) (slice_get-get_or words k s low) ∙ ap (λ x. Some (line_in kept x)) (sym is)
-
-pub kept_at : (kept : List Line) (form p r a b : ℕ) (line : Line) → 3 < form → slice_get kept a ≡ Some line → line_by kept form p r a b ≡ line_of line
-kept_at kept zero p r a b line h e = absurd (omega (arith, h))
-kept_at kept (suc zero) p r a b line h e = absurd (omega (arith, h))
-kept_at kept (suc (suc zero)) p r a b line h e = absurd (omega (arith, h))
-kept_at kept (suc (suc (suc zero))) p r a b line h e = absurd (omega (arith, h))
-kept_at kept (suc (suc (suc (suc form)))) p r a b line h e = ap if_kept e
 
 pub last_kept : (kept : List Line) (x : Line) → slice_get (kept ++ x ∷ []) (length kept) ≡ Some x
 last_kept kept x = let e : length kept ≡ length kept + 0 = omega arith in ap (slice_get (kept ++ x ∷ [])) e ∙ get_after kept (x ∷ []) 0

@@ -5,7 +5,6 @@ use Rattle.std.specs.Io.KnownBytes.{Appends}
 use Rattle.hq_status.specs.Reports.{Said}
 use Rattle.hq_engines.specs.Recording.{BothSaid}
 use Rattle.hq_status.specs.declared.status.Status.{Status}
-use Rattle.hq_status.specs.declared.status.Status.TheVariants.{File}
 
 -- nothing is written behind what is known
 stays : (known : Option (List ℕ)) → Appends known known []
@@ -25,9 +24,3 @@ both begun recorded old new events text status answered written (inr failed) = i
 pub alone : (begun recorded old new : Option (List ℕ)) (text : List ℕ) (status answered : Status) → recorded ≡ begun → Said old new text status answered
     → BothSaid begun recorded [] old new text status answered
 alone begun recorded old new text status answered same said = both begun recorded old new [] text status answered (unwritten begun recorded same) said
-
--- where a writer failed, that is the answer
-pub failed_both : (begun recorded old new : Option (List ℕ)) (events text wanted : List ℕ) (status answered : Status) → Said old new text File answered
-    → BothSaid begun recorded events old new wanted status answered
-failed_both begun recorded old new events text wanted status answered (inl said) = inr said.0
-failed_both begun recorded old new events text wanted status answered (inr failed) = inr failed

@@ -5,7 +5,7 @@ use Rattle.hq_model.specs.Job.{Job}
 use Rattle.hq_graph.specs.Graph.{Is, Wrote}
 use Rattle.hq_graph.proofs.Joining.{appends_more, appends_nothing, both}
 use Rattle.hq_explain.specs.Explain.{PairText}
-use Rattle.hq_explain.specs.Told.{AllText, Broken, IsPair, PairTold, RowBroken, RowTold, Told, closing_text, is_told}
+use Rattle.hq_explain.specs.Told.{AllText, Broken, IsPair, PairTold, RowTold, Told, closing_text, is_told}
 use Rattle.hq_explain.specs.Told.Told.{start, row, apart, said, left}
 
 -- ---- one pair
@@ -37,9 +37,6 @@ pair_said x y job order all a b count ordered is t w = record {
 
 -- ---- rows
 
-pub row_none : (x : Option (List ℕ)) (job : JobValue) (order : Job) (all : Bool) (a count : ℕ) → Wrote x x (RowTold job order all a count 0 count)
-row_none x job order all a count = record { text = []; says = λ before t. same_text job order all a 0 count before t; appends = appends_nothing x }
-
 pub row_more : (x y z : Option (List ℕ)) (job : JobValue) (order : Job) (all : Bool) (a count b now n : ℕ) → Wrote x y (RowTold job order all a count b now) → Wrote y z (PairTold job order all a b now n) → Wrote x z (RowTold job order all a count (b + 1) n)
 row_more x y z job order all a count b now n s t = record {
   text = s.text ++ t.text;
@@ -59,16 +56,6 @@ rows_more x y z job order all a count n s t = record {
 }
 
 -- ---- where memory ran out
-
-pub row_broken : (x y : Option (List ℕ)) (job : JobValue) (order : Job) (all : Bool) (a count b n : ℕ) → Wrote x y (RowTold job order all a count b n) → Wrote x y (RowBroken job order all a count)
-row_broken x y job order all a count b n w = record { text = w.text; says = (b, n, w.says); appends = w.appends }
-
-pub rows_broken : (x y z : Option (List ℕ)) (job : JobValue) (order : Job) (all : Bool) (a count : ℕ) → Wrote x y (Told job order all a 0 count) → Wrote y z (RowBroken job order all a count) → Wrote x z (Broken job order)
-rows_broken x y z job order all a count s t = record {
-  text = s.text ++ t.text;
-  says = (all, a, t.says.0, t.says.1, t.says.2 s.text s.says);
-  appends = appends_more x y z s.text t.text s.appends t.appends;
-}
 
 -- nothing was told of
 pub broken_at_once : (x y : Option (List ℕ)) (job : JobValue) (order : Job) → y ≡ x → Wrote x y (Broken job order)

@@ -1,7 +1,5 @@
 -- Lists by places.
 use Rattle.std.proofs.Common.{◌≡◌, ℕ, List, [], ◌∷◌, ◌++◌, length, Some, slice_get, sym, ap, subst, ◌∙◌, inl, inr, arith}
-use Rattle.std.specs.Prelude.{Result, Ok, Err, IfErr}
-use Rattle.std.specs.Result.{IsErrAnd}
 use Rattle.std.proofs.lemmas.Bool.{cases_lt}
 use Rattle.std.proofs.lemmas.List.{get_or_push, get_or_append_left, length_push}
 use Rattle.std.proofs.lemmas.Option.{slice_get_within, slice_get-get_or, get_or_from_slice_get}
@@ -20,8 +18,3 @@ each_push P xs x h p k y e =
           let is : x ≡ y = sym (get_or_push xs x y k here) ∙ get_or_from_slice_get (xs ++ x ∷ []) k y y e in
           subst (λ j. P j y) here (subst (P (length xs)) is p)
     ]
-
--- an error that is handed on
-pub handed_on : {A E : Type 0} (P : E → Type 0) (result : Result A E) (u : E) → IsErrAnd result (λ e. e ≡ u) → P u → IfErr result P
-handed_on P (Ok x) u h p = tt
-handed_on P (Err e) u h p = subst P (sym h) p

@@ -25,9 +25,6 @@ with_bit h = record h { barrier = true }
 
 -- ---- bits set one behind another
 
-pub bits_none : (job : Job) (lo : ℕ) → HasBits job job lo lo
-bits_none job lo = record { same = refl; inside = λ p a b. absurd (omega arith); outside = λ p _. refl }
-
 pub bits_more : (job k : Job) (lo p : ℕ) → lo ≤ p → IsPacket k p → HasBits job k lo p → HasBits job (with_head k p (changed change.Bit (head_at k p))) lo (p + 1)
 bits_more job k lo p low is h = record {
   same = h.same ∙ (heads_are_set k p (with_bit (head_at k p)) is).same;

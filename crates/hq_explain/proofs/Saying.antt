@@ -1,6 +1,5 @@
 -- What was written says what it is to say.
-use Rattle.std.proofs.Common.{◌<◌, ◌≤◌, ◌++◌, ℕ, zero, suc, List, true, false, Option, sym, subst, inl, inr, Result, Ok, Err, OnOk, arith}
-use Rattle.std.proofs.lemmas.Bool.{cases_lt}
+use Rattle.std.proofs.Common.{◌<◌, ◌++◌, ℕ, zero, suc, List, Option, sym, subst, inl, inr, Result, Ok, Err, OnOk, arith}
 use Rattle.std.specs.Io.KnownBytes.{Appends}
 use Rattle.hq_job.specs.Value.{JobValue}
 use Rattle.hq_model.specs.Job.{Job, Decrements}
@@ -11,16 +10,13 @@ use Rattle.hq_order.specs.Rounds.Precedes.{by_bit, by_queue}
 use Rattle.hq_order.specs.Rounds.Awaits.{by_and, by_or}
 use Rattle.hq_order.specs.Rounds.Next.{by_known, by_either, through}
 use Rattle.hq_order.proofs.Closure.{within_before}
-use Rattle.hq_audit.specs.Refused.{IsDirected, IsUnshown}
-use Rattle.hq_audit.specs.declared.directed.Directed.{Directed}
-use Rattle.hq_audit.specs.declared.directed.Unshown.{Unshown}
 use Rattle.hq_graph.specs.Graph.{Wrote}
 use Rattle.hq_graph.specs.Order.{HasRule, IsRule}
 use Rattle.hq_graph.specs.declared.rule.Rule.{Rule}
 use Rattle.hq_graph.specs.declared.rule.Rule.TheVariants as rule
 use Rattle.hq_graph.proofs.Joining.{so_on, hence_on, appends_more}
 use Rattle.hq_explain.specs.Advised.{AreAdvice}
-use Rattle.hq_explain.specs.Explain.{StepsText, AdviceText, WouldOrder, OpenText, OrderedText, PairText}
+use Rattle.hq_explain.specs.Explain.{StepsText, AdviceText, WouldOrder}
 use Rattle.hq_explain.specs.Explain.StepsText.{one, more}
 use Rattle.hq_explain.specs.Texts.{step_line}
 use Rattle.hq_explain.specs.declared.advice.Advice.{Advice}
@@ -43,15 +39,6 @@ first_half job round p r m b = within_before job b.k p m b.first
 
 pub second_half : (job : Job) (round p r m : ℕ) → Between job round p r m → Before job m r
 second_half job round p r m b = within_before job b.k m r b.second
-
-first_below : (job : Job) (k n p r : ℕ) → IsFirstWithin job n p r → Within job k p r → n ≤ k
-first_below job k n p r f w = elim (cases_lt k n) [ inl l ↦ absurd (f.first k l w) | inr h ↦ h ]
-
-pub first_lower : (job : Job) (round n p r m : ℕ) → Between job round p r m → IsFirstWithin job n p m → n < round
-first_lower job round n p r m b f = let l = first_below job b.k n p m f b.first in omega (arith, l, b.lower)
-
-pub second_lower : (job : Job) (round n p r m : ℕ) → Between job round p r m → IsFirstWithin job n m r → n < round
-second_lower job round n p r m b f = let l = first_below job b.k n m r f b.second in omega (arith, l, b.lower)
 
 -- ---- the rule of a pair with none between by lower rounds
 
@@ -80,9 +67,3 @@ alone_rule job (suc k) p r f none = next_rule job k p r f.first none f.within
 
 pub would_order_on : {A E : Type 0} (r : Result A E) (x y : Option (List ℕ)) (order : Job) (a b : ℕ) (list : List Advice) → AreAdvice order a b list → OnOk r (Wrote x y (AdviceText list)) → OnOk r (Wrote x y (WouldOrder order a b))
 would_order_on r x y order a b list are h = hence_on r x y (AdviceText list) (WouldOrder order a b) (λ t s. (list, are, s)) h
-
-pub ordered_said : (x y : Option (List ℕ)) (job : JobValue) (order : Job) (a b : ℕ) (d : Directed) → IsDirected order a b d → Wrote x y (OrderedText job order a b d) → Wrote x y (PairText job order a b true)
-ordered_said x y job order a b d is h = record { text = h.text; says = (d, is, h.says); appends = h.appends }
-
-pub open_said : (x y : Option (List ℕ)) (job : JobValue) (order : Job) (a b : ℕ) (u : Unshown) → IsUnshown order a b u → Wrote x y (OpenText job order a b u) → Wrote x y (PairText job order a b false)
-open_said x y job order a b u is h = record { text = h.text; says = (u, is, h.says); appends = h.appends }

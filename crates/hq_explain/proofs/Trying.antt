@@ -96,19 +96,12 @@ one_way_up j k up a b (inr s) = inr (shown_up j k up b a s)
 
 -- ---- scopes
 
-pub keeps_bit : (f : Fence) (s : Scope) (h : Head) → (changed (change.Scope f s) h).barrier ≡ h.barrier
-keeps_bit fence.Acquire s h = refl
-keeps_bit fence.Release s h = refl
-
 pub orders_if : (job : Job) (a b p : ℕ) (c : Change) (o : Bool) → IsPacket job p → IsRaise c (head_at job p) → IsTrue o ↔ ShownOneWay (job_changed job p c) a b → IsTrue o ↔ Orders job a b p c
 orders_if job a b p c o is up h = (λ t. record { is_packet = is; raises = up; orders = h.0 t }, λ x. h.1 x.orders)
 
 pub orders_by : (job : Job) (a b p : ℕ) (c : Change) (o : Bool) (old head : Head) → IsPacket job p → old ≡ head_at job p → head ≡ changed c old → IsRaise c old → IsTrue o ↔ ShownOneWay (with_head job p head) a b → IsTrue o ↔ Orders job a b p c
 orders_by job a b p c o old head is e h up s =
     orders_if job a b p c o is (subst (IsRaise c) e up) (subst (λ n. IsTrue o ↔ ShownOneWay (with_head job p n) a b) (h ∙ ap (changed c) e) s)
-
-pub orders_never : (job : Job) (a b p : ℕ) (c : Change) → (¬ IsRaise c (head_at job p)) → IsTrue false ↔ Orders job a b p c
-orders_never job a b p c not_raised = (λ t. let never : ⊥ = cc in absurd never, λ x. absurd (not_raised x.raises))
 
 -- no scope at all is no raise
 wider_none : (s : Scope) → IsTrue (is_wider scope.None s) → ⊥

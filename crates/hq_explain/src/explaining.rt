@@ -4,7 +4,6 @@ ghost use Rattle.std.specs.Prelude.{◌≡◌, ◌≢◌, ◌↔◌, IfErr, IfOk
 ghost use Rattle.std.specs.Io.KnownBytes.{Appends};
 ghost use Rattle.hq_job.specs.Plan.{plan};
 ghost use Rattle.hq_model.specs.Job.{IsPacket};
-ghost use Rattle.hq_parts.specs.Parts.{AreParts};
 ghost use Rattle.hq_graph.specs.Graph.{Wrote};
 ghost use Rattle.hq_graph.specs.Known.{TellsStuck};
 ghost use Rattle.hq_graph.specs.Order.{IsFound};
@@ -19,10 +18,9 @@ use crate::pairs::write_pair;
 use crate::stuck::{stuck_in, write_stuck};
 use crate::telling::tell_all;
 use crate::which::Which;
-use hq_audit::all_shown;
 use hq_fence::have_conflict;
 use hq_finding::Found;
-use hq_graph::Stuck;
+use hq_graph::{Stuck, found_of};
 use hq_job::Job;
 use hq_order::Before;
 use hq_parts::Parts;
@@ -30,19 +28,7 @@ use std::alloc::Global;
 use std::io;
 use std::io::Write;
 
-/// What an audit finds of a job without a packet that can never complete.
-fn found_of(before: &Before, parts: &Parts) -> Found
-    requires parts { AreParts before.now parts.now }
-    requires order { HasOrder before.now }
-    ensures { IsFound before.now result }
-{
-    match all_shown(before, parts) {
-        Ok(()) => Found::Ordered,
-        Err(_) => Found::Conflict,
-    }
-}
-
-/// What that is for two packets.
+/// What an audit would find of two packets alone.
 fn found_if(ordered: bool) -> Found
     ensures { result ≡ found_if ordered }
 {
@@ -76,8 +62,10 @@ fn explain_pairs<W: Write>(
     alloc: Global,
     writer: &mut W,
     job: &Job,
+    stuck: &Stuck,
     all: bool,
 ) -> Result<Found, ExplainFault>
+    requires tells { TellsStuck (plan job.now) stuck.now }
     requires order { HasOrder (plan job.now) }
     ensures explained { IfOk result
         (λ found. Wrote (W.contents writer.old) (W.contents writer.new) (AllText job.now (plan job.now) all)) }
@@ -87,7 +75,7 @@ fn explain_pairs<W: Write>(
 {
     let before = Before::build(alloc, job)?;
     let parts = Parts::build(alloc, job)?;
-    let found = found_of(&before, &parts);
+    let found = found_of(&before, &parts, stuck);
     tell_all(alloc, writer, job, &before, all)?;
     Ok(found)
 }
@@ -155,7 +143,9 @@ fn explain_which<W: Write>(
     writer: &mut W,
     job: &Job,
     which: Which,
+    stuck: &Stuck,
 ) -> Result<Found, ExplainFault>
+    requires tells { TellsStuck (plan job.now) stuck.now }
     requires order { HasOrder (plan job.now) }
     ensures explained { IfOk result
         (λ found. Wrote (W.contents writer.old) (W.contents writer.new)
@@ -164,8 +154,8 @@ fn explain_which<W: Write>(
         (λ e. e ≡ Memory → Wrote (W.contents writer.old) (W.contents writer.new) (Broken job.now (plan job.now))) }
 {
     match which {
-        Which::First => explain_pairs(alloc, writer, job, false),
-        Which::All => explain_pairs(alloc, writer, job, true),
+        Which::First => explain_pairs(alloc, writer, job, stuck, false),
+        Which::All => explain_pairs(alloc, writer, job, stuck, true),
         Which::Pair(p, r) => explain_pair(alloc, writer, job, p, r),
     }
 }
@@ -192,6 +182,6 @@ pub fn explain<W: Write>(
     if stuck.some {
         explain_stuck(writer, job, which, &stuck)
     } else {
-        explain_which(alloc, writer, job, which)
+        explain_which(alloc, writer, job, which, &stuck)
     }
 }

@@ -1,21 +1,18 @@
 //! What packets that can never complete wait for.
 
-ghost use Rattle.std.specs.Prelude.{◌≡◌, ◌↔◌, IfErr, IfOk, IsTrue, MatchOption, OnOk, Some};
+ghost use Rattle.std.specs.Prelude.{◌≡◌, IfErr, IfOk, IsTrue, OnOk, Some};
 ghost use Rattle.std.specs.Io.KnownBytes.{Appends};
 ghost use Rattle.hq_job.specs.Plan.{plan};
 ghost use Rattle.hq_model.specs.Job.{IsPacket};
 ghost use Rattle.hq_model.specs.Order as order;
 ghost use Rattle.hq_graph.specs.Graph.{Wrote, awaited_by};
 ghost use Rattle.hq_graph.specs.Known.{TellsStuck};
-ghost use Rattle.hq_graph.specs.Order.{Awaits};
-ghost use Rattle.hq_graph.specs.declared.wait.Wait.{Wait as By};
 ghost use Rattle.hq_explain.specs.Explained.{IsFirstWait, StuckLine, StuckPart, StuckText};
 ghost use Rattle.hq_explain.specs.Texts.{wait_text, waiting_words, waits_line};
 ghost use Rattle.hq_explain.specs.declared.fault.ExplainFault.TheVariants.{Memory};
 
 use crate::fault::ExplainFault;
-use hq_bits::has;
-use hq_graph::{GraphFault, NameWord, Stuck, Wait, awaited_by, stuck_of, way_of};
+use hq_graph::{GraphFault, NameWord, Stuck, Wait, awaited_by, stuck_of, wait_at};
 use hq_job::Job;
 use hq_text::Name;
 use std::alloc::Global;
@@ -30,30 +27,6 @@ pub fn stuck_in(alloc: Global, job: &Job) -> Result<Stuck, ExplainFault>
     match stuck_of(alloc, job) {
         Ok(stuck) => Ok(stuck),
         Err(GraphFault::Memory | GraphFault::Writer) => Err(ExplainFault::Memory),
-    }
-}
-
-/// Whether a packet can never complete.
-fn is_stuck(job: &Job, stuck: &Stuck, p: usize) -> bool
-    requires { TellsStuck (plan job.now) stuck.now }
-    ensures { IsTrue result ↔ order.Stuck (plan job.now) p }
-{
-    has(&stuck.row, p)
-}
-
-/// A way in which r, which can never complete, waits for p, which can't either.
-fn wait_at(job: &Job, stuck: &Stuck, p: usize, r: usize) -> Option<Wait>
-    requires tells { TellsStuck (plan job.now) stuck.now }
-    requires some { IsTrue stuck.now.some }
-    requires p_is { IsPacket (plan job.now) p }
-    requires r_is { IsPacket (plan job.now) r }
-    requires stuck { order.Stuck (plan job.now) r }
-    ensures { MatchOption result ((by : By) → ¬ Awaits (plan job.now) p r by) (λ by. Awaits (plan job.now) p r by) }
-{
-    if is_stuck(job, stuck, p) {
-        way_of(job, stuck, p, r)
-    } else {
-        None
     }
 }
 
@@ -151,7 +124,7 @@ fn write_if<W: Write>(writer: &mut W, job: &Job, stuck: &Stuck, r: usize) -> io:
     requires r_is { IsPacket (plan job.now) r }
     ensures { OnOk result (Wrote (W.contents writer.old) (W.contents writer.new) (StuckPart job.now (plan job.now) r)) }
 {
-    if is_stuck(job, stuck, r) {
+    if stuck.has(job, r) {
         write_line(writer, job, stuck, r)
     } else {
         Ok(())

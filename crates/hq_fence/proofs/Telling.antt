@@ -73,14 +73,6 @@ is_acquired job p r fences a =
 
 -- ---- what isn't
 
--- what a search answers, of the packets that it was made for
-pub answered : (s : Search) (job : Job) (p r : ℕ) (g : Goal) (fences : Release) (end : Ending) → s.before.now ≡ job → s.p ≡ p → s.r ≡ r → s.goal ≡ g → Answers s.before.now s.p s.r form.Any s.goal fences end → Answers job p r form.Any g fences end
-answered s job p r g fences end j pe re ge a =
-    subst (λ h. Answers job p r form.Any h fences end) ge
-    (subst (λ q. Answers job p q form.Any s.goal fences end) re
-    (subst (λ q. Answers job q s.r form.Any s.goal fences end) pe
-    (subst (λ i. Answers i s.p s.r form.Any s.goal fences end) j a)))
-
 pub unanswered :
     (s : Search) (job : Job) (p r : ℕ) (g : Goal) → s.before.now ≡ job → s.p ≡ p → s.r ≡ r → s.goal ≡ g
     → ((fences : Release) (end : Ending) → Answers s.before.now s.p s.r form.Any s.goal fences end → ⊥)

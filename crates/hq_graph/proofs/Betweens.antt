@@ -46,15 +46,6 @@ pub record Left (job : Job) (old new : List ℕ) (i : ℕ) : Type 0 where
   pub down : (p m : ℕ) → IsTrue (has old m) → has new m ≡ false → Before job p m → has new p ≡ false
   pub done : (p m : ℕ) → m < i → IsTrue (has old m) → Before job p m → has new p ≡ false
 
-left_first : (job : Job) (old : List ℕ) → Left job old old 0
-left_first job old = record {
-  len = refl;
-  kept = λ p t. t;
-  gone = λ p t f. absurd (never (has old p) t f);
-  down = λ p m t f b. absurd (never (has old m) t f);
-  done = λ p m l t b. absurd (omega arith);
-}
-
 left_skipped : (job : Job) (old new : List ℕ) (i k : ℕ) → Left job old new i → ((s : ℕ) → i ≤ s → s < k → has new s ≡ false) → Left job old new k
 left_skipped job old new i k h none = record {
   len = h.len;
@@ -84,10 +75,6 @@ left_next job old new others next i h here are out len = record {
         out_of_right (has next p) (has new p) (has others p) (out p) ((are p).1 (subst (Before job p) same b))
   ];
 }
-
--- the first number, and the next
-pub left_init : (job : Job) (old : List ℕ) (k : ℕ) → ((s : ℕ) → 0 ≤ s → s < k → has old s ≡ false) → Left job old old k
-left_init job old k none = left_skipped job old old 0 k (left_first job old) none
 
 pub left_more : (job : Job) (old new others next : List ℕ) (i k : ℕ) → Left job old new i → IsTrue (has new i) → ((p : ℕ) → IsTrue (has others p) ↔ Before job p i) → ((p : ℕ) → has next p ≡ (has new p && not (has others p))) → length next ≡ length new
     → ((s : ℕ) → i + 1 ≤ s → s < k → has next s ≡ false) → Left job old next k

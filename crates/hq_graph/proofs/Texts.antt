@@ -9,21 +9,14 @@ use Rattle.hq_audit.specs.declared.directed.Unshown.{Unshown}
 use Rattle.hq_parts.specs.Parts.{NeverConflict}
 use Rattle.hq_audit.specs.Refused.{IsDirected, IsUnshown}
 use Rattle.hq_graph.specs.declared.nodes.Node.{Node}
-use Rattle.hq_graph.specs.declared.rule.Rule.{Rule}
-use Rattle.hq_graph.specs.declared.wait.Wait.{Wait}
 use Rattle.hq_graph.specs.declared.part.Part.TheVariants as part
-use Rattle.hq_fence.specs.Judgement.{HaveConflict}
-use Rattle.hq_graph.specs.Order.{IsStep, IsRule, Awaits}
-use Rattle.hq_graph.specs.Graph.{Where, Wrote, NodeText, ConflictText, PairText, RowText, PairsText, node_of, node_there, step_text, ordered_text, open_text, wait_text}
-use Rattle.hq_graph.proofs.Joining.{so_on, hence_on, unwritten, each_empty}
+use Rattle.hq_graph.specs.Order.{IsStep}
+use Rattle.hq_graph.specs.Graph.{Where, Wrote, NodeText, ConflictText, PairText, RowText, PairsText, node_of, node_there, ordered_text, open_text}
+use Rattle.hq_graph.proofs.Joining.{so_on, unwritten, each_empty}
 
 pub node_on : {A E : Type 0} (result : Result A E) (a b : Option (List ℕ)) (job : JobValue) (order : Job) (queue p : ℕ) (node : Option Node) (stuck : Bool) → IsTrue stuck ↔ Stuck order p → node ≡ node_of job queue p
     → OnOk result (Appends a b (node_there node stuck)) → OnOk result (Wrote a b (NodeText job order queue p))
 node_on result a b job order queue p node stuck each n h = so_on result a b (NodeText job order queue p) (node_there node stuck) (stuck, each, ap (λ m. node_there m stuck) n) h
-
-pub step_on : {A E : Type 0} (result : Result A E) (a b : Option (List ℕ)) (job : JobValue) (order : Job) (r p : ℕ) (by : Rule) → IsStep order p r → IsRule order p r by
-    → OnOk result (Appends a b (step_text job p r by)) → OnOk result (Wrote a b (PairText job order part.Steps r p))
-step_on result a b job order r p by step is h = so_on result a b (PairText job order part.Steps r p) (step_text job p r by) (inl (step, (by, is, refl))) h
 
 pub ordered_on : {A E : Type 0} (result : Result A E) (a b : Option (List ℕ)) (order : Job) (x y : ℕ) (d : Directed) → IsDirected order x y d
     → OnOk result (Appends a b (ordered_text d)) → OnOk result (Wrote a b (ConflictText order x y))
@@ -32,14 +25,6 @@ ordered_on result a b order x y d is h = so_on result a b (ConflictText order x 
 pub open_on : {A E : Type 0} (result : Result A E) (a b : Option (List ℕ)) (order : Job) (x y : ℕ) (u : Unshown) → IsUnshown order x y u
     → OnOk result (Appends a b (open_text u)) → OnOk result (Wrote a b (ConflictText order x y))
 open_on result a b order x y u is h = so_on result a b (ConflictText order x y) (open_text u) (inr (u, is, refl)) h
-
-pub conflict_on : {A E : Type 0} (result : Result A E) (a b : Option (List ℕ)) (job : JobValue) (order : Job) (x y : ℕ) → (x < y) × HaveConflict order x y
-    → OnOk result (Wrote a b (ConflictText order x y)) → OnOk result (Wrote a b (PairText job order part.Conflicts x y))
-conflict_on result a b job order x y there h = hence_on result a b (ConflictText order x y) (PairText job order part.Conflicts x y) (λ t c. inl (there, c)) h
-
-pub wait_on : {A E : Type 0} (result : Result A E) (a b : Option (List ℕ)) (job : JobValue) (order : Job) (r p : ℕ) (by : Wait) → Awaits order p r by
-    → OnOk result (Appends a b (wait_text job p r by)) → OnOk result (Wrote a b (PairText job order part.Waits r p))
-wait_on result a b job order r p by is h = so_on result a b (PairText job order part.Waits r p) (wait_text job p r by) (inl ((by, is), (by, is, refl))) h
 
 -- where something doesn't hold, nothing is written
 pub none_there : (a : Option (List ℕ)) (Holds : Type 0) (Line : List ℕ → Type 0) → (¬ Holds) → Wrote a a (Where Holds Line)

@@ -1,7 +1,8 @@
 //! The packets that can never complete.
 
-ghost use Rattle.std.specs.Prelude.{◌≡◌, [], IfOk, IfErr, length};
+ghost use Rattle.std.specs.Prelude.{◌≡◌, ◌↔◌, [], IfOk, IfErr, IsTrue, length};
 ghost use Rattle.hq_job.specs.Plan.{plan};
+ghost use Rattle.hq_model.specs.Order as order;
 ghost use Rattle.hq_model.specs.Order.{OrderList};
 ghost use Rattle.hq_schedule.specs.Placing.{AreStuck, HasCome};
 ghost use Rattle.hq_graph.specs.Known.{TellsStuck};
@@ -9,7 +10,7 @@ ghost use Rattle.hq_graph.specs.declared.fault.GraphFault.TheVariants.{Memory};
 
 use crate::fault::GraphFault;
 use crate::turns::{first_barred, turns_of};
-use hq_bits::{empty, insert};
+use hq_bits::{empty, has, insert};
 use hq_job::Job;
 use hq_order::laws::none_where_stuck;
 use hq_schedule::schedule;
@@ -24,6 +25,16 @@ pub struct Stuck {
     pub some: bool,
     pub turns: Vec<usize>,
     pub barred: usize,
+}
+
+impl Stuck {
+    /// Whether a packet can never complete.
+    pub fn has(&self, job: &Job, p: usize) -> bool
+        requires { TellsStuck (plan job.now) self.now }
+        ensures { IsTrue result ↔ order.Stuck (plan job.now) p }
+    {
+        has(&self.row, p)
+    }
 }
 
 /// How many words a set of any numbers of 16 bits has.

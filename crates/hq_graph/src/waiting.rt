@@ -14,7 +14,6 @@ use crate::sight::Sight;
 use crate::stuck::Stuck;
 use crate::turns::has_slot;
 use crate::wait::Wait;
-use hq_bits::has;
 use hq_job::Job;
 use hq_packet::Packet;
 
@@ -64,7 +63,7 @@ fn is_turn(job: &Job, stuck: &Stuck, p: usize, r: usize) -> bool
 }
 
 /// A way in which r waits for p.
-pub fn way_of(job: &Job, stuck: &Stuck, p: usize, r: usize) -> Option<Wait>
+fn way_of(job: &Job, stuck: &Stuck, p: usize, r: usize) -> Option<Wait>
     requires tells { TellsStuck (plan job.now) stuck.now }
     requires some { IsTrue stuck.now.some }
     requires p_is { IsPacket (plan job.now) p }
@@ -87,12 +86,27 @@ pub fn way_of(job: &Job, stuck: &Stuck, p: usize, r: usize) -> Option<Wait>
     }
 }
 
+/// A way in which r, which can never complete, waits for p, if that can't either.
+pub fn wait_at(job: &Job, stuck: &Stuck, p: usize, r: usize) -> Option<Wait>
+    requires tells { TellsStuck (plan job.now) stuck.now }
+    requires stuck { order.Stuck (plan job.now) r }
+    requires p_is { IsPacket (plan job.now) p }
+    requires r_is { IsPacket (plan job.now) r }
+    ensures { MatchOption result ((by : By) → ¬ Awaits (plan job.now) p r by) (λ by. Awaits (plan job.now) p r by) }
+{
+    if stuck.has(job, p) {
+        way_of(job, stuck, p, r)
+    } else {
+        None
+    }
+}
+
 /// Whether a packet can never complete.
 pub fn is_stuck(sight: &Sight, p: usize) -> bool
     requires sees { Sees sight.now }
     ensures { IsTrue result ↔ order.Stuck sight.now.before.now p }
 {
-    has(&sight.stuck.row, p)
+    sight.stuck.has(sight.before.job(), p)
 }
 
 /// A way in which r, which can never complete, waits for p, if that can't either.
@@ -104,8 +118,5 @@ pub fn wait_of(sight: &Sight, p: usize, r: usize) -> Option<Wait>
     ensures { MatchOption result ((by : By) → ¬ Awaits sight.now.before.now p r by)
         (λ by. Awaits sight.now.before.now p r by) }
 {
-    if !is_stuck(sight, p) {
-        return None;
-    }
-    way_of(sight.before.job(), sight.stuck, p, r)
+    wait_at(sight.before.job(), sight.stuck, p, r)
 }

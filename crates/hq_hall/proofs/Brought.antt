@@ -7,8 +7,8 @@ use Rattle.std.proofs.Math.Seq.{take-length}
 use Rattle.hq_footprint.specs.declared.footprint.Work.{Work}
 use Rattle.hq_footprint.specs.declared.task.Task.{Task}
 use Rattle.hq_footprint.specs.declared.task.Task.TheVariants as task
-use Rattle.hq_footprint.specs.Counts.{reads_of, writes_of}
-use Rattle.hq_footprint.specs.Tasks.{SuitsTwo, result_of}
+use Rattle.hq_footprint.specs.Counts.{reads_of}
+use Rattle.hq_footprint.specs.Tasks.{SuitsTwo}
 use Rattle.hq_ledger.specs.Pieces.{Part}
 use Rattle.hq_model.specs.Job.{Job, packet}
 use Rattle.hq_model.specs.Machine.{State, bytes_read, listed}
@@ -39,18 +39,6 @@ no_second task.Sum a b n s e = s.1
 no_second (task.Store64 word) a b n s e = absurd (omega (arith, e))
 no_second (task.Count byte) a b n s e = s.1
 no_second task.Nop a b n s e = absurd (omega (arith, e))
-
--- what is written nowhere is nothing
-pub none_written : (t : Task) (n : ℕ) (bytes : List ℕ) → writes_of t ≡ 0 → result_of t n bytes ≡ []
-none_written (task.Fill byte) n bytes e = absurd (omega (arith, e))
-none_written task.Copy n bytes e = absurd (omega (arith, e))
-none_written task.Rev n bytes e = absurd (omega (arith, e))
-none_written task.Xor n bytes e = absurd (omega (arith, e))
-none_written task.Add n bytes e = absurd (omega (arith, e))
-none_written task.Sum n bytes e = absurd (omega (arith, e))
-none_written (task.Store64 word) n bytes e = absurd (omega (arith, e))
-none_written (task.Count byte) n bytes e = absurd (omega (arith, e))
-none_written task.Nop n bytes e = refl
 
 taken_one : (pieces : List Part) → 0 < length pieces → take 1 pieces ≡ piece_at pieces 0 ∷ []
 taken_one [] l = absurd (omega arith)

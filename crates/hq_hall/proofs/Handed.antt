@@ -58,11 +58,6 @@ length_at (x ∷ xs) [] i e = absurd (cc)
 length_at (x ∷ xs) (y ∷ ys) zero e = cc
 length_at (x ∷ xs) (y ∷ ys) (suc i) e = length_at xs ys i (cc)
 
--- the pieces of no range, of one and of two
-pub none_read : (p : ℕ) (w : Work) (read : List ℕ) (items : List Part) → reads_of w.task ≡ 0 → items ≡ [] → items ≡ read_pieces p w read
-none_read p w read items count is =
-    is ∙ sym (ap (λ n. take n (piece p 0 (first_read w) (take (first_read w).len read) ∷ piece p 1 (second_read w) (drop (first_read w).len read) ∷ [])) count)
-
 pub one_read : (p : ℕ) (w : Work) (read bytes : List ℕ) (items : List Part) → reads_of w.task ≡ 1 → take (first_read w).len read ≡ bytes → items ≡ piece p 0 (first_read w) bytes ∷ [] → items ≡ read_pieces p w read
 one_read p w read bytes items count first is =
     is ∙ ap (λ bs. piece p 0 (first_read w) bs ∷ []) (sym first)

@@ -18,15 +18,6 @@ journal_snoc job old mid new [] event is h = (new, subst (λ s. Happens job s ev
 journal_snoc job old mid new (first ∷ events) event (next, begin, rest) h =
     (next, begin, journal_snoc job next mid new events event rest h)
 
--- A journal's last event happens at the end of what stands before it.
-pub journal_split : (job : Job) (old new : State) (events : List Coarse) (event : Coarse)
-    → Journal job old (events ++ event ∷ []) new
-    → (mid : State) × Journal job old events mid × Happens job mid event new
-journal_split job old new [] event (mid, h, is) = (old, refl, subst (λ s. Happens job old event s) (sym is) h)
-journal_split job old new (first ∷ events) event (next, begin, rest) =
-    let (mid, run, h) = journal_split job next new events event rest in
-    (mid, (next, begin, run), h)
-
 -- ---- stores
 
 first_apart : (x : ℕ) (xs : List ℕ) → AllPairs (λ p r. p ≢ r) (x ∷ xs) → In xs x → ⊥

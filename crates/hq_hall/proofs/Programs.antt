@@ -125,10 +125,6 @@ queue_packets job q start stop order only all =
     (λ p there t. only p there (eqb-true (packet job p).queue q t))
     (λ p low high. let (there, same) = all p low high in (there, eq-eqb (packet job p).queue q same))
 
--- No packet yet.
-pub parts_none : (job : Job) (start : ℕ) → Parts job (rising start start) []
-parts_none job start = subst (λ ps. Parts job ps []) (sym (rising_none start start (omega arith))) refl
-
 -- One packet more.
 pub parts_more : (job : Job) (start p : ℕ) (list part : List Coarse) → start ≤ p → Parts job (rising start p) list
     → Part job p (packet job p).kind part

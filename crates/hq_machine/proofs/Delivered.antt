@@ -1,5 +1,5 @@
 -- All stores of a packet at once are its stores one after another.
-use Rattle.std.proofs.Common.{◌≡◌, ℕ, zero, suc, ◌+◌, ◌<◌, Bool, true, false, List, ◌∷◌, ◌++◌, length, take, replicate, set, slice_index, filter, refl, sym, ◌∙◌, ap, subst, arith}
+use Rattle.std.proofs.Common.{◌≡◌, ℕ, zero, suc, ◌+◌, ◌<◌, true, false, List, ◌∷◌, ◌++◌, length, take, replicate, set, slice_index, refl, sym, ◌∙◌, ap, subst, arith}
 use Rattle.std.proofs.lemmas.List.{append-nil, length-replicate, length-take-le, take_more, take_all}
 use Rattle.hq_model.specs.Job.{Job, packet, IsPacket}
 use Rattle.hq_model.specs.Machine.{bytes_stored}
@@ -14,10 +14,6 @@ use Rattle.hq_machine.specs.Changes.{Applied, with_byte_stored, with_stores}
 use Rattle.hq_machine.specs.Entries.{MayDeliver, DeliveredUpTo}
 use Rattle.hq_machine.specs.State.{StateValue}
 use Rattle.hq_machine.specs.View.{IsStateOf, state_of}
-
-kept : (n : ℕ) → length (filter (λ (b : Bool). b) (replicate n true)) ≡ n
-kept zero = refl
-kept (suc n) = ap suc (kept n)
 
 set_next : (n m : ℕ) → set (replicate n true ++ replicate (suc m) false) n true ≡ replicate (suc n) true ++ replicate m false
 set_next zero m = refl

@@ -1,5 +1,5 @@
 -- Texts put behind one another, and written in between.
-use Rattle.std.proofs.Common.{◌≡◌, ℕ, zero, suc, ◌+◌, ◌<◌, ◌≤◌, List, [], ◌∷◌, ◌++◌, length, get_or, take, Option, Some, None, refl, sym, ap, subst, ◌∙◌, append_assoc, append-nil, arith, add-one}
+use Rattle.std.proofs.Common.{◌≡◌, ℕ, zero, suc, ◌+◌, ◌<◌, ◌≤◌, List, [], ◌∷◌, ◌++◌, length, get_or, take, Option, Some, None, refl, sym, ap, ◌∙◌, append_assoc, append-nil, arith, add-one}
 use Rattle.std.specs.Prelude.{map}
 use Rattle.std.specs.List.{AllByRecursion}
 use Rattle.std.specs.Io.KnownBytes.{Appends, append_known}
@@ -55,9 +55,6 @@ one_fits {A = A} P xs i d lt h f = rw add-one (by xs i lt h f) where
   by [] i lt h f = absurd (omega arith)
   by (x ∷ xs) zero lt h f = (f, tt)
   by (x ∷ xs) (suc i) lt h f = (h.0, by xs i (omega arith) h.1 f)
-
-pub at_last : {A : Type 0} (a b : Option (List ℕ)) (F : List A → List ℕ) (xs : List A) (i : ℕ) → length xs ≤ i → Appends a b (F (take i xs)) → Appends a b (F xs)
-at_last a b F xs i le h = subst (λ (ys : List _). Appends a b (F ys)) (whole xs i le) h
 
 -- ---- the whole text
 

@@ -33,12 +33,6 @@ get_there [] i d l = absurd (omega arith)
 get_there (y ∷ xs) zero d l = refl
 get_there (y ∷ xs) (suc i) d l = get_there xs i d (omega arith)
 
-take_all : (xs : List Event) (n : ℕ) → length xs ≤ n → take n xs ≡ xs
-take_all [] zero l = refl
-take_all [] (suc n) l = refl
-take_all (x ∷ xs) zero l = absurd (omega arith)
-take_all (x ∷ xs) (suc n) l = ap (λ ys. x ∷ ys) (take_all xs n (omega arith))
-
 pub goes_next : (job : Job) (old mid new : StateValue) (events : List Event) (i : ℕ) (d : Event) → Goes job old (take i events) mid → i < length events
     → Applied job mid (coarse_of (slice_index_or events i d)) new → Goes job old (take (i + 1) events) new
 goes_next job old mid new events i d g l a =

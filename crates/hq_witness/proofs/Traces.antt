@@ -1,17 +1,17 @@
 -- A trace follows the steps.
-use Rattle.std.proofs.Common.{◌≡◌, ℕ, ◌<◌, inl, inr, IsSome, is_some, IfSome, List, [], ◌∷◌, ◌++◌, length, set, replicate, refl, sym, ◌∙◌, ap, subst, arith, Bool, true, false, cond, eqb, Option, Some, None, slice_index, slice_index_or, All}
+use Rattle.std.proofs.Common.{◌≡◌, ℕ, ◌<◌, inl, inr, IsSome, is_some, IfSome, List, [], ◌∷◌, ◌++◌, length, set, refl, sym, ◌∙◌, ap, subst, arith, Bool, true, false, cond, eqb, Option, Some, None, slice_index, slice_index_or, All}
 use Rattle.std.specs.Global.{Vec}
 use Rattle.std.proofs.lemmas.Bool.{cases_eq, true≢false, cond-true, cond-false, eq-eqb, ne_eqb}
-use Rattle.std.proofs.lemmas.List.{length-set, get_or-set_same, get_or-set_other, get_or-replicate, length-replicate}
-use Rattle.std.proofs.lemmas.List.Elements.{All-push, All-nil}
+use Rattle.std.proofs.lemmas.List.{length-set, get_or-set_same, get_or-set_other}
+use Rattle.std.proofs.lemmas.List.Elements.{All-push}
 use Rattle.hq_events.specs.declared.event.Event.{Event as MachineEvent}
 use Rattle.hq_events.specs.declared.event.Event.TheVariants as own
 use Rattle.hq_events.specs.Events.{single_of}
 use Rattle.hq_model.specs.Job.{Job, packet, IsPacket, agent_of}
-use Rattle.hq_model.specs.Machine.{State, Copy, IsByte, put2, start, lane_sees}
+use Rattle.hq_model.specs.Machine.{State, Copy, put2, lane_sees}
 use Rattle.hq_model.specs.Machine.Event.{Read, Store, PushLane, PushAgent, FillLane, FillAgent}
 use Rattle.hq_model.specs.Origins as model
-use Rattle.hq_model.specs.Origins.{Origins, all_start, origin_or, agent_origin, lane_origin, moved}
+use Rattle.hq_model.specs.Origins.{Origins, origin_or, agent_origin, lane_origin, moved}
 use Rattle.hq_model.proofs.Sums.{put_same, put_other, put2_same, put2_other}
 use Rattle.hq_witness.specs.declared.origin.Origin.{Origin}
 use Rattle.hq_witness.specs.declared.origin.Origin.TheVariants as origin
@@ -105,23 +105,6 @@ lane_there job state o t p x k l some is = there_own (state.lane p t.byte) (o.la
 
 pub lane_below : (job : Job) (state : State) (o : Origins) (t : Trace) (p a : ℕ) (x : Origin) → a ≡ agent_of job p → is_some (state.lane p t.byte) ≡ false → agent_origin state o a t.byte ≡ named x → lane_origin job state o p t.byte ≡ named x
 lane_below job state o t p a x is none below = none_below (state.lane p t.byte) (o.lane p t.byte) (agent_origin state o (agent_of job p) t.byte) none ∙ ap (λ b. agent_origin state o b t.byte) (sym is) ∙ below
-
--- ---- the start
-
-pub starts : (job : Job) (t : Trace) → IsByte job t.byte → t.memory ≡ origin.Start → t.agents ≡ replicate job.agents origin.Start → t.lanes ≡ replicate (length job.packets) origin.Start → t.reads.items ≡ [] → Tells job (start job) all_start t
-starts job t within memory agents lanes reads = record {
-  fits = record {
-    is_byte = within;
-    agents = ap length agents ∙ length-replicate job.agents origin.Start;
-    lanes = ap length lanes ∙ length-replicate (length job.packets) origin.Start;
-  };
-  copies = record {
-    memory = ap named (sym memory);
-    agents = λ a d l. ap named (sym (ap (λ xs. slice_index_or xs a d) agents ∙ get_or-replicate job.agents a origin.Start d l));
-    lanes = λ p d l. ap named (sym (ap (λ xs. slice_index_or xs p d) lanes ∙ get_or-replicate (length job.packets) p origin.Start d l));
-  };
-  reads = subst (All (IsSighting job (start job) all_start)) (sym reads) (All-nil (IsSighting job (start job) all_start));
-}
 
 -- ---- steps
 
