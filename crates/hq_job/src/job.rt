@@ -126,14 +126,14 @@ impl Job {
     pub fn buffers(&self) -> &[Block]
         ensures { blocks_of result.now ≡ self.now.buffers }
     {
-        &self.tables.buffers
+        self.tables.buffers.as_slice()
     }
 
     /// The kernarg blocks, in file order.
     pub fn arguments(&self) -> &[Block]
         ensures { blocks_of result.now ≡ self.now.arguments }
     {
-        &self.tables.arguments
+        self.tables.arguments.as_slice()
     }
 
     /// The kernels, in file order.
@@ -235,7 +235,7 @@ impl Job {
     pub fn byte_of(&self, address: u64) -> Option<u32>
         ensures { result ≡ byte_number self.now.buffers address }
     {
-        byte_number(&self.tables.buffers, address)
+        byte_number(self.tables.buffers.as_slice(), address)
     }
 
     /// The number of the packet at a place of a queue, from 0, if the queue has so many.
@@ -263,6 +263,6 @@ impl Job {
     pub fn memory(&self, alloc: Global) -> Result<Vec<u8>, AllocError>
         ensures { IfOk result (λ bytes. bytes.items ≡ (plan self.now).memory) }
     {
-        memory_of(alloc, &self.tables.buffers)
+        memory_of(alloc, self.tables.buffers.as_slice())
     }
 }

@@ -41,7 +41,7 @@ fn is_end(line: &Line) -> bool
 }
 
 /// Adds what a line says.
-fn add_line(tables: &mut Tables, alloc: Global, line: Line) -> Result<(), Reason>
+fn add_line(tables: &mut Tables, line: Line) -> Result<(), Reason>
     requires fit { TablesFit (tables_of tables.old) }
     requires start { StartFits (view line) }
     ensures { Adds result (tables_of tables.old) (tables_of tables.new) (view line) }
@@ -58,7 +58,7 @@ fn add_line(tables: &mut Tables, alloc: Global, line: Line) -> Result<(), Reason
         Line::Kernel { name, object, code } => tables.add_kernel(name, object, code),
         Line::Queue { name, agent, size } => tables.add_queue(name, agent, size),
         Line::To(name) => tables.turn_to(name),
-        Line::Packet(packet) => tables.add_packet(alloc, packet),
+        Line::Packet(packet) => tables.add_packet(packet),
         Line::End => Ok(()),
     }
 }
@@ -70,7 +70,7 @@ pub fn take_line(tables: &mut Tables, alloc: Global, line: &[u8]) -> Result<bool
 {
     let said = read_line(alloc, line)?;
     let last = is_end(&said);
-    add_line(tables, alloc, said)?;
+    add_line(tables, said)?;
     Ok(last)
 }
 

@@ -1,7 +1,9 @@
 -- Pairs of digits decoded one behind another.
-use Rattle.std.proofs.Common.{◌≡◌, ℕ, ◌+◌, ◌*◌, ◌%◌, ◌<◌, ◌≤◌, Bool, true, false, ◌&&◌, List, length, take, drop, Option, Some, None, unwrap_or, Result, Ok, Err, refl, sym, ap, subst, ◌∙◌, arith, slice_index, slice_set, nat_lt}
+use Rattle.std.proofs.Common.{◌≡◌, ◌≢◌, inl, inr, ℕ, ◌+◌, ◌*◌, ◌%◌, ◌<◌, ◌≤◌, Bool, true, false, ◌&&◌, List, length, take, drop, Option, Some, None, unwrap_or, Result, Ok, Err, refl, sym, ap, subst, ◌∙◌, arith, slice_index, slice_set, nat_lt}
 use Rattle.std.specs.Prelude.{IsErr, is_err as result_is_err}
-use Rattle.std.proofs.lemmas.Bool.{lt-ltb}
+use Rattle.std.proofs.lemmas.Bool.{cases_lt, lt-ltb}
+use Rattle.std.proofs.lemmas.List.{get_or-set_other}
+use Rattle.std.proofs.lemmas.Grind.{get_or-set_at}
 use Rattle.hex.specs.Hex.{decode_of, decode_pairs, decode_sized, hex_digit_value, pair_value, value_at, digit_or_error}
 use Rattle.hex.specs.declared.error.FromHexError.{FromHexError}
 use Rattle.hex.specs.declared.error.FromHexError.TheVariants.{InvalidHexCharacter}
@@ -11,7 +13,7 @@ use Rattle.hq_packet.specs.Faults.{first_fault}
 use Rattle.hq_packet.specs.declared.fault.PacketFault.{PacketFault}
 use Rattle.hq_lines.specs.declared.fault.LineFault.TheVariants as fault
 use Rattle.hq_lines.specs.Order.{digits_fault, bytes_fault, packet_fault, decoded, sized_said}
-use Rattle.hq_lines.specs.Decodes.{Decodes}
+use Rattle.hq_lines.specs.Decodes.{AreValues, Decodes}
 
 -- the first pairs are decoded, or some are no digits
 abbrev pub DecodesTo : List ℕ → List ℕ → ℕ → Bool → Type 0
@@ -79,6 +81,14 @@ decodes_more digits bytes i high low byte fine more h fits room e f m whole =
 pub decodes_all : (digits bytes : List ℕ) (i : ℕ) (fine : Bool) → DecodesTo digits bytes i fine → length bytes ≤ i → length digits ≤ 2 * i → Decodes digits bytes fine
 decodes_all digits bytes i true h l m = decode_done digits bytes i l m h
 decodes_all digits bytes i false h l m = h
+
+-- ---- the values of digits
+
+pub values_more : (digits values : List ℕ) (from i value : ℕ) → AreValues digits from i values → i < length values → value ≡ unwrap_or (hex_digit_value (slice_index digits (from + i))) 255 → AreValues digits from (i + 1) (slice_set values i value)
+values_more digits values from i value before room is k l = elim (cases_lt k i) [
+  | inl below ↦ (let other : k ≢ i = λ e. omega (arith, e, below) in get_or-set_other values i k value 0 other ∙ before k below)
+  | inr above ↦ (let here : k ≡ i = omega (arith, l, above) in get_or-set_at values i k value 0 here room ∙ is ∙ ap (λ n. unwrap_or (hex_digit_value (slice_index digits (from + n))) 255) (sym here))
+]
 
 -- ---- what is wrong with digits
 

@@ -9,7 +9,7 @@ ghost use Rattle.hq_lines.specs.Order.{queue_said, end_said, plain_said, is_powe
 ghost use Rattle.hq_lines.specs.Order.{words_fault};
 ghost use Rattle.hq_lines.specs.Says.{Says, SpellsPacket};
 ghost use Rattle.hex.specs.Hex.{decode_of, hex_digit_value};
-ghost use Rattle.hq_lines.specs.Decodes.{Decodes};
+ghost use Rattle.hq_lines.specs.Decodes.{AreValues, Decodes};
 ghost use Rattle.std.specs.Option.{option_map};
 ghost use Rattle.hq_lines.specs.declared.fault.LineFault.TheVariants.{Memory};
 ghost use Rattle.hq_lines.specs.Meaning.{view};
@@ -338,17 +338,47 @@ fn are_digits(high: u8, low: u8) -> bool
     high < 16 && low < 16
 }
 
+/// The byte that two digits spell, by their values.
+fn byte_of(high: u8, low: u8) -> u8
+    ensures { high < 16 → low < 16 → result ≡ high * 16 + low }
+{
+    high.wrapping_mul(16).wrapping_add(low)
+}
+
+/// The values of 128 digits from a place on, one behind another, so that many are looked at at once.
+fn values_from(digits: &[u8], from: usize) -> [u8; 128]
+    requires { from + 128 ≤ length digits.now }
+    ensures { AreValues digits.now from 128 result }
+{
+    let mut values = [0; 128];
+    for i in 0..128 {
+        values[i] = digit_value(digits[from + i]);
+    }
+    values
+}
+
 /// Decodes all pairs of digits, and tells whether all are digits. What that leaves of others says nothing.
 fn decode_pairs(digits: &[u8], bytes: &mut [u8]) -> bool
     requires { length digits.now ≡ 2 * length bytes.old }
     ensures { Decodes digits.now bytes.new result }
 {
     let mut fine = true;
-    for i in 0..bytes.len() {
+    let mut done = 0;
+    while bytes.len() - done >= 64 {
+        let values = values_from(digits, 2 * done);
+        for i in 0..64 {
+            let high = values[2 * i];
+            let low = values[2 * i + 1];
+            fine &= are_digits(high, low);
+            bytes[done + i] = byte_of(high, low);
+        }
+        done += 64;
+    }
+    for i in done..bytes.len() {
         let high = digit_value(digits[2 * i]);
         let low = digit_value(digits[2 * i + 1]);
         fine &= are_digits(high, low);
-        bytes[i] = high.wrapping_mul(16).wrapping_add(low);
+        bytes[i] = byte_of(high, low);
     }
     fine
 }

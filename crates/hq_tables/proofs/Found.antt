@@ -1,5 +1,5 @@
 -- Names and rows that a search finds.
-use Rattle.std.proofs.Common.{◌≡◌, ℕ, suc, ◌+◌, ◌<◌, Bool, true, false, cond, List, [], ◌∷◌, length, get_or, Option, Some, None, refl, sym, ap, subst, ◌∙◌, arith, is_some, ltb, Decides}
+use Rattle.std.proofs.Common.{◌≡◌, ℕ, suc, ◌+◌, ◌<◌, Bool, true, false, cond, List, [], ◌∷◌, length, get_or, ◌==◌, Option, Some, None, refl, sym, ap, subst, ◌∙◌, arith, is_some, ltb, Decides}
 use Rattle.std.specs.Prelude.{map, Any, Contains, IsTrue, ◌↔◌, position, ◌||◌, not}
 use Rattle.std.specs.List.{list_any}
 use Rattle.std.specs.Str.{bytes_eq}
@@ -8,7 +8,7 @@ use Rattle.std.proofs.lemmas.List.{get_or-map, get_or_default, length-map}
 use Rattle.std.proofs.lemmas.Cmp.{nat_list_eq_equiv}
 use Rattle.std.proofs.lemmas.Slice.Eq.{bytes_eq-Decides}
 use Rattle.std.proofs.lemmas.Map.Views.{Contains-from_any, list_any-from_Contains}
-use Rattle.std.proofs.lemmas.Bool.Decides.{nat_tests}
+use Rattle.std.proofs.lemmas.Bool.Decides.{nat_tests, Decides-eqb}
 use Rattle.std.proofs.lemmas.List.Folds.{Any-from_list_any, list_any-from_Any}
 
 -- ---- names
@@ -36,7 +36,7 @@ map_twice f g (x ∷ xs) = ap (λ ys. g (f x) ∷ ys) (map_twice f g xs)
 
 -- ---- rows
 
-any_in_map : {X Y : Type 0} (f : X → Y) (P : Y → Type 0) (xs : List X) → Any P (map f xs) → Any (λ x. P (f x)) xs
+pub any_in_map : {X Y : Type 0} (f : X → Y) (P : Y → Type 0) (xs : List X) → Any P (map f xs) → Any (λ x. P (f x)) xs
 any_in_map f P [] h = absurd (omega arith)
 any_in_map f P (x ∷ xs) h =
     let lt : h.0 < length (x ∷ xs) = omega (arith, length-map (x ∷ xs) f) in
@@ -44,11 +44,8 @@ any_in_map f P (x ∷ xs) h =
     let is : f row ≡ h.1 = sym (get_or-map f (x ∷ xs) h.0 x h.1 lt) ∙ h.3 in
     (h.0, row, lt, get_or_default (x ∷ xs) h.0 row x lt, subst P (sym is) h.4)
 
-any_of_rows : {X Y : Type 0} (f : X → Y) (P : Y → Type 0) (xs : List X) → Any (λ x. P (f x)) xs → Any P (map f xs)
+pub any_of_rows : {X Y : Type 0} (f : X → Y) (P : Y → Type 0) (xs : List X) → Any (λ x. P (f x)) xs → Any P (map f xs)
 any_of_rows f P xs h = (h.0, f h.1, omega (arith, length-map xs f), get_or-map f xs h.0 h.1 (f h.1) h.2 ∙ ap f h.3, h.4)
-
-pub row_some : {X Y : Type 0} (f : X → Y) (P : Y → Type 0) (xs : List X) (b : Bool) → IsTrue b ↔ Any (λ x. P (f x)) xs → IsTrue b ↔ Any P (map f xs)
-row_some f P xs b h = (λ t. any_of_rows f P xs (h.0 t), λ a. h.1 (any_in_map f P xs a))
 
 -- ---- places
 
@@ -98,3 +95,16 @@ no_name_place names name e h = let there : is_some (position (bytes_eq name) nam
 pub any_tested : {X : Type 0} (p : X → Bool) (P : X → Type 0) → ((x : X) → Decides (p x) (P x)) → (xs : List X) (b : Bool) → b ≡ list_any p xs → IsTrue b ↔ Any P xs
 any_tested p P d xs b e =
     (λ t. let h = Any-from_list_any p xs (sym e ∙ t) in (h.0, h.1, h.2, h.3, (d h.1).0 h.4), λ h. e ∙ list_any-from_Any p xs (h.0, h.1, h.2, h.3, (d h.1).1 h.4))
+
+pub unless : (b : Bool) → ¬ IsTrue b → b ≡ false
+unless true h = absurd (h refl)
+unless false h = refl
+
+-- a number that is looked for among the numbers of rows
+sought : (n k : ℕ) → Decides (n == k) (k ≡ n)
+sought n k = let d = Decides-eqb n k in (λ t. sym (d.0 t), λ e. d.1 (sym e))
+
+pub row_numbered : {X : Type 0} (f : X → ℕ) (xs : List X) (n : ℕ) (b : Bool) → b ≡ list_any (λ k. n == k) (map f xs) → IsTrue b ↔ Any (λ x. f x ≡ n) xs
+row_numbered f xs n b e =
+    let there = any_tested (λ k. n == k) (λ k. k ≡ n) (sought n) (map f xs) b e in
+    (λ t. any_in_map f (λ k. k ≡ n) xs (there.0 t), λ h. there.1 (any_of_rows f (λ k. k ≡ n) xs h))

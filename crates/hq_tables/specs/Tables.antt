@@ -66,6 +66,10 @@ empty rings = record {
 abbrev pub names_of : List Bytes → List Name
 names_of rows = map (λ b. b.name) rows
 
+-- where they begin, likewise
+abbrev pub addresses_of : List Bytes → List ℕ
+addresses_of rows = map (λ b. b.at) rows
+
 -- the number of a name, if it is there
 abbrev pub number_of_name : List Name → Name → Option ℕ
 number_of_name names name = position (bytes_eq name) names

@@ -1,6 +1,5 @@
 -- What the fields of the tables mean.
 use Rattle.hq_tables.specs.declared.tables.Tables as rust
-use Rattle.hq_tables.specs.Blocks.{blocks_of}
 use Rattle.hq_tables.specs.Tables.{Tables}
 
 -- the tables as a value, without where their rows lie in memory
@@ -9,8 +8,8 @@ tables_of t =
     record {
       rings = t.rings;
       agents = t.agents.keys;
-      buffers = blocks_of t.buffers.items;
-      arguments = blocks_of t.arguments.items;
+      buffers = t.buffers;
+      arguments = t.arguments;
       signal_names = t.signal_names.keys;
       signals = t.signals;
       kernels = t.kernels.items;

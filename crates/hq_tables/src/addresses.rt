@@ -1,24 +1,12 @@
 //! Addresses and byte numbers: the bytes of the buffers laid end to end.
 
-ghost use Rattle.std.specs.Prelude.{◌≡◌, ◌≤◌, map, IfOk};
+ghost use Rattle.std.specs.Prelude.{◌≡◌, ◌≤◌};
 ghost use Rattle.hq_tables.specs.Blocks.{blocks_of};
-ghost use Rattle.hq_tables.specs.Tables.{byte_number, in_bytes, range_in_bytes, range_of, total_of};
+ghost use Rattle.hq_tables.specs.Tables.{byte_number, in_bytes, range_in_bytes, total_of};
 
 use crate::rows::Block;
 use hq_footprint::{Footprint, Range};
 use hq_model::BYTES;
-use std::alloc::{AllocError, Global};
-
-/// Where the bytes of the buffers lie.
-pub fn buffer_ranges(alloc: Global, buffers: &[Block]) -> Result<Vec<Range>, AllocError>
-    ensures { IfOk result (λ ranges. ranges.items ≡ map range_of (blocks_of buffers.now)) }
-{
-    let mut ranges = Vec::with_capacity(alloc, buffers.len())?;
-    for buffer in buffers {
-        ranges.push(buffer.range())?;
-    }
-    Ok(ranges)
-}
 
 /// The number of the byte at an address, if a buffer has it. The buffers have no more bytes in all than a job may.
 pub fn byte_number(buffers: &[Block], address: u64) -> Option<u32>

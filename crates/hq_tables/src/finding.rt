@@ -4,22 +4,13 @@ ghost use Rattle.std.specs.Prelude.{◌≡◌, ◌↔◌, ◌≤◌, ◌==◌, m
 ghost use Rattle.std.specs.List.{list_any};
 ghost use Rattle.std.specs.Str.{bytes_eq};
 ghost use Rattle.hq_footprint.specs.Bytes.{bytes_of as range_bytes, Share};
-ghost use Rattle.hq_tables.specs.Blocks.{bytes_of, blocks_of};
-ghost use Rattle.hq_tables.specs.Tables.{names_of, range_of, total_of, number_of_name};
+ghost use Rattle.hq_tables.specs.Blocks.{blocks_of};
+ghost use Rattle.hq_tables.specs.Tables.{names_of, total_of, number_of_name};
 
 use crate::rows::{Block, Kernel, Queue};
 use hq_footprint::Range;
 use hq_model::BYTES;
 use hq_text::Name;
-
-impl Block {
-    /// The addresses of its bytes.
-    pub(crate) fn range(&self) -> Range
-        ensures { result ≡ range_of (bytes_of self.now) }
-    {
-        Range::new(self.at, self.bytes.len() as u64)
-    }
-}
 
 fn any_named(blocks: &[Block], name: Name) -> bool
     ensures { result ≡ list_any (λ b. bytes_eq name b.name) blocks.now }
@@ -33,33 +24,11 @@ pub fn has_block(blocks: &[Block], name: Name) -> bool
     any_named(blocks, name)
 }
 
-fn any_at(blocks: &[Block], at: u64) -> bool
-    ensures { result ≡ list_any (λ b. b.at == at) blocks.now }
+/// Whether a range has a byte of one of these.
+pub fn overlaps_some(ranges: &[Range], range: Range) -> bool
+    ensures { IsTrue result ↔ Any (λ r. Share (range_bytes r) (range_bytes range)) ranges.now }
 {
-    blocks.iter().any(|block| block.at == at)
-}
-
-pub fn has_address(blocks: &[Block], at: u64) -> bool
-    ensures { IsTrue result ↔ Any (λ b. b.at ≡ at) (blocks_of blocks.now) }
-{
-    any_at(blocks, at)
-}
-
-fn any_overlaps(blocks: &[Block], range: Range) -> bool
-    ensures { IsTrue result ↔ Any (λ b. Share (range_bytes (range_of (bytes_of b))) (range_bytes range)) blocks.now }
-{
-    for block in blocks {
-        if block.range().overlaps(range) {
-            return true;
-        }
-    }
-    false
-}
-
-pub fn overlaps_some(blocks: &[Block], range: Range) -> bool
-    ensures { IsTrue result ↔ Any (λ b. Share (range_bytes (range_of b)) (range_bytes range)) (blocks_of blocks.now) }
-{
-    any_overlaps(blocks, range)
+    ranges.iter().any(|other| other.overlaps(range))
 }
 
 /// How many bytes the blocks have together.
@@ -104,10 +73,4 @@ pub fn kernel_at(kernels: &[Kernel], object: u64) -> Option<&Kernel>
     ensures { option_copied result ≡ find (λ k. k.object == object) kernels.now }
 {
     kernels.iter().find(|kernel| kernel.object == object)
-}
-
-pub fn block_at(blocks: &[Block], at: u64) -> Option<&Block>
-    ensures { option_copied result ≡ find (λ b. b.at == at) blocks.now }
-{
-    blocks.iter().find(|block| block.at == at)
 }

@@ -5,6 +5,8 @@
 #![tactic(auto)]
 
 mod addresses;
+mod arguments;
+mod buffers;
 mod fault;
 mod finding;
 pub mod laws;
@@ -14,6 +16,8 @@ mod rows;
 mod tables;
 
 pub use addresses::byte_number;
+pub use arguments::Arguments;
+pub use buffers::Buffers;
 pub use fault::Reason;
 pub use limits::{AGENTS, BLOCKS, BUFFERS, ITEMS, KERNELS, QUEUES, SIGNALS};
 pub use rows::{Block, Kernel, Placed, Queue};

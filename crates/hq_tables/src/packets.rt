@@ -16,9 +16,9 @@ ghost use Rattle.hq_tables.specs.Tables.{slots_of, completed, awaited, noted_by,
 ghost use Rattle.hq_tables.specs.Tables.{place_tests, name_tests, work_tests};
 ghost use Rattle.hq_tables.specs.TablesView.{tables_of};
 
-use crate::addresses::{buffer_ranges, in_bytes};
+use crate::addresses::in_bytes;
 use crate::fault::Reason;
-use crate::finding::{block_at, kernel_at};
+use crate::finding::kernel_at;
 use crate::limits::ITEMS;
 use crate::rows::Placed;
 use crate::tables::Tables;
@@ -26,7 +26,6 @@ use hq_footprint::{FootFault, Footprint, Range, Task, Work, inside, of_kernel, o
 use hq_model::PACKETS;
 use hq_packet::{Kernel, Packet};
 use hq_signals::SignalTable;
-use std::alloc::Global;
 
 /// The dependency handles of a barrier packet.
 fn deps_of(packet: &Packet) -> &[u64]
@@ -224,7 +223,7 @@ impl Tables {
             ⊎ IsNone (block_of (tables_of self.now) kernel.now.kernarg)) }
     {
         kernel_at(&self.kernels, kernel.object).is_none()
-            || block_at(&self.arguments, kernel.kernarg).is_none()
+            || self.arguments.at(kernel.kernarg).is_none()
     }
 
     fn names_undeclared(&self, packet: &Packet) -> bool
@@ -262,7 +261,7 @@ impl Tables {
         ensures { Calls result (tables_of self.now) (Packet.Kernel kernel.now) }
     {
         let code = kernel_at(&self.kernels, kernel.object).unwrap().code;
-        let block = block_at(&self.arguments, kernel.kernarg).unwrap();
+        let block = self.arguments.at(kernel.kernarg).unwrap();
         of_kernel(code, items_of(kernel) as u64, &block.bytes)
     }
 
@@ -279,7 +278,7 @@ impl Tables {
     }
 
     /// What a packet does, within the buffers.
-    fn check_work(&self, alloc: Global, packet: &Packet) -> Result<Work, Reason>
+    fn check_work(&self, packet: &Packet) -> Result<Work, Reason>
         requires { NoneApplies (name_tests (tables_of self.now) packet.now) }
         ensures checks { Checks result (work_tests (tables_of self.now) packet.now) }
         ensures work { IfOk result (λ work. work ≡ work_of (tables_of self.now) packet.now) }
@@ -288,8 +287,7 @@ impl Tables {
             Ok(work) => work,
             Err(fault) => return Err(Reason::Footprint(fault)),
         };
-        let ranges = buffer_ranges(alloc, &self.buffers)?;
-        if is_outside(&work.foot, &ranges) {
+        if is_outside(&work.foot, self.buffers.ranges()) {
             return Err(Reason::Footprint(FootFault::OutsideBuffer));
         }
         Ok(work)
@@ -339,7 +337,7 @@ impl Tables {
             queue,
             packet,
             work,
-            bytes: in_bytes(&self.buffers, work.foot),
+            bytes: in_bytes(self.buffers.as_slice(), work.foot),
             slots: self.slots_of(&packet),
             done: self.signal_number(packet.completion()),
         }
@@ -350,13 +348,13 @@ impl Tables {
     /// # Errors
     ///
     /// The first test that the packet fails, or `Memory`; then the tables stay as they were.
-    pub fn add_packet(&mut self, alloc: Global, packet: Packet) -> Result<(), Reason>
+    pub fn add_packet(&mut self, packet: Packet) -> Result<(), Reason>
         requires { TablesFit (tables_of self.old) }
         ensures { Adds result (tables_of self.old) (tables_of self.new) (says.Packet packet) }
     {
         let queue = self.place()?;
         self.check_names(&packet)?;
-        let work = self.check_work(alloc, &packet)?;
+        let work = self.check_work(&packet)?;
         let placed = self.placed(queue, packet, work);
         self.placed.push(placed)?;
         note(&mut self.signals, &packet);

@@ -2,8 +2,9 @@
 
 ghost use Rattle.std.specs.Prelude.{◌≡◌, IfOk};
 ghost use Rattle.hq_tables.specs.Blocks.{bytes_of, blocks_of};
+ghost use Rattle.hq_tables.specs.Tables.{range_of};
 
-use hq_footprint::{Code, Footprint, Work};
+use hq_footprint::{Code, Footprint, Range, Work};
 use hq_packet::Packet;
 use hq_text::Name;
 use std::alloc::{AllocError, Global};
@@ -50,6 +51,13 @@ pub struct Placed {
 }
 
 impl Block {
+    /// The addresses of its bytes.
+    pub(crate) fn range(&self) -> Range
+        ensures { result ≡ range_of (bytes_of self.now) }
+    {
+        Range::new(self.at, self.bytes.len() as u64)
+    }
+
     /// An equal block, with bytes of its own.
     fn copy(&self) -> Result<Block, AllocError>
         ensures { IfOk result (λ block. bytes_of block ≡ bytes_of self.now) }

@@ -4,10 +4,12 @@ ghost use Rattle.std.specs.Prelude.{◌≡◌, ◌^◌, ◌<◌, ◌↔◌, All,
 ghost use Rattle.hq_lines.specs.Meaning as says;
 ghost use Rattle.hq_tables.specs.Fits.{TablesFit};
 
+use crate::arguments::Arguments;
+use crate::buffers::Buffers;
 use crate::fault::Reason;
 use crate::finding;
 use crate::limits::{AGENTS, BLOCKS, BUFFERS, KERNELS, QUEUES, SIGNALS};
-use crate::rows::{Block, Kernel, Placed, Queue, copied};
+use crate::rows::{Block, Kernel, Placed, Queue};
 use hq_footprint::{Code, Range};
 use hq_model::BYTES;
 use hq_signals::{SignalFault, SignalTable};
@@ -20,8 +22,8 @@ use std::alloc::{AllocError, Global};
 pub struct Tables {
     pub rings: bool,
     pub agents: IndexSet<Name>,
-    pub buffers: Vec<Block>,
-    pub arguments: Vec<Block>,
+    pub buffers: Buffers,
+    pub arguments: Arguments,
     pub signal_names: IndexSet<Name>,
     pub signals: SignalTable,
     pub kernels: Vec<Kernel>,
@@ -53,8 +55,8 @@ impl Tables {
         Tables {
             rings,
             agents: IndexSet::new(alloc),
-            buffers: Vec::new(alloc),
-            arguments: Vec::new(alloc),
+            buffers: Buffers::new(alloc),
+            arguments: Arguments::new(alloc),
             signal_names: IndexSet::new(alloc),
             signals: SignalTable::new(alloc),
             kernels: Vec::new(alloc),
@@ -70,8 +72,8 @@ impl Tables {
         ensures { OnOk result (tables_of copy.new ≡ tables_of self.now) }
     {
         copy_names(&self.agents, &mut copy.agents)?;
-        copy.buffers = copied(alloc, &self.buffers)?;
-        copy.arguments = copied(alloc, &self.arguments)?;
+        copy.buffers = self.buffers.copy(alloc)?;
+        copy.arguments = self.arguments.copy(alloc)?;
         copy_names(&self.signal_names, &mut copy.signal_names)?;
         copy.signals = self.signals.copy()?;
         copy.kernels.extend_from_slice(&self.kernels)?;
@@ -124,16 +126,16 @@ impl Tables {
         if self.buffers.len() >= BUFFERS {
             return Err(Reason::Limit);
         }
-        if bytes.len() > BYTES - finding::total_of(&self.buffers) {
+        if bytes.len() > BYTES - self.buffers.total() {
             return Err(Reason::Limit);
         }
-        if finding::has_block(&self.buffers, name) {
+        if self.buffers.has_name(name) {
             return Err(Reason::Duplicate);
         }
-        if finding::overlaps_some(&self.buffers, Range::new(at, bytes.len() as u64)) {
+        if self.buffers.overlaps(Range::new(at, bytes.len() as u64)) {
             return Err(Reason::BufferOverlap);
         }
-        self.buffers.push(Block { name, at, bytes })?;
+        self.buffers.add(Block { name, at, bytes })?;
         Ok(())
     }
 
@@ -148,13 +150,13 @@ impl Tables {
         if self.arguments.len() >= BLOCKS {
             return Err(Reason::Limit);
         }
-        if finding::has_block(&self.arguments, name) {
+        if self.arguments.has_name(name) {
             return Err(Reason::Duplicate);
         }
-        if finding::has_address(&self.arguments, at) {
+        if self.arguments.has_address(at) {
             return Err(Reason::Duplicate);
         }
-        self.arguments.push(Block { name, at, bytes })?;
+        self.arguments.add(Block { name, at, bytes })?;
         Ok(())
     }
 

@@ -1,10 +1,30 @@
 //! Lines and words.
 
-ghost use Rattle.std.specs.Prelude.{◌≡◌, ◌<◌, ◌∷◌, map, length, position, IfOk};
-ghost use Rattle.hq_text.specs.Lines.{words_of, lines_of, is_line_feed};
+ghost use Rattle.std.specs.Prelude.{◌≡◌, ◌<◌, [], ◌∷◌, map, length, position, IfOk, IfSome, MatchOption};
+ghost use Rattle.hq_text.specs.Lines.{words_of, lines_of, is_line_feed, is_space};
 
 use memchr::memchr;
 use std::alloc::{AllocError, Global};
+
+/// Where the first space stands.
+#[tactic(auto, using(crate::proofs::Cuts::position_is))]
+fn space_in(text: &[u8]) -> Option<usize>
+    ensures { result ≡ position is_space text.now }
+{
+    memchr(b' ', text)
+}
+
+/// A line's first word, and what stands behind its space, where it has one.
+fn first_word(line: &[u8]) -> (&[u8], Option<&[u8]>)
+    ensures cut { MatchOption result.1 (words_of line.now ≡ result.0.now ∷ [])
+        (λ rest. words_of line.now ≡ result.0.now ∷ words_of rest.now) }
+    ensures shorter { IfSome result.1 (λ rest. length rest.now < length line.now) }
+{
+    match space_in(line) {
+        Some(at) => (&line[..at], Some(&line[at + 1..])),
+        None => (line, None),
+    }
+}
 
 /// A line's words: the parts between its spaces, so that two spaces in a row have an empty word between them.
 ///
@@ -14,7 +34,14 @@ use std::alloc::{AllocError, Global};
 pub fn words_of(alloc: Global, line: &[u8]) -> Result<Vec<&[u8]>, AllocError>
     ensures { IfOk result (λ words. map (λ w. w.now) words.items ≡ words_of line.now) }
 {
-    line.split(|b| *b == b' ').collect(alloc)
+    let mut words = Vec::new(alloc);
+    let mut rest = Some(line);
+    while let Some(text) = rest {
+        let (word, behind) = first_word(text);
+        words.push(word)?;
+        rest = behind;
+    }
+    Ok(words)
 }
 
 /// Where the first line feed stands.
