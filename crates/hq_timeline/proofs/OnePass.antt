@@ -1,17 +1,21 @@
 -- What one pass over a text finds, and that it is taken in.
 use Rattle.std.proofs.Common.{◌≡◌, ℕ, ◌+◌, true, List, [], ◌∷◌, ◌++◌, length, Option, Some, None, Ok, refl, sym, ap, subst, ◌∙◌, arith, append_assoc, append-nil, length-append, eqb}
-use Rattle.std.specs.Prelude.{MatchOption, IfSome, codes}
+use Rattle.std.specs.Prelude.{MatchOption, IfSome}
 use Rattle.std.specs.Fmt.{decimal}
 use Rattle.std.specs.Bool.{Decides}
 use Rattle.std.proofs.lemmas.Bool.{eqb-true, eq-eqb}
-use Rattle.hq_text.specs.Ahead.{NumberAhead}
+use Rattle.hq_text.specs.Ahead.{IsSmall, NumberAhead}
 use Rattle.hq_text.specs.LineByLine.{AdmitsAll}
 use Rattle.hq_text.specs.Lines.{lines_of}
 use Rattle.hq_text.specs.Printed.{spaced, line_text}
 use Rattle.hq_text.proofs.LineByLine.{Taken, admits_both, admits_more}
 use Rattle.hq_text.proofs.Printed.{line_first}
 use Rattle.hq_events.specs.declared.event.Event.{Event}
-use Rattle.hq_events.specs.declared.event.Event.TheVariants as event
+use Rattle.hq_timeline.specs.declared.kinds.OneNumber.{OneNumber}
+use Rattle.hq_timeline.specs.declared.kinds.OneNumber.TheVariants as one
+use Rattle.hq_timeline.specs.declared.kinds.TwoNumbers.{TwoNumbers}
+use Rattle.hq_timeline.specs.declared.kinds.TwoNumbers.TheVariants as two
+use Rattle.hq_timeline.specs.LineTests.{event_of_one, event_of_two}
 use Rattle.hq_timeline.specs.declared.draft.Stage.TheVariants as stage
 use Rattle.hq_timeline.specs.Gives.{TakesAll}
 use Rattle.hq_timeline.specs.Grammar.{event_words, EventFits}
@@ -30,22 +34,42 @@ word_more : (text w t rest v : List ℕ) (ws : List (List ℕ)) → text ≡ w +
 word_more text w t rest v ws e f =
     e ∙ ap (λ r. w ++ 32 ∷ r) f ∙ ap (λ r. w ++ 32 ∷ (r ++ rest)) (sym (append_assoc v (spaced ws) (10 ∷ []))) ∙ sym (append_assoc w (32 ∷ ((v ++ spaced ws) ++ 10 ∷ [])) rest)
 
--- a name and two numbers
-two_words : (name text t rest : List ℕ) (m n : ℕ) → text ≡ name ++ 32 ∷ t → BothNumbers t m n rest → text ≡ line_text (name ∷ decimal m ∷ decimal n ∷ []) ++ rest
-two_words name text t rest m n e h =
-    word_more text name t rest (decimal m) (decimal n ∷ []) e (word_more t (decimal m) h.mid rest (decimal n) [] h.first.is (last_word h.mid (decimal n) rest h.second.is))
+-- a name and one number, or two
+one_fits : (kind : OneNumber) (a : ℕ) → IsSmall a → EventFits (event_of_one kind a)
+one_fits one.Launch a h = h
+one_fits one.Enter a h = h
+one_fits one.Fetch a h = h
+one_fits one.Deliver a h = h
+one_fits one.Complete a h = h
+one_fits one.Finish a h = h
 
-pub read_ahead : (text t rest : List ℕ) (m n : ℕ) → text ≡ codes "read " ++ t → BothNumbers t m n rest → EventAhead text (event.Read m n) rest
-read_ahead text t rest m n e h = record { is = two_words (codes "read") text t rest m n e h; fits = (h.first.small, h.second.small) }
+pub one_ahead : (text name t rest : List ℕ) (kind : OneNumber) (n : ℕ) → ((a : ℕ) → event_words (event_of_one kind a) ≡ name ∷ decimal a ∷ []) → text ≡ name ++ 32 ∷ t → NumberAhead t n 10 rest
+    → EventAhead text (event_of_one kind n) rest
+one_ahead text name t rest kind n words e h =
+    record {
+      is = word_more text name t rest (decimal n) [] e (last_word t (decimal n) rest h.is) ∙ ap (λ ws. line_text ws ++ rest) (sym (words n));
+      fits = one_fits kind n h.small;
+    }
 
-pub store_ahead : (text t rest : List ℕ) (m n : ℕ) → text ≡ codes "store " ++ t → BothNumbers t m n rest → EventAhead text (event.Store m n) rest
-store_ahead text t rest m n e h = record { is = two_words (codes "store") text t rest m n e h; fits = (h.first.small, h.second.small) }
+two_fit : (kind : TwoNumbers) (a b : ℕ) → IsSmall a → IsSmall b → EventFits (event_of_two kind a b)
+two_fit two.PushLane a b h k = (h, k)
+two_fit two.PushAgent a b h k = (h, k)
+two_fit two.FillLane a b h k = (h, k)
+two_fit two.FillAgent a b h k = (h, k)
+two_fit two.DropLane a b h k = (h, k)
+two_fit two.DropAgent a b h k = (h, k)
+two_fit two.Read a b h k = (h, k)
+two_fit two.Store a b h k = (h, k)
+two_fit two.Observe a b h k = (h, k)
 
-pub lane_ahead : (text t rest : List ℕ) (m n : ℕ) → text ≡ codes "pushlane " ++ t → BothNumbers t m n rest → EventAhead text (event.PushLane m n) rest
-lane_ahead text t rest m n e h = record { is = two_words (codes "pushlane") text t rest m n e h; fits = (h.first.small, h.second.small) }
-
-pub agent_ahead : (text t rest : List ℕ) (m n : ℕ) → text ≡ codes "pushagent " ++ t → BothNumbers t m n rest → EventAhead text (event.PushAgent m n) rest
-agent_ahead text t rest m n e h = record { is = two_words (codes "pushagent") text t rest m n e h; fits = (h.first.small, h.second.small) }
+pub two_ahead : (text name t rest : List ℕ) (kind : TwoNumbers) (m n : ℕ) → ((a b : ℕ) → event_words (event_of_two kind a b) ≡ name ∷ decimal a ∷ decimal b ∷ []) → text ≡ name ++ 32 ∷ t → BothNumbers t m n rest
+    → EventAhead text (event_of_two kind m n) rest
+two_ahead text name t rest kind m n words e h =
+    record {
+      is = word_more text name t rest (decimal m) (decimal n ∷ []) e (word_more t (decimal m) h.mid rest (decimal n) [] h.first.is (last_word h.mid (decimal n) rest h.second.is))
+          ∙ ap (λ ws. line_text ws ++ rest) (sym (words m n));
+      fits = two_fit kind m n h.first.small h.second.small;
+    }
 
 pub both_ahead : (text mid rest : List ℕ) (m n : ℕ) → NumberAhead text m 32 mid → NumberAhead mid n 10 rest → BothNumbers text m n rest
 both_ahead text mid rest m n a b = record { mid = mid; first = a; second = b }

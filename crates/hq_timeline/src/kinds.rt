@@ -107,7 +107,7 @@ fn two_kind(name: &[u8]) -> Result<TwoNumbers, TimeReason>
 
 impl OneNumber {
     /// The event of this kind and number.
-    fn event(self, a: u32) -> Event
+    pub fn event(self, a: u32) -> Event
         ensures { result ≡ event_of_one self a }
     {
         match self {
@@ -123,7 +123,7 @@ impl OneNumber {
 
 impl TwoNumbers {
     /// The event of this kind and these numbers.
-    fn event(self, a: u32, b: u32) -> Event
+    pub fn event(self, a: u32, b: u32) -> Event
         ensures { result ≡ event_of_two self a b }
     {
         match self {
