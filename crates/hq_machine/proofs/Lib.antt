@@ -23,3 +23,4 @@ pub mod FenceBacks
 pub mod Delivered
 pub mod Filled
 pub mod Wholes
+pub mod Launched

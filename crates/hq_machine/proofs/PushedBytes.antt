@@ -9,8 +9,6 @@ use Rattle.hq_model.specs.View.{copies_of}
 use Rattle.hq_model.proofs.View.{copies_of_insert}
 use Rattle.hq_model.proofs.Sums.{put2_same, put2_other}
 use Rattle.hq_copies.specs.Copies.{CopiesValue, IsDirty, IsFirstDirty, NoneDirty, held, a_copy, lane_pushed, agent_pushed}
-use Rattle.hq_copies.specs.declared.fault.CopiesFault.{CopiesFault}
-use Rattle.hq_copies.specs.declared.fault.CopiesFault.TheVariants as copies_fault
 use Rattle.hq_machine.specs.Pushes.Holders.{Lanes, Agents}
 use Rattle.hq_machine.specs.Pushes.{Holders, maps_of, push_of, PushedBy, AllPushed, Within, Counts, StaysWithin, dirty_of, Cleaned}
 

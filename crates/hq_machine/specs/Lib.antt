@@ -5,3 +5,4 @@ pub mod Changes
 pub mod Entries
 pub mod Pushes
 pub mod WorkLeft
+pub mod Launched

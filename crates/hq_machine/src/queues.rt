@@ -84,13 +84,13 @@ impl State {
     }
 
     /// A number from the first of these on, all ahead of which are of launched packets: whole blocks are passed over.
-    fn behind_launched(&self, numbers: Range<usize>) -> usize
+    fn behind_launched(&self, queue: usize, numbers: Range<usize>) -> usize
         requires { (p : ℕ) → numbers.start ≤ p → p < numbers.end → p < length self.now.phases }
         ensures from { numbers.start ≤ result }
         ensures launched { (first : machine.Phase) → (e : ℕ) → numbers.start ≤ e → e < result
             → is_launched (phases_of first self.now.phases e) ≡ true }
     {
-        let mut from = numbers.start;
+        let mut from = self.known_launched(queue, numbers.start);
         while numbers.end.saturating_sub(from) >= BLOCK {
             if !self.all_launched(from..from + BLOCK) {
                 break;
@@ -110,7 +110,7 @@ impl State {
             (λ p. IsFirstUnlaunched (plan job.now) (state_of (plan job.now) self.now) queue p) }
     {
         let numbers = job.of_queue(queue);
-        for number in self.behind_launched(numbers.start..numbers.end)..numbers.end {
+        for number in self.behind_launched(queue, numbers.start..numbers.end)..numbers.end {
             if !self.is_launched(number) {
                 return Some(number);
             }
@@ -200,6 +200,7 @@ impl State {
         match self.launchable(job, queue as usize) {
             Some(number) => {
                 self.set_phase(number, Phase::Launched);
+                self.know_launched(queue as usize, job.earlier(number));
                 Ok(())
             }
             None => Err(StepFault::NotEnabled),

@@ -21,6 +21,13 @@ use std::alloc::Global;
 use std::marker::Model;
 use std::ops::Range;
 
+/// Packets that follow each other by their numbers.
+#[derive(Clone, Copy, Debug)]
+pub(crate) struct Stretch {
+    start: usize,
+    end: usize,
+}
+
 /// The state of a run of a job.
 ///
 /// Each call that takes the job wants the one that the state was started with.
@@ -33,6 +40,8 @@ pub struct State {
     pub(crate) stores: Vec<Stores>,
     pub(crate) signals: Vec<u64>,
     pub(crate) copies: Copies,
+    // For each queue packets that are known as launched: its first ones, where any are.
+    launched: Vec<Stretch>,
 }
 
 impl Model for State {
@@ -52,6 +61,10 @@ impl Model for State {
       signals = s.signals.items;
       copies = s.copies;
     } };
+
+    ghost use Rattle.hq_machine.specs.Launched.{AreLaunched};
+
+    ghost invariant = { λ s. AreLaunched (map named s.phases.items) s.launched.items };
 }
 
 /// Memory as the job starts, and a lane for each packet.
@@ -88,6 +101,7 @@ impl State {
             stores: nothing_stored(alloc, count)?,
             signals: signal_values(alloc, job)?,
             copies: first_copies(alloc, job)?,
+            launched: vec![in alloc; Stretch { start: 0, end: 0 }; job.queues().len()]?,
         })
     }
 
@@ -173,7 +187,36 @@ impl State {
         requires { packet < length self.old.phases }
         ensures { self.new ≡ in_phase self.old packet (named phase) }
     {
+        if !phase.is_launched() {
+            self.launched.clear();
+        }
         self.phases[packet] = phase;
+    }
+
+    /// Knows the packets of these numbers, of a queue, as launched.
+    pub(crate) fn know_launched(&mut self, queue: usize, numbers: Range<usize>)
+        requires { (first : machine.Phase) → (e : ℕ) → numbers.start ≤ e → e < numbers.end
+            → is_launched (phases_of first self.old.phases e) ≡ true }
+        ensures { self.new ≡ self.old }
+    {
+        if let Some(known) = self.launched.get_mut(queue) {
+            *known = Stretch {
+                start: numbers.start,
+                end: numbers.end,
+            };
+        }
+    }
+
+    /// A number from this one on, all ahead of which are of packets of the queue that are known as launched.
+    pub(crate) fn known_launched(&self, queue: usize, start: usize) -> usize
+        ensures from { start ≤ result }
+        ensures launched { (first : machine.Phase) → (e : ℕ) → start ≤ e → e < result
+            → is_launched (phases_of first self.now.phases e) ≡ true }
+    {
+        match self.launched.get(queue) {
+            Some(known) if known.start <= start && start <= known.end => known.end,
+            _ => start,
+        }
     }
 
     /// Whether a packet is in a phase.

@@ -1,5 +1,4 @@
 use Rattle.std.proofs.Common.{◌≡◌, inr, arith, true, sym, ◌∙◌}
-use Rattle.hq_model.specs.Machine as machine
 use Rattle.hq_model.specs.Machine.{is_launched}
 use Rattle.hq_model.specs.View.{phases_of}
 use Rattle.hq_machine.proofs.AllOf.{all_more, all_done}
