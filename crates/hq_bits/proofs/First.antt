@@ -26,20 +26,27 @@ first_word row from limit none n above same low =
     lacks row n
     (ap (λ k. bit_at (slice_index row k) (n % 64)) same ∙ ap (bit_at (slice_index row (from / 64))) (sym i) ∙ sym (shifted (slice_index row (from / 64)) s (n % 64 - s)) ∙ none (n % 64 - s) (omega arith))
 
+never : (w i : ℕ) → bit_at w i ≡ 1 → bit_at w i ≡ 0 → ⊥
+never w i x y = omega (arith, x, y)
+
+-- a bit of what is left of a word is one of the word's
+pub bit_is_low : (row : List ℕ) (from bit : ℕ) → slice_index row (from / 64) < 2 ^ 64 → bit_at (slice_index row (from / 64) / 2 ^ (from % 64)) bit ≡ 1 → from % 64 + bit < 64
+bit_is_low row from bit small this =
+    let s : ℕ = from % 64 in
+    let here : bit_at (slice_index row (from / 64)) (s + bit) ≡ 1 = sym (shifted (slice_index row (from / 64)) s bit) ∙ this in
+    elim (cases_lt (s + bit) 64) [ inl l ↦ l | inr high ↦ absurd (never (slice_index row (from / 64)) (s + bit) here (bit_at_above (slice_index row (from / 64)) 64 (s + bit) small high)) ]
+
 pub in_first_word : (row : List ℕ) (from bit : ℕ) → slice_index row (from / 64) < 2 ^ 64 → bit_at (slice_index row (from / 64) / 2 ^ (from % 64)) bit ≡ 1 → ((i : ℕ) → i < bit → bit_at (slice_index row (from / 64) / 2 ^ (from % 64)) i ≡ 0) → IsFirstFrom row from (from + bit)
 in_first_word row from bit small this none =
     let s : ℕ = from % 64 in
     let here : bit_at (slice_index row (from / 64)) (s + bit) ≡ 1 = sym (shifted (slice_index row (from / 64)) s bit) ∙ this in
-    let low : s + bit < 64 = elim (cases_lt (s + bit) 64) [ inl l ↦ l | inr high ↦ absurd (never (s + bit) here (bit_at_above (slice_index row (from / 64)) 64 (s + bit) small high)) ] in
+    let low : s + bit < 64 = bit_is_low row from bit small this in
     let whole : from / 64 * 64 + (s + bit) ≡ from + bit = omega arith in
     record {
       above = omega arith;
       there = subst (λ n. has row n ≡ true) whole (has_there row (from / 64) (s + bit) low here);
       first = λ i above below. first_word row from bit none i above (omega (arith, low)) below;
     }
-  where
-    never : (i : ℕ) → bit_at (slice_index row (from / 64)) i ≡ 1 → bit_at (slice_index row (from / 64)) i ≡ 0 → ⊥
-    never i x y = omega (arith, x, y)
 
 pub none_first : (row : List ℕ) (from : ℕ) → ((i : ℕ) → bit_at (slice_index row (from / 64) / 2 ^ (from % 64)) i ≡ 0) → NoneIn row from (from / 64 + 1)
 none_first row from none = λ n above low. first_word row from (n + 1) (λ i l. none i) n above (omega arith) (omega arith)

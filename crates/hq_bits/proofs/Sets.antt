@@ -1,13 +1,13 @@
 -- Rows of bits as sets.
 use Rattle.std.proofs.Common.{◌≡◌, ℕ, not, ◌+◌, ◌*◌, ◌/◌, ◌%◌, ◌^◌, ◌-◌, ◌<◌, ◌≤◌, ◌↔◌, ◌⊎◌, IsTrue, inl, inr, Bool, true, false, ◌||◌, ◌==◌, List, length, refl, sym, ◌∙◌, ap, subst, arith, slice_index, slice_set, bit_or, bit_and, max, min, ◌&&◌, w64, take}
-use Rattle.std.specs.Int.{bit_at}
+use Rattle.std.specs.Int.{bit_at, bit_not}
 use Rattle.std.specs.Int.Bits.{bit_xor}
 use Rattle.std.proofs.Math.Nat.{mod-eq_of_lt}
 use Rattle.std.proofs.Math.Pow.{pow_mono}
 use Rattle.std.proofs.lemmas.Bool.{cases_eq, cases_lt, eq-eqb, eqb-true, ne_eqb}
 use Rattle.std.proofs.lemmas.List.{get_or-set_other, get_or_past}
 use Rattle.std.proofs.lemmas.Grind.{get_or-set_at, common_steps}
-use Rattle.std.proofs.lemmas.Nat.Bits.{bit_at_or, bit_at_and, bit_at_set_same, bit_at_set_other, bit_at-lt, bit_at-zero, bit_at_xor}
+use Rattle.std.proofs.lemmas.Nat.Bits.{bit_at_or, bit_at_and, bit_at_set_same, bit_at_set_other, bit_at_clear_same, bit_at_clear_other, bit_at-lt, bit_at-zero, bit_at_xor}
 use Rattle.hq_bits.specs.Bits.{has}
 
 -- a number is its word and its bit
@@ -38,6 +38,32 @@ has_insert row n p l =
           ]
       | inr other ↦
           ap (λ w. bit_at w (p % 64) == 1) (get_or-set_other row (n / 64) (p / 64) new 0 other) ∙ sym (ap (λ b. has row p || b) (ne_eqb p n (λ e. other (ap (λ m. m / 64) e))) ∙ or_false (has row p))
+    ]
+
+and_none : (b : Bool) → (b && false) ≡ false
+and_none true = refl
+and_none false = refl
+
+and_all : (b : Bool) → (b && true) ≡ b
+and_all true = refl
+and_all false = refl
+
+pub has_remove : (row : List ℕ) (n p : ℕ) → n / 64 < length row → has (slice_set row (n / 64) (bit_and (slice_index row (n / 64)) (bit_not w64 (1 * 2 ^ (n % 64) % 2 ^ 64)))) p ≡ (has row p && not (p == n))
+has_remove row n p l =
+    let word : ℕ = slice_index row (n / 64) in
+    let new : ℕ = bit_and word (bit_not w64 (1 * 2 ^ (n % 64) % 2 ^ 64)) in
+    elim (cases_eq (p / 64) (n / 64)) [
+      | inl same ↦
+          let here : slice_index (slice_set row (n / 64) new) (p / 64) ≡ new = get_or-set_at row (n / 64) (p / 64) new 0 same l in
+          elim (cases_eq (p % 64) (n % 64)) [
+            | inl bit ↦
+                let one : p ≡ n = apart p n same bit in
+                ap (λ w. bit_at w (p % 64) == 1) here ∙ ap (λ k. bit_at new k == 1) bit ∙ ap (λ b. b == 1) (bit_at_clear_same w64 word (n % 64) (omega arith)) ∙ sym (ap (λ b. has row p && not b) (eq-eqb p n one) ∙ and_none (has row p))
+            | inr other ↦
+                ap (λ w. bit_at w (p % 64) == 1) here ∙ ap (λ b. b == 1) (bit_at_clear_other w64 word (n % 64) (omega arith) (p % 64) (omega arith) other) ∙ ap (λ w. bit_at w (p % 64) == 1) (ap (slice_index row) (sym same)) ∙ sym (ap (λ b. has row p && not b) (ne_eqb p n (λ e. other (ap (λ m. m % 64) e))) ∙ and_all (has row p))
+          ]
+      | inr other ↦
+          ap (λ w. bit_at w (p % 64) == 1) (get_or-set_other row (n / 64) (p / 64) new 0 other) ∙ sym (ap (λ b. has row p && not b) (ne_eqb p n (λ e. other (ap (λ m. m / 64) e))) ∙ and_all (has row p))
     ]
 
 bit_or_bool : (a b : ℕ) → a < 2 → b < 2 → (max a b == 1) ≡ ((a == 1) || (b == 1))
@@ -86,10 +112,6 @@ bit_and_bool a b l m = elim (cases_eq a 1) [
   | inr d ↦ let z : a ≡ 0 = omega arith in rw z (elim (cases_eq b 1) [ inl f ↦ rw f refl | inr g ↦ let y : b ≡ 0 = omega arith in rw y refl ])
 ]
 
-and_false : (b : Bool) → (b && false) ≡ false
-and_false true = refl
-and_false false = refl
-
 pub has_met : (old other new : List ℕ) (p : ℕ) → Joined bit_and old other new → has new p ≡ (has old p && has other p)
 has_met old other new p u = elim (cases_lt (p / 64) (length old)) [
   | inl low ↦
@@ -102,7 +124,7 @@ has_met old other new p u = elim (cases_lt (p / 64) (length old)) [
       let x : slice_index new (p / 64) ≡ 0 = beyond new (p / 64) (omega (arith, u.len)) in
       let z : slice_index other (p / 64) ≡ 0 = beyond other (p / 64) (omega (arith, u.same_len)) in
       let none : (bit_at 0 (p % 64) == 1) ≡ false = ap (λ m. m == 1) (bit_at-zero (p % 64)) in
-      ap (λ w. bit_at w (p % 64) == 1) x ∙ none ∙ sym (ap (λ w. has old p && (bit_at w (p % 64) == 1)) z ∙ ap (λ c. has old p && c) none ∙ and_false (has old p))
+      ap (λ w. bit_at w (p % 64) == 1) x ∙ none ∙ sym (ap (λ w. has old p && (bit_at w (p % 64) == 1)) z ∙ ap (λ c. has old p && c) none ∙ and_none (has old p))
 ]
 
 whole : (row other : List ℕ) → length row ≡ length other → take (length row) other ≡ other

@@ -59,6 +59,14 @@ pub fn insert(row: &mut [u64], number: usize)
     row[number / 64] |= 1 << (number % 64);
 }
 
+/// Takes the number out.
+pub fn remove(row: &mut [u64], number: usize)
+    requires { number / 64 < length row.old }
+    ensures { (p : ℕ) → has row.new p ≡ (has row.old p && not (p == number)) }
+{
+    row[number / 64] &= !(1 << (number % 64));
+}
+
 /// Takes all numbers out.
 pub fn clear(row: &mut [u64])
     ensures none { (p : ℕ) → has row.new p ≡ false }
@@ -211,8 +219,7 @@ pub fn first_common(left: &[u64], right: &[u64]) -> Option<usize>
 
 /// The least number from one on that the set has.
 pub fn first_from(row: &[u64], from: usize) -> Option<usize>
-    requires few { length row.now ≤ WORDS }
-    requires from { from ≤ WIDTH }
+    requires { length row.now ≤ 2 ^ 58 }
     ensures { MatchOption result ((n : ℕ) → from ≤ n → has row.now n ≡ false) (IsFirstFrom row.now from) }
 {
     if let Some(bit) = lowest_bit(word_at(row, from / 64) >> (from % 64)) {
@@ -224,6 +231,21 @@ pub fn first_from(row: &[u64], from: usize) -> Option<usize>
         }
     }
     None
+}
+
+/// The least number of a set from one on, or the end where there is none below it.
+pub fn next_in(row: &[u64], from: usize, end: usize) -> usize
+    requires few { length row.now ≤ 2 ^ 58 }
+    requires from { from ≤ end }
+    ensures above { from ≤ result }
+    ensures below { result ≤ end }
+    ensures none { (s : ℕ) → from ≤ s → s < result → has row.now s ≡ false }
+    ensures there { result < end → IsTrue (has row.now result) }
+{
+    match first_from(row, from) {
+        Some(number) => number.min(end),
+        None => end,
+    }
 }
 
 /// Takes r in each row whose bit the word has; the row of its first bit is `first`.

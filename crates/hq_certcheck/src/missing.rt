@@ -13,7 +13,7 @@ ghost use Rattle.hq_certcheck.specs.Seen.{IsSeen};
 use crate::flags::{PACKET_WORDS, flags_of};
 use crate::possible::Possible;
 use crate::seen::Seen;
-use hq_bits::{WIDTH, WORDS, first_from};
+use hq_bits::next_in;
 use hq_footprint::Kinds;
 use hq_job::Job;
 use std::alloc::{AllocError, Global};
@@ -60,21 +60,6 @@ fn is_flagged(job: &Job, flags: &[u64], p: usize, r: usize) -> bool
     are_flagged(job, flags, p, r) || are_flagged(job, flags, r, p)
 }
 
-/// The first of a set's packets from one on, or their number where there is none.
-fn next(set: &[u64], from: usize, count: usize) -> usize
-    requires words { length set.now ≤ WORDS }
-    requires from { from ≤ count }
-    requires few { count ≤ WIDTH }
-    ensures above { from ≤ result }
-    ensures below { result ≤ count }
-    ensures none { (s : ℕ) → from ≤ s → s < result → has set.now s ≡ false }
-{
-    match first_from(set, from) {
-        Some(r) => r.min(count),
-        None => count,
-    }
-}
-
 /// The least packet after p whose conflicts with p lack flags.
 pub fn first_unflagged_after(
     job: &Job,
@@ -91,12 +76,12 @@ pub fn first_unflagged_after(
     job.valid();
     let count = job.packets().len();
     let suspects = possible.suspects(job, flags, p);
-    let mut r = next(&suspects, p + 1, count);
+    let mut r = next_in(&suspects, p + 1, count);
     'suspects: while r < count {
         if !is_flagged(job, flags, p, r) {
             return Some(r);
         }
-        r = next(&suspects, r + 1, count);
+        r = next_in(&suspects, r + 1, count);
     }
     None
 }

@@ -9,5 +9,5 @@ pub mod Gathered
 pub mod Levels
 pub mod Within
 pub mod Seen
-pub mod Spans
+pub mod Known
 pub mod StoredRuns

@@ -3,7 +3,7 @@ use Rattle.std.proofs.Common.{◌≡◌, ℕ, zero, suc, ◌<◌, ◌≤◌, Lis
 use Rattle.std.proofs.Math.Seq.{take-append_seam}
 use Rattle.std.specs.Result.{IsErrAnd}
 use Rattle.hq_copies.specs.declared.fault.CopiesFault.{CopiesFault}
-use Rattle.hq_copies.specs.declared.fault.CopiesFault.TheVariants.{Memory, NotClean}
+use Rattle.hq_copies.specs.declared.fault.CopiesFault.TheVariants.{Memory}
 use Rattle.std.specs.FinMap as finite
 use Rattle.hq_packet.specs.declared.packet.Scope.{Scope}
 use Rattle.hq_packet.specs.declared.packet.Scope.TheVariants as scope
@@ -38,9 +38,9 @@ released_by c start end a fence r m lanes same iff far = (
   λ released. iff.1 (λ b. ap (λ x. is_dirty (finite.get x b)) same ∙ released.agent far b),
 )
 
-pub no_memory : (r : Result (Unit {0}) CopiesFault) (P : Type 0) → P → IsErrAnd r (λ e. e ≡ Memory) → IfErr r (λ e. (e ≡ NotClean) ⊎ ((e ≡ Memory) × P))
-no_memory (Ok x) P p e = absurd e
-no_memory (Err x) P p e = inr (e, p)
+pub no_memory : (r : Result (Unit {0}) CopiesFault) (fault : CopiesFault) (P : Type 0) → P → IsErrAnd r (λ e. e ≡ Memory) → IfErr r (λ e. (e ≡ fault) ⊎ ((e ≡ Memory) × P))
+no_memory (Ok x) fault P p e = absurd e
+no_memory (Err x) fault P p e = inr (e, p)
 
 -- ---- a level in its place, and what a release fence writes back
 

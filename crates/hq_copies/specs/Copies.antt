@@ -12,8 +12,7 @@ use Rattle.hq_packet.specs.Scopes.{reaches}
 use Rattle.hq_model.specs.declared.limits.TheConstants.{BYTES}
 use Rattle.hq_model.specs.Machine.{Copy, value_or, is_dirty, listed}
 use Rattle.hq_model.specs.View.{Held, copies_of}
-use Rattle.hq_copies.specs.declared.span.Span.{Span}
-use Rattle.hq_copies.specs.Spans.{AreInside}
+use Rattle.hq_copies.specs.Known.{AreKnown}
 
 -- What contracts see: the bytes of memory, the map of each agent and of each lane from bytes to copies, and each
 -- lane's agent.
@@ -23,13 +22,13 @@ pub record CopiesValue : Type 0 where
   pub lanes : List Held
   pub lane_agents : List ℕ
 
--- Each byte's number is small, each lane has an agent that is there, and lanes that hold bytes are inside the spans.
+-- Each byte's number is small, each lane has an agent that is there, and lanes that hold bytes are in the sets.
 pub record IsCopies (memory : List ℕ) (agents lanes : List Held) (lane_agents : List ℕ)
-    (holding marked : Span) : Type 0 where
+    (holding marked : List ℕ) : Type 0 where
   pub bytes : length memory ≤ BYTES
   pub lanes_agree : length lanes ≡ length lane_agents
   pub agents_there : All (λ a. a < length agents) lane_agents
-  pub inside : AreInside lanes holding marked
+  pub known : AreKnown lanes holding marked
 
 -- a copy of this byte, dirty or not
 abbrev pub a_copy : ℕ → Bool → Copy

@@ -4,4 +4,4 @@ pub mod Marks
 pub mod Overlays
 pub mod Leftovers
 pub mod Levels
-pub mod Spans
+pub mod Known

@@ -12,10 +12,11 @@ ghost use Rattle.hq_copies.specs.Copies.{IsLaneByte, IsAgentByte, IsDirty, IsCle
 ghost use Rattle.hq_copies.specs.Copies.{IsReleased, IsFirstDirty, NoneDirty, held, PushedLane, PushedAgent};
 ghost use Rattle.hq_copies.specs.Copies.{IsAbsent, agent_byte, dirty_within, IsRunCount, LanesReleased};
 ghost use Rattle.hq_copies.specs.Copies.{AgentReleased, Released, after_pushes, cleaned, stored_run};
+ghost use Rattle.hq_copies.specs.Known.{AreKnown, HasDirty, HasRoom};
 
 use crate::fault::CopiesFault;
+use crate::lanes::Lanes;
 use crate::level::Level;
-use crate::span::Span;
 use hq_model::BYTES;
 use hq_packet::Scope;
 use std::alloc::{AllocError, Global};
@@ -30,9 +31,9 @@ pub struct Copies {
     lanes: Vec<Level>,
     // The number of each lane's agent.
     lane_agents: Vec<u8>,
-    // Where the lanes are that hold bytes, and those that hold dirty ones.
-    holding: Span,
-    marked: Span,
+    // Sets of lanes: all that hold bytes are in the one, and all that hold dirty ones in the other.
+    holding: Lanes,
+    marked: Lanes,
 }
 
 impl Model for Copies {
@@ -50,7 +51,7 @@ impl Model for Copies {
     } };
 
     ghost invariant = { λ c. IsCopies c.memory.items c.agents.items c.lanes.items c.lane_agents.items
-        c.holding c.marked };
+        c.holding.bits.items c.marked.bits.items };
 }
 
 impl Copies {
@@ -70,15 +71,18 @@ impl Copies {
         ensures ok { IfOk result (λ c. c ≡ opened memory.items agents lane_agents.items) }
         ensures memory { IfErr result (λ e. e ≡ CopiesFault.Memory) }
     {
+        let count = lane_agents.len();
         let agents = empty_levels(alloc, agents)?;
-        let lanes = empty_levels(alloc, lane_agents.len())?;
+        let lanes = empty_levels(alloc, count)?;
+        let holding = Lanes::new(alloc, count)?;
+        let marked = Lanes::new(alloc, count)?;
         Ok(Copies {
             memory,
             agents,
             lanes,
             lane_agents,
-            holding: Span::new(),
-            marked: Span::new(),
+            holding,
+            marked,
         })
     }
 
@@ -166,8 +170,8 @@ impl Copies {
     {
         let number = self.number(byte);
         self.lanes[lane].set_dirty(number, value)?;
-        self.holding = self.holding.with(lane);
-        self.marked = self.marked.with(lane);
+        self.holding.insert(lane);
+        self.marked.insert(lane);
         Ok(())
     }
 
@@ -201,8 +205,8 @@ impl Copies {
     {
         let start = self.number(byte);
         self.lanes[lane].set_run(start, bytes)?;
-        self.holding = self.holding.with(lane);
-        self.marked = self.marked.with(lane);
+        self.holding.insert(lane);
+        self.marked.insert(lane);
         Ok(())
     }
 
@@ -229,8 +233,8 @@ impl Copies {
         let below = &mut self.agents[agent];
         let level = &mut self.lanes[lane];
         level.push(below, number, value)?;
-        self.holding = self.holding.with(lane);
-        self.marked = self.marked.with(lane);
+        self.holding.insert(lane);
+        self.marked.insert(lane);
         Ok(())
     }
 
@@ -281,8 +285,8 @@ impl Copies {
         let agent = self.agent_of(lane);
         let value = self.agent_byte(agent, byte);
         self.lanes[lane].set_clean(number, value)?;
-        self.holding = self.holding.with(lane);
-        self.marked = self.marked.with(lane);
+        self.holding.insert(lane);
+        self.marked.insert(lane);
         Ok(())
     }
 
@@ -333,8 +337,8 @@ impl Copies {
             return Err(CopiesFault::NotClean);
         }
         level.drop_clean(number)?;
-        self.holding = self.holding.with(lane);
-        self.marked = self.marked.with(lane);
+        self.holding.insert(lane);
+        self.marked.insert(lane);
         Ok(())
     }
 
@@ -369,9 +373,13 @@ impl Copies {
         requires lanes { end ≤ length self.old.lanes }
         ensures { self.new ≡ record self.old { lanes = dirty_within start end self.old.lanes } }
     {
-        let kept = self.holding.cut(start, end);
-        keep_dirty(&mut self.lanes, kept.start, kept.end);
-        self.holding = self.holding.narrowed(start, end, self.marked);
+        keep_dirty(
+            &mut self.lanes,
+            &mut self.holding,
+            &self.marked,
+            start,
+            end,
+        );
     }
 
     /// An acquire fence over these lanes and this agent.
@@ -396,7 +404,7 @@ impl Copies {
         requires lanes { lanes.end ≤ length self.now.lanes }
         ensures { IsTrue result ↔ IsReleased self.now lanes.start lanes.end agent scope }
     {
-        if scope.reaches(Scope::Agent) && !have_no_dirty(&self.lanes, lanes.start, lanes.end) {
+        if scope.reaches(Scope::Agent) && !have_no_dirty(&self.lanes, &self.marked, lanes.start, lanes.end) {
             return false;
         }
         !scope.reaches(Scope::System) || self.agents[agent].has_no_dirty()
@@ -410,12 +418,16 @@ impl Copies {
         ensures ok { OnOk result (LanesReleased self.old lanes.start lanes.end agent self.new) }
         ensures err { OnErr result (self.new ≡ self.old) }
     {
-        let dirty = self.marked.cut(lanes.start, lanes.end);
         let mut below = self.agents[agent].copy()?;
-        push_each(&self.lanes, dirty.start, dirty.end, &mut below)?;
+        push_each(
+            &self.lanes,
+            &self.marked,
+            lanes.start,
+            lanes.end,
+            &mut below,
+        )?;
         self.agents[agent] = below;
-        mark_clean(&mut self.lanes, dirty.start, dirty.end);
-        self.marked = self.marked.narrowed(lanes.start, lanes.end, Span::new());
+        mark_clean(&mut self.lanes, &mut self.marked, lanes.start, lanes.end);
         Ok(())
     }
 
@@ -509,8 +521,8 @@ impl Copies {
             agents: copied(alloc, &self.agents)?,
             lanes: copied(alloc, &self.lanes)?,
             lane_agents: self.lane_agents.clone()?,
-            holding: self.holding,
-            marked: self.marked,
+            holding: self.holding.copy()?,
+            marked: self.marked.copy()?,
         })
     }
 }
@@ -547,52 +559,84 @@ fn copied(alloc: Global, levels: &[Level]) -> Result<Vec<Level>, AllocError>
     Ok(copies)
 }
 
-// Lets the clean bytes go of those from start on and before end.
-fn keep_dirty(levels: &mut [Level], start: usize, end: usize)
+// Lets the clean bytes go of the lanes from start on and before end.
+fn keep_dirty(
+    lanes: &mut [Level],
+    holding: &mut Lanes,
+    marked: &Lanes,
+    start: usize,
+    end: usize,
+)
     requires rising { start ≤ end }
-    requires within { end ≤ length levels.old }
-    ensures { levels.new ≡ dirty_within start end levels.old }
+    requires within { end ≤ length lanes.old }
+    requires known { AreKnown lanes.old holding.old.bits.items marked.now.bits.items }
+    ensures lanes { lanes.new ≡ dirty_within start end lanes.old }
+    ensures known { AreKnown lanes.new holding.new.bits.items marked.now.bits.items }
 {
-    for i in start..end {
-        levels[i].keep_dirty();
+    let mut lane = holding.next(start, end);
+    'lanes: while lane < end {
+        lanes[lane].keep_dirty();
+        holding.remove_unless(lane, marked);
+        lane = holding.next(lane + 1, end);
     }
 }
 
-// Whether those from start on and before end have no dirty byte.
-fn have_no_dirty(levels: &[Level], start: usize, end: usize) -> bool
+// Whether the lanes from start on and before end have no dirty byte.
+fn have_no_dirty(lanes: &[Level], marked: &Lanes, start: usize, end: usize) -> bool
     requires rising { start ≤ end }
-    requires within { end ≤ length levels.now }
-    ensures { IsTrue result ↔ ((k b : ℕ) → start ≤ k → k < end → is_dirty (copies_of levels.now k b) ≡ false) }
+    requires within { end ≤ length lanes.now }
+    requires room { HasRoom (length lanes.now) marked.now.bits.items }
+    requires marked { HasDirty lanes.now marked.now.bits.items }
+    ensures { IsTrue result ↔ ((k b : ℕ) → start ≤ k → k < end → is_dirty (copies_of lanes.now k b) ≡ false) }
 {
-    for i in start..end {
-        if !levels[i].has_no_dirty() {
+    let mut lane = marked.next(start, end);
+    'lanes: while lane < end {
+        if !lanes[lane].has_no_dirty() {
             return false;
         }
+        lane = marked.next(lane + 1, end);
     }
     true
 }
 
-// Lets a level take in the dirty bytes of those from start on and before end, one behind the other.
-fn push_each(lanes: &[Level], start: usize, end: usize, below: &mut Level) -> Result<(), AllocError>
+// Lets a level take in the dirty bytes of the lanes from start on and before end, one behind the other.
+fn push_each(
+    lanes: &[Level],
+    marked: &Lanes,
+    start: usize,
+    end: usize,
+    below: &mut Level,
+) -> Result<(), AllocError>
     requires rising { start ≤ end }
     requires within { end ≤ length lanes.now }
+    requires room { HasRoom (length lanes.now) marked.now.bits.items }
+    requires marked { HasDirty lanes.now marked.now.bits.items }
     ensures { OnOk result
         ((b : ℕ) → finite.get below.new b ≡ after_pushes lanes.now start (end - start) b (finite.get below.old b)) }
 {
-    for i in start..end {
-        lanes[i].push_into(below)?;
+    let mut lane = marked.next(start, end);
+    'lanes: while lane < end {
+        lanes[lane].push_into(below)?;
+        lane = marked.next(lane + 1, end);
     }
     Ok(())
 }
 
-// Makes all dirty bytes clean of those from start on and before end.
-fn mark_clean(levels: &mut [Level], start: usize, end: usize)
+// Makes all dirty bytes clean of the lanes from start on and before end.
+fn mark_clean(lanes: &mut [Level], marked: &mut Lanes, start: usize, end: usize)
     requires rising { start ≤ end }
-    requires within { end ≤ length levels.old }
-    ensures inside { (k b : ℕ) → start ≤ k → k < end → copies_of levels.new k b ≡ cleaned (copies_of levels.old k b) }
-    ensures outside { (k b : ℕ) → (k < start) ⊎ (end ≤ k) → copies_of levels.new k b ≡ copies_of levels.old k b }
+    requires within { end ≤ length lanes.old }
+    requires room { HasRoom (length lanes.old) marked.old.bits.items }
+    requires marked { HasDirty lanes.old marked.old.bits.items }
+    ensures inside { (k b : ℕ) → start ≤ k → k < end → copies_of lanes.new k b ≡ cleaned (copies_of lanes.old k b) }
+    ensures outside { (k b : ℕ) → (k < start) ⊎ (end ≤ k) → copies_of lanes.new k b ≡ copies_of lanes.old k b }
+    ensures room { HasRoom (length lanes.new) marked.new.bits.items }
+    ensures marked { HasDirty lanes.new marked.new.bits.items }
 {
-    for i in start..end {
-        levels[i].mark_clean();
+    let mut lane = marked.next(start, end);
+    'lanes: while lane < end {
+        lanes[lane].mark_clean();
+        marked.remove(lane);
+        lane = marked.next(lane + 1, end);
     }
 }

@@ -3,9 +3,9 @@
 
 mod copies;
 mod fault;
+mod lanes;
 mod level;
 mod runs;
-mod span;
 
 pub use copies::Copies;
 pub use fault::CopiesFault;

@@ -78,8 +78,10 @@ impl Ranks {
             initial_ahead: self.initial,
             later_ahead: self.later,
         })?;
-        self.initial = self.initial.saturating_add(initial.count_ones());
-        self.later = self.later.saturating_add(later.count_ones());
+        if initial | later != 0 {
+            self.initial = self.initial.saturating_add(initial.count_ones());
+            self.later = self.later.saturating_add(later.count_ones());
+        }
         Ok(())
     }
 

@@ -9,25 +9,9 @@ ghost use Rattle.hq_graph.specs.Known.{AreSteps, Sees};
 ghost use Rattle.hq_graph.specs.Order.{IsStep};
 
 use crate::sight::Sight;
-use hq_bits::{WIDTH, WORDS, first_from, take_out};
+use hq_bits::{WORDS, next_in, take_out};
 use hq_order::Before;
 use std::alloc::{AllocError, Global};
-
-/// The least number of a set from one on, or the end where there is none below it.
-fn next_in(row: &[u64], from: usize, end: usize) -> usize
-    requires few { length row.now ≤ WORDS }
-    requires from { from ≤ end }
-    requires end { end ≤ WIDTH }
-    ensures above { from ≤ result }
-    ensures below { result ≤ end }
-    ensures none { (s : ℕ) → from ≤ s → s < result → has row.now s ≡ false }
-    ensures there { result < end → IsTrue (has row.now result) }
-{
-    match first_from(row, from) {
-        Some(number) => number.min(end),
-        None => end,
-    }
-}
 
 /// Leaves of a set of packets those that are before no other of it.
 fn leave_last(row: &mut [u64], before: &Before)

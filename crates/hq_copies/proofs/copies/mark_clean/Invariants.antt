@@ -1,10 +1,17 @@
-use Rattle.std.proofs.Common.{◌≡◌, ◌<◌, ◌≤◌, ◌⊎◌, ℕ}
-use Rattle.hq_model.specs.View.{copies_of}
-use Rattle.hq_copies.specs.Copies.{cleaned}
+use Rattle.std.proofs.Common.{◌-◌, ◌≤◌, length}
+use Rattle.hq_copies.specs.Known.{HasDirty, HasRoom}
+use Rattle.hq_copies.proofs.Known.{Cleaned}
 use Rattle.hq_copies.proofs.copies.mark_clean.Given as goal
 
-abbrev pub invariant-loop-i : goal.invariant-loop-i
-invariant-loop-i l = record {
-  inside : (k b : ℕ) → l.start ≤ k → k < l.i → copies_of l.levels k b ≡ cleaned (copies_of l.fn.levels k b);
-  outside : (k b : ℕ) → (k < l.start) ⊎ (l.i ≤ k) → copies_of l.levels k b ≡ copies_of l.fn.levels k b;
+-- the lanes ahead of this one are clean
+abbrev pub invariant-lanes : goal.invariant-lanes
+invariant-lanes l = record {
+  from : l.start ≤ l.lane;
+  upto : l.lane ≤ l.end;
+  cleaned : Cleaned l.fn.lanes l.start l.lane l.lanes;
+  room : HasRoom (length l.lanes) l.marked.bits.items;
+  marked : HasDirty l.lanes l.marked.bits.items;
 }
+
+abbrev pub decreases-lanes : goal.decreases-lanes
+decreases-lanes l = l.end - l.lane

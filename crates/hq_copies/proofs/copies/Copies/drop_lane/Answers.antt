@@ -2,7 +2,8 @@ use Rattle.std.proofs.Common.{◌≡◌, ◌<◌, List, refl, ap, ap₂, sym, su
 use Rattle.std.specs.FinMap as finite
 use Rattle.hq_model.specs.View.{Held, copies_of}
 use Rattle.hq_copies.specs.Copies.{CopiesValue, IsClean, held, lane_dropped}
-use Rattle.hq_copies.proofs.Spans.{lane_kept}
+use Rattle.hq_copies.proofs.Known.{lane_kept}
+use Rattle.hq_copies.specs.declared.fault.CopiesFault.TheVariants.{NotClean}
 use Rattle.hq_copies.proofs.Within.{level_at, clean_at, no_memory}
 use Rattle.hq_copies.proofs.copies.Copies.drop_lane.Goals as goal
 
@@ -12,7 +13,7 @@ returns-in_err-drop_clean-clause-faults c =
     let there : c.index_mut-level.result.now ≡ held c.self.inside.lanes.items c.args.lane = level_at c.self.inside.lanes.items c.args.lane c.index_mut-level.result.now (subst A (sym c.self.view_is) c.requires.0) c.index_mut-level.ensures.value in
     let P : CopiesValue → Type 0 = λ t. IsClean (copies_of t.lanes c.args.lane c.args.byte) in
     let clean : IsClean (copies_of c.args.self.now.lanes c.args.lane c.args.byte) = subst P c.self.view_is (clean_at c.self.inside.lanes.items c.args.lane c.args.byte c.number-number.result c.index_mut-level.result.now there c.number-number.ensures.number (c.is_clean.ensures.0 c.if-not-is_clean.false)) in
-    no_memory c.from_residual.result (IsClean (copies_of c.args.self.now.lanes c.args.lane c.args.byte)) clean c.from_residual.ensures.1
+    no_memory c.from_residual.result NotClean (IsClean (copies_of c.args.self.now.lanes c.args.lane c.args.byte)) clean c.from_residual.ensures.1
 
 pub returns-clause-ok : goal.returns-clause-ok
 returns-clause-ok c =
@@ -27,5 +28,5 @@ returns-clause-ok c =
 pub invariant_of-self-2 : goal.invariant_of-self-2
 invariant_of-self-2 c =
     let is = c.self.inside in
-    lane_kept is.memory.items is.agents.items is.lanes.items is.lane_agents.items is.holding is.marked c.with-self-inside.result c.with-self-inside-2.result is.agents.items c.args.lane c.drop_clean.new.self c.self.invariant refl
-    c.with-self-inside.ensures.these c.with-self-inside.ensures.one c.with-self-inside-2.ensures.these c.with-self-inside-2.ensures.one
+    lane_kept is.memory.items is.agents.items is.lanes.items is.lane_agents.items is.holding.bits.items is.marked.bits.items c.insert.new.self.bits.items c.insert-2.new.self.bits.items is.agents.items c.args.lane c.drop_clean.new.self c.self.invariant refl
+    (record { bits = c.insert.ensures.has; len = c.insert.ensures.len }) (record { bits = c.insert-2.ensures.has; len = c.insert-2.ensures.len })

@@ -4,7 +4,7 @@ use Rattle.hq_copies.specs.Copies.{CopiesValue, held, stored_run}
 use Rattle.hq_copies.specs.Overlays.{run_at, dirty_over}
 use Rattle.hq_copies.proofs.Gathered.{same_held}
 use Rattle.hq_copies.proofs.StoredRuns.{held_run, get_held_run, stored_is}
-use Rattle.hq_copies.proofs.Spans.{lane_kept}
+use Rattle.hq_copies.proofs.Known.{lane_kept}
 use Rattle.hq_copies.proofs.Within.{level_at}
 use Rattle.hq_copies.proofs.copies.Copies.store_run.Goals as goal
 
@@ -28,5 +28,5 @@ returns-clause-ok c =
 pub invariant_of-self-2 : goal.invariant_of-self-2
 invariant_of-self-2 c =
     let is = c.self.inside in
-    lane_kept is.memory.items is.agents.items is.lanes.items is.lane_agents.items is.holding is.marked c.with-self-inside.result c.with-self-inside-2.result is.agents.items c.args.lane c.set_run.new.self c.self.invariant refl
-    c.with-self-inside.ensures.these c.with-self-inside.ensures.one c.with-self-inside-2.ensures.these c.with-self-inside-2.ensures.one
+    lane_kept is.memory.items is.agents.items is.lanes.items is.lane_agents.items is.holding.bits.items is.marked.bits.items c.insert.new.self.bits.items c.insert-2.new.self.bits.items is.agents.items c.args.lane c.set_run.new.self c.self.invariant refl
+    (record { bits = c.insert.ensures.has; len = c.insert.ensures.len }) (record { bits = c.insert-2.ensures.has; len = c.insert-2.ensures.len })
