@@ -207,7 +207,7 @@ pub dropped_on : (xs ys : List Held) (start lane n : ℕ) (x m : Held) (holding 
     → AreKnown (set ys lane m) holding marked → ((k : ℕ) → lane + 1 ≤ k → k < n → has holding k ≡ false) → set ys lane m ≡ dirty_within start n xs
 dropped_on xs ys start lane n x m holding marked a b c e at only are none =
     let one : set ys lane m ≡ dirty_within start (suc lane) xs =
-        ap₂ (λ zs t. set zs lane t) e only ∙ within_step xs start lane x a (omega arith) (subst (λ zs. x ≡ get_or zs lane x) e at) in
+    ap₂ (λ zs t. set zs lane t) e only ∙ within_step xs start lane x a (omega arith) (subst (λ zs. x ≡ get_or zs lane x) e at) in
     one ∙ skipped xs start (suc lane) n (omega arith) (omega arith) c (λ k byte from to. ap (λ zs. copies_of zs k byte) (sym one) ∙ none_held (set ys lane m) holding k byte are.held (none k (omega arith) to))
 
 -- ---- dirty bytes that become clean

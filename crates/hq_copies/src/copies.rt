@@ -373,13 +373,7 @@ impl Copies {
         requires lanes { end ≤ length self.old.lanes }
         ensures { self.new ≡ record self.old { lanes = dirty_within start end self.old.lanes } }
     {
-        keep_dirty(
-            &mut self.lanes,
-            &mut self.holding,
-            &self.marked,
-            start,
-            end,
-        );
+        keep_dirty(&mut self.lanes, &mut self.holding, &self.marked, start, end);
     }
 
     /// An acquire fence over these lanes and this agent.
@@ -404,7 +398,9 @@ impl Copies {
         requires lanes { lanes.end ≤ length self.now.lanes }
         ensures { IsTrue result ↔ IsReleased self.now lanes.start lanes.end agent scope }
     {
-        if scope.reaches(Scope::Agent) && !have_no_dirty(&self.lanes, &self.marked, lanes.start, lanes.end) {
+        if scope.reaches(Scope::Agent)
+            && !have_no_dirty(&self.lanes, &self.marked, lanes.start, lanes.end)
+        {
             return false;
         }
         !scope.reaches(Scope::System) || self.agents[agent].has_no_dirty()
@@ -560,13 +556,7 @@ fn copied(alloc: Global, levels: &[Level]) -> Result<Vec<Level>, AllocError>
 }
 
 // Lets the clean bytes go of the lanes from start on and before end.
-fn keep_dirty(
-    lanes: &mut [Level],
-    holding: &mut Lanes,
-    marked: &Lanes,
-    start: usize,
-    end: usize,
-)
+fn keep_dirty(lanes: &mut [Level], holding: &mut Lanes, marked: &Lanes, start: usize, end: usize)
     requires rising { start ≤ end }
     requires within { end ≤ length lanes.old }
     requires known { AreKnown lanes.old holding.old.bits.items marked.now.bits.items }

@@ -36,9 +36,9 @@ returns-clause-ok c =
       value,
       subst P c.self.view_is (sym (ap₂ finite.get here number) ∙ c.in-Some.ensures),
       ap₂ with_both
-      (ap (set lanes lane) (c.in_ok-push.ensures.ok ∙ ap₂ (λ m k. finite.insert m k (a_copy value false)) level number))
-      (ap (set agents a) (c.in_ok-push.ensures.below ∙ ap₂ (λ m k. finite.insert m k (a_copy value true)) below number) ∙ ap (λ k. with_copy agents k c.args.byte (a_copy value true)) of)
-      ∙ ap (λ t. lane_pushed t lane c.args.byte value) c.self.view_is,
+          (ap (set lanes lane) (c.in_ok-push.ensures.ok ∙ ap₂ (λ m k. finite.insert m k (a_copy value false)) level number))
+          (ap (set agents a) (c.in_ok-push.ensures.below ∙ ap₂ (λ m k. finite.insert m k (a_copy value true)) below number) ∙ ap (λ k. with_copy agents k c.args.byte (a_copy value true)) of)
+          ∙ ap (λ t. lane_pushed t lane c.args.byte value) c.self.view_is,
     )
 
 pub invariant_of-self-2 : goal.invariant_of-self-2
