@@ -1,15 +1,16 @@
 -- What a packet stays behind, gathered from its parts.
-use Rattle.std.proofs.Common.{◌≡◌, ◌≢◌, ℕ, ◌↔◌, ◌⊎◌, inl, inr, IsTrue, List, refl}
+use Rattle.std.proofs.Common.{◌≡◌, ℕ, ◌-◌, ◌<◌, ◌≤◌, ◌↔◌, inl, inr, IsTrue, List, refl, sym, ◌∙◌, subst, arith}
+use Rattle.std.proofs.lemmas.Bool.{cases_eq}
 use Rattle.hq_packet.specs.declared.packet.Packet.{Packet}
 use Rattle.hq_packet.specs.declared.packet.Packet.TheVariants as format
 use Rattle.hq_packet.specs.declared.packet.Barrier.{Barrier}
 use Rattle.hq_tables.specs.Kinds.{kind_of}
-use Rattle.hq_model.specs.Job.{Job, packet, Earlier}
+use Rattle.hq_model.specs.Job.{Job, packet, IsPacket, Earlier}
 use Rattle.hq_model.specs.Job.Kind.{BarrierAnd, BarrierOr}
 use Rattle.hq_model.specs.Order.{FreesFor}
 use Rattle.hq_bits.specs.Bits.{has}
 use Rattle.hq_waits.specs.Waits.{OfDependencies}
-use Rattle.hq_schedule.specs.Placing.{StaysBehind}
+use Rattle.hq_schedule.specs.Placing.{HasAhead, StaysBehind}
 use Rattle.hq_schedule.specs.Placing.StaysBehind.{by_queue, by_slot, by_and}
 
 pub and_packet : (p : Packet) → kind_of p ≡ BarrierAnd → (b : Barrier) × (p ≡ format.And b)
@@ -24,46 +25,21 @@ or_packet (format.Agent k) e = absurd (cc)
 or_packet (format.And b) e = absurd (cc)
 or_packet (format.Or b) e = (b, refl)
 
-module _ (job : Job) (p : ℕ) (old first second : List ℕ)
-    (queue : (e : ℕ) → IsTrue (has first e) ↔ (IsTrue (has old e) ⊎ Earlier job e p))
-    (both : (e : ℕ) → IsTrue (has second e) ↔ (IsTrue (has first e) ⊎ FreesFor job e p)) where
-  into : (e : ℕ) → IsTrue (has second e) → IsTrue (has old e) ⊎ StaysBehind job p e
-  into e h = elim ((both e).0 h) [
-    | inl t ↦ elim ((queue e).0 t) [ inl o ↦ inl o | inr q ↦ inr (by_queue q) ]
-    | inr f ↦ inr (by_slot f)
-  ]
+-- where the last one before p in its queue has come, so have all
+pub earlier_come : (job : Job) (come : List ℕ) (p start : ℕ) → HasAhead job come → IsPacket job p → ((e : ℕ) → Earlier job e p ↔ ((start ≤ e) × (e < p))) → IsTrue (has come (p - 1)) → (e : ℕ) → Earlier job e p → IsTrue (has come e)
+earlier_come job come p start ahead is range last e before = elim (cases_eq e (p - 1)) [
+  | inl same ↦ subst (λ k. IsTrue (has come k)) (sym same) last
+  | inr apart ↦
+      let within = (range e).0 before in
+      let next : Earlier job (p - 1) p = (range (p - 1)).1 (omega (arith, within.0, within.1, apart), omega (arith, within.1)) in
+      ahead e (p - 1) (record { ahead = omega (arith, within.1, apart); is_packet = omega (arith, is); same_queue = before.same_queue ∙ sym next.same_queue }) last
+]
 
-  from_old : (e : ℕ) → IsTrue (has old e) → IsTrue (has second e)
-  from_old e h = (both e).1 (inl ((queue e).1 (inl h)))
+pub last_earlier : (job : Job) (p start : ℕ) → ((e : ℕ) → Earlier job e p ↔ ((start ≤ e) × (e < p))) → start < p → Earlier job (p - 1) p
+last_earlier job p start range l = (range (p - 1)).1 (omega arith, omega arith)
 
-  from_queue : (e : ℕ) → Earlier job e p → IsTrue (has second e)
-  from_queue e h = (both e).1 (inl ((queue e).1 (inr h)))
-
-  from_slot : (e : ℕ) → FreesFor job e p → IsTrue (has second e)
-  from_slot e h = (both e).1 (inr h)
-
-  pub needs_without : (packet job p).kind ≢ BarrierAnd → (e : ℕ) → IsTrue (has second e) ↔ (IsTrue (has old e) ⊎ StaysBehind job p e)
-  needs_without other e = (
-    into e,
-    λ h. elim h [
-      | inl t ↦ from_old e t
-      | inr n ↦ elim n [
-        | by_queue q ↦ from_queue e q
-        | by_slot f ↦ from_slot e f
-        | by_and k d ↦ absurd (other k)
-      ]
-    ],
-  )
-
-  pub needs_with : (third : List ℕ) → (packet job p).kind ≡ BarrierAnd → ((e : ℕ) → IsTrue (has third e) ↔ (IsTrue (has second e) ⊎ OfDependencies job p e)) → (e : ℕ) → IsTrue (has third e) ↔ (IsTrue (has old e) ⊎ StaysBehind job p e)
-  needs_with third kind last e = (
-    λ h. elim ((last e).0 h) [ inl t ↦ into e t | inr d ↦ inr (by_and kind d) ],
-    λ h. (last e).1 (elim h [
-      | inl t ↦ inl (from_old e t)
-      | inr n ↦ elim n [
-        | by_queue q ↦ inl (from_queue e q)
-        | by_slot f ↦ inl (from_slot e f)
-        | by_and k d ↦ inr d
-      ]
-    ]),
-  )
+-- all that p stays behind have come
+pub all_behind : (job : Job) (come : List ℕ) (p : ℕ) → ((e : ℕ) → Earlier job e p → IsTrue (has come e)) → ((e : ℕ) → FreesFor job e p → IsTrue (has come e)) → ((packet job p).kind ≡ BarrierAnd → (e : ℕ) → OfDependencies job p e → IsTrue (has come e)) → (e : ℕ) → StaysBehind job p e → IsTrue (has come e)
+all_behind job come p queue slot ands e (by_queue q) = queue e q
+all_behind job come p queue slot ands e (by_slot f) = slot e f
+all_behind job come p queue slot ands e (by_and k d) = ands k e d

@@ -4,7 +4,7 @@ use Rattle.std.proofs.lemmas.Bool.{eq-eqb, eqb-true, ltb-true, lt-ltb}
 use Rattle.std.proofs.lemmas.List.Elements.{All-filter, filter-append}
 use Rattle.std.proofs.lemmas.List.{append-nil}
 use Rattle.std.proofs.lemmas.List.Quantifiers.{all_pairs_push}
-use Rattle.hq_model.specs.Job.{Job}
+use Rattle.hq_model.specs.Job.{Job, Earlier}
 use Rattle.hq_model.specs.Order.{place, In, OrderList}
 use Rattle.hq_model.specs.Machine.{listed}
 use Rattle.hq_model.specs.Schedule.{MayCome, Scheduled, Settled, stands_in, left_of}
@@ -13,7 +13,7 @@ use Rattle.hq_model.proofs.Places.{in_pushed, in_more, in_before_push, numbers_b
 use Rattle.hq_model.proofs.Schedule.{schedules_settle}
 use Rattle.hq_model.proofs.Orders.{none_where_stuck}
 use Rattle.hq_bits.specs.Bits.{has}
-use Rattle.hq_schedule.specs.Placing.{HasCome, MayFollow, AreStuck}
+use Rattle.hq_schedule.specs.Placing.{HasAhead, HasCome, MayFollow, AreStuck}
 use Rattle.hq_schedule.specs.Placing.StaysBehind.{by_queue, by_slot, by_and}
 use Rattle.hq_schedule.specs.Least.{LeastFirst}
 use Rattle.hq_schedule.specs.Least.LeastFirst.{begins, goes_on}
@@ -61,6 +61,15 @@ come_push come new list p same grows = record {
     ],
   );
 }
+
+pub ahead_none : (job : Job) (come : List ℕ) (n : ℕ) → come ≡ replicate n 0 → HasAhead job come
+ahead_none job come n e = λ b r before h. let no_bit : has come r ≡ false = has_nothing come n r e in let never : ⊥ = cc in absurd never
+
+pub ahead_push : (job : Job) (come new : List ℕ) (p : ℕ) → HasAhead job come → MayFollow job come p → ((e : ℕ) → has new e ≡ (has come e || e == p)) → HasAhead job new
+ahead_push job come new p ahead may grows = λ e r before h. elim (or_either (has come r) (r == p) (sym (grows r) ∙ h)) [
+  | inl old ↦ grows e ∙ or_left (has come e) (e == p) (ahead e r before old)
+  | inr this ↦ grows e ∙ or_left (has come e) (e == p) (may.needs e (by_queue (subst (λ q. Earlier job e q) (eqb-true r p this) before)))
+]
 
 bool_same : (a b : Bool) → (IsTrue a → IsTrue b) → (IsTrue b → IsTrue a) → a ≡ b
 bool_same true true f g = refl

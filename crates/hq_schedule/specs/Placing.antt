@@ -18,15 +18,17 @@ pub record CanFree (job : Job) (words : ℕ) (sets : List (Vec ℕ)) : Type 0 wh
   pub rows : IsTrue job.rings → AllAre (λ k set. Freeing job k set.items × (length set.items ≡ words)) sets
   pub count : IsTrue job.rings → length sets ≡ length job.submissions
 
+-- Where queues are rings, each packet has the set of the packets that its slot waits for, in so many words.
+pub record AreSlots (job : Job) (words : ℕ) (sets : List (Vec ℕ)) : Type 0 where
+  pub rows : IsTrue job.rings
+      → AllAre (λ p set. ((e : ℕ) → IsTrue (has set.items e) ↔ FreesFor job e p) × (length set.items ≡ words)) sets
+  pub count : IsTrue job.rings → length sets ≡ length job.packets
+
 -- p stays behind e, whatever else comes ahead of it
 pub data StaysBehind (job : Job) (p e : ℕ) : Type 0 where
   by_queue : Earlier job e p → StaysBehind job p e
   by_slot : FreesFor job e p → StaysBehind job p e
   by_and : (packet job p).kind ≡ BarrierAnd → OfDependencies job p e → StaysBehind job p e
-
--- the row is the set of the packets that p stays behind
-pub record Needed (job : Job) (p : ℕ) (row : List ℕ) : Type 0 where
-  pub are : (e : ℕ) → IsTrue (has row e) ↔ StaysBehind job p e
 
 -- all that complete on the signal have come
 abbrev pub IsOver : Job → List ℕ → ℕ → Type 0
@@ -35,6 +37,15 @@ IsOver job come s = (d : ℕ) → Decrements job d s → IsTrue (has come d)
 -- a dependency of p is over
 abbrev pub OneIsOver : Job → List ℕ → ℕ → Type 0
 OneIsOver job come p = (slot : ℕ) × (s : ℕ) × Dependency job p slot s × IsOver job come s
+
+-- p waits for no signal that isn't over: a barrier-AND for none, a barrier-OR not for all
+pub record WaitIsOver (job : Job) (come : List ℕ) (p : ℕ) : Type 0 where
+  pub ands : (packet job p).kind ≡ BarrierAnd → (e : ℕ) → OfDependencies job p e → IsTrue (has come e)
+  pub ors : (packet job p).kind ≡ BarrierOr → OneIsOver job come p
+
+-- with each packet the set has those that stand before it in its queue
+abbrev pub HasAhead : Job → List ℕ → Type 0
+HasAhead job come = (e r : ℕ) → Earlier job e r → IsTrue (has come r) → IsTrue (has come e)
 
 -- p may come next, where the packets of the set have come
 pub record MayFollow (job : Job) (come : List ℕ) (p : ℕ) : Type 0 where

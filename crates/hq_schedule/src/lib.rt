@@ -5,8 +5,8 @@
 #![tactic(auto)]
 
 mod freeing;
-mod needs;
 mod scheduling;
+mod slots;
 
-pub use needs::turn;
 pub use scheduling::schedule;
+pub use slots::turn;

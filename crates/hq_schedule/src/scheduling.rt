@@ -5,16 +5,16 @@ ghost use Rattle.std.specs.Prelude.{MatchOption};
 ghost use Rattle.hq_job.specs.Plan.{plan};
 ghost use Rattle.hq_model.specs.Job.{Earlier};
 ghost use Rattle.hq_model.specs.Machine.{listed};
-ghost use Rattle.hq_model.specs.Order.{OrderList};
+ghost use Rattle.hq_model.specs.Order.{FreesFor, OrderList};
 ghost use Rattle.hq_bits.specs.Bits.{has};
 ghost use Rattle.hq_rows.specs.Lists.{AllAre};
-ghost use Rattle.hq_waits.specs.Waits.{Completing};
-ghost use Rattle.hq_schedule.specs.Placing.{Needed, OneIsOver, MayFollow};
+ghost use Rattle.hq_waits.specs.Waits.{Completing, OfDependencies};
+ghost use Rattle.hq_schedule.specs.Placing.{AreSlots, HasAhead, IsOver, MayFollow, OneIsOver, WaitIsOver};
 ghost use Rattle.hq_schedule.specs.Least.{LeastFirst};
 ghost use Rattle.hq_schedule.specs.Faults.{StuckWhereSo};
 
 use crate::freeing::freeing;
-use crate::needs::needs;
+use crate::slots::slots;
 use hq_bits::{covers, has, insert};
 use hq_job::Job;
 use hq_model::PACKETS;
@@ -22,6 +22,17 @@ use hq_packet::Packet;
 use hq_rows::beyond;
 use hq_waits::{OrderFault, completing};
 use std::alloc::{AllocError, Global};
+
+/// Whether all that complete on a signal have come.
+fn is_over(job: &Job, completing: &[Vec<u64>], come: &[u64], signal: u16) -> bool
+    requires completing { AllAre
+        (λ s set. Completing (plan job.now) s set.items × (length set.items ≡ length come.now)) completing.now }
+    requires low { signal < length completing.now }
+    ensures { IsTrue result ↔ IsOver (plan job.now) come.now signal }
+{
+    let _ = job;
+    covers(come, &completing[signal as usize])
+}
 
 /// Whether all that complete on one of a packet's dependencies have come.
 fn one_is_over(job: &Job, completing: &[Vec<u64>], come: &[u64], number: usize) -> bool
@@ -34,7 +45,7 @@ fn one_is_over(job: &Job, completing: &[Vec<u64>], come: &[u64], number: usize) 
     job.valid();
     for slot in job.slots(number) {
         if let Some(signal) = slot {
-            if covers(come, &completing[*signal as usize]) {
+            if is_over(job, completing, come, *signal) {
                 return true;
             }
         }
@@ -42,30 +53,88 @@ fn one_is_over(job: &Job, completing: &[Vec<u64>], come: &[u64], number: usize) 
     false
 }
 
+/// Whether all that complete on a packet's dependencies have come.
+fn all_are_over(job: &Job, completing: &[Vec<u64>], come: &[u64], number: usize) -> bool
+    requires number { number < length job.now.packets }
+    requires completing { AllAre
+        (λ s set. Completing (plan job.now) s set.items × (length set.items ≡ length come.now)) completing.now }
+    requires count { length completing.now ≡ length job.now.signals }
+    ensures { IsTrue result ↔ ((e : ℕ) → OfDependencies (plan job.now) number e → IsTrue (has come.now e)) }
+{
+    job.valid();
+    for slot in job.slots(number) {
+        if let Some(signal) = slot {
+            if !is_over(job, completing, come, *signal) {
+                return false;
+            }
+        }
+    }
+    true
+}
+
+/// Whether a packet's wait is over, where it is a barrier packet.
+fn wait_is_over(job: &Job, completing: &[Vec<u64>], come: &[u64], number: usize) -> bool
+    requires number { number < length job.now.packets }
+    requires completing { AllAre
+        (λ s set. Completing (plan job.now) s set.items × (length set.items ≡ length come.now)) completing.now }
+    requires count { length completing.now ≡ length job.now.signals }
+    ensures { IsTrue result ↔ WaitIsOver (plan job.now) come.now number }
+{
+    match job.packet(number).packet {
+        Packet::And(_) => all_are_over(job, completing, come, number),
+        Packet::Or(_) => one_is_over(job, completing, come, number),
+        _ => true,
+    }
+}
+
+/// Whether all have come that stand before a packet in its queue; where one has come, so have those before it.
+fn earlier_have_come(job: &Job, come: &[u64], number: usize) -> bool
+    requires number { number < length job.now.packets }
+    requires closed { HasAhead (plan job.now) come.now }
+    ensures { IsTrue result ↔ ((e : ℕ) → Earlier (plan job.now) e number → IsTrue (has come.now e)) }
+{
+    let earlier = job.earlier(number);
+    earlier.start >= number || has(come, number - 1)
+}
+
+/// Whether all have come that a packet's slot waits for.
+fn slot_is_free(job: &Job, slots: &[Vec<u64>], come: &[u64], number: usize) -> bool
+    requires number { number < length job.now.packets }
+    requires slots { AreSlots (plan job.now) (length come.now) slots.now }
+    ensures { IsTrue result ↔ ((e : ℕ) → FreesFor (plan job.now) e number → IsTrue (has come.now e)) }
+{
+    if !job.rings() {
+        return true;
+    }
+    covers(come, &slots[number])
+}
+
 /// Whether a packet may come next.
 fn may_follow(
     job: &Job,
     completing: &[Vec<u64>],
-    needs: &[Vec<u64>],
+    slots: &[Vec<u64>],
     come: &[u64],
     number: usize,
 ) -> bool
     requires number { number < length job.now.packets }
     requires completing { AllAre
         (λ s set. Completing (plan job.now) s set.items × (length set.items ≡ length come.now)) completing.now }
-    requires signals { length completing.now ≡ length job.now.signals }
-    requires needs { AllAre
-        (λ p set. Needed (plan job.now) p set.items × (length set.items ≡ length come.now)) needs.now }
-    requires count { length needs.now ≡ length job.now.packets }
+    requires count { length completing.now ≡ length job.now.signals }
+    requires slots { AreSlots (plan job.now) (length come.now) slots.now }
+    requires closed { HasAhead (plan job.now) come.now }
     ensures { IsTrue result ↔ MayFollow (plan job.now) come.now number }
 {
-    if has(come, number) || !covers(come, &needs[number]) {
+    if has(come, number) {
         return false;
     }
-    match job.packet(number).packet {
-        Packet::Or(_) => one_is_over(job, completing, come, number),
-        _ => true,
+    if !earlier_have_come(job, come, number) {
+        return false;
     }
+    if !slot_is_free(job, slots, come, number) {
+        return false;
+    }
+    wait_is_over(job, completing, come, number)
 }
 
 /// The end of a packet's queue: all from the packet up to there stay behind it.
@@ -96,23 +165,22 @@ fn following(job: &Job, come: &[u64], number: usize) -> usize
 fn next(
     job: &Job,
     completing: &[Vec<u64>],
-    needs: &[Vec<u64>],
+    slots: &[Vec<u64>],
     come: &[u64],
     first: usize,
 ) -> Option<usize>
     requires completing { AllAre
         (λ s set. Completing (plan job.now) s set.items × (length set.items ≡ length come.now)) completing.now }
     requires signals { length completing.now ≡ length job.now.signals }
-    requires needs { AllAre
-        (λ p set. Needed (plan job.now) p set.items × (length set.items ≡ length come.now)) needs.now }
-    requires count { length needs.now ≡ length job.now.packets }
+    requires slots { AreSlots (plan job.now) (length come.now) slots.now }
+    requires closed { HasAhead (plan job.now) come.now }
     requires first { (r : ℕ) → r < first → IsTrue (has come.now r) }
     ensures { MatchOption result ((p : ℕ) → MayFollow (plan job.now) come.now p → ⊥)
         (λ p. MayFollow (plan job.now) come.now p × ((r : ℕ) → r < p → MayFollow (plan job.now) come.now r → ⊥)) }
 {
     let mut number = first;
     while number < job.packets().len() {
-        if may_follow(job, completing, needs, come, number) {
+        if may_follow(job, completing, slots, come, number) {
             return Some(number);
         }
         number = following(job, come, number);
@@ -161,11 +229,11 @@ pub fn schedule(alloc: Global, job: &Job) -> Result<Vec<u16>, OrderFault>
     let words = count / 64 + 1;
     let completing = completing(alloc, job, words)?;
     let freeing = freeing(alloc, job, words)?;
-    let needs = needs(alloc, job, &completing, &freeing, words)?;
+    let slots = slots(alloc, job, &freeing, words)?;
     let mut come = vec![in alloc; 0; words]?;
     let mut list = Vec::with_capacity(alloc, count)?;
     let mut first = 0;
-    while let Some(number) = next(job, &completing, &needs, &come, first) {
+    while let Some(number) = next(job, &completing, &slots, &come, first) {
         list.push(number as u16)?;
         insert(&mut come, number);
         first = first_left(&come, first, count);

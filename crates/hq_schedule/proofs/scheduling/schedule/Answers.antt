@@ -7,10 +7,10 @@ use Rattle.hq_schedule.specs.Least.{LeastFirst}
 use Rattle.hq_schedule.specs.Least.LeastFirst.{begins, goes_on}
 use Rattle.hq_model.proofs.Schedule.{one_less, to_place}
 use Rattle.hq_bits.specs.Bits.{has}
-use Rattle.hq_schedule.specs.Placing.{HasCome, MayFollow}
+use Rattle.hq_schedule.specs.Placing.{HasAhead, HasCome, MayFollow}
 use Rattle.hq_rows.proofs.Lists.{lent, empty_length, some_length}
 use Rattle.hq_waits.proofs.Packets.{packets_count}
-use Rattle.hq_schedule.proofs.Settling.{may_come, may_follow, come_none, come_push, left_same, stuck_left, ordered, scheduled}
+use Rattle.hq_schedule.proofs.Settling.{ahead_none, ahead_push, may_come, may_follow, come_none, come_push, left_same, stuck_left, ordered, scheduled}
 use Rattle.hq_schedule.proofs.scheduling.schedule.Goals as goal
 
 pub loop-number-init : goal.loop-number-init
@@ -20,6 +20,7 @@ loop-number-init c =
     record {
       least = subst (LeastFirst (plan c.args.job.now)) (sym empty) begins;
       come = subst (HasCome c.in_ok-come.come.items) (sym empty) (come_none c.in_ok-come.come.items (length c.packets-count.result.now / 64 + 1) zeros);
+      ahead = ahead_none (plan c.args.job.now) c.in_ok-come.come.items (length c.packets-count.result.now / 64 + 1) zeros;
       len = ap length zeros ∙ length-replicate (length c.packets-count.result.now / 64 + 1) 0;
       first = λ r l. absurd (omega (arith, l));
     }
@@ -46,6 +47,7 @@ loop-number-preserved c =
     record {
       least = subst (LeastFirst (plan c.args.job.now)) (sym grown) (goes_on c.loop-number.invariant.least may least);
       come = subst (λ r. HasCome r c.push.new.self.items) (sym whole) (subst (HasCome c.insert.new.row) (sym grown) (come_push c.loop-number.come.items c.insert.new.row c.loop-number.list.items c.in-Some.number c.loop-number.invariant.come grows));
+      ahead = subst (HasAhead (plan c.args.job.now)) (sym whole) (ahead_push (plan c.args.job.now) c.loop-number.come.items c.insert.new.row c.in-Some.number c.loop-number.invariant.ahead follows grows);
       len = ap length whole ∙ same_len ∙ c.loop-number.invariant.len;
       first = λ r l. subst (λ row. IsTrue (has row r)) (c.deref-in-Some.ensures.value) (c.first_left-first.ensures r l);
     }
@@ -56,7 +58,7 @@ returns-then-is_empty-clause-ok c =
     c.in_default.ensures p (subst (λ r. MayFollow (plan c.args.job.now) r p) (sym c.deref-in-loop-number-3.ensures.value) (may_follow (plan c.args.job.now) c.loop-number.come.items c.loop-number.list.items p c.loop-number.invariant.come may)) in
     let count : length c.packets-count.result.now ≡ length (plan c.args.job.now).packets = omega (arith, ap length c.packets-count.ensures, packets_count c.args.job.now) in
     let is : c.in_ok-left.left.items ≡ left_of (plan c.args.job.now) c.loop-number.list.items =
-    subst (λ r. c.in_ok-left.left.items ≡ filter (λ p. not (has r p)) (listed (length (plan c.args.job.now).packets) (λ p. p))) c.deref-3.ensures.value (subst (λ n. c.in_ok-left.left.items ≡ filter (λ p. not (has c.deref-3.result.now p)) (listed n (λ p. p))) count c.in_ok-left.ensures)
+    subst (λ r. c.in_ok-left.left.items ≡ filter (λ p. not (has r p)) (listed (length (plan c.args.job.now).packets) (λ p. p))) c.deref-2.ensures.value (subst (λ n. c.in_ok-left.left.items ≡ filter (λ p. not (has c.deref-2.result.now p)) (listed n (λ p. p))) count c.in_ok-left.ensures)
     ∙ left_same (plan c.args.job.now) c.loop-number.come.items c.loop-number.list.items c.loop-number.invariant.come in
     ordered (plan c.args.job.now) c.loop-number.list.items c.in_ok-left.left.items (scheduled (plan c.args.job.now) c.loop-number.list.items c.loop-number.invariant.least) none is (empty_length c.in_ok-left.left.len (length c.in_ok-left.left.items) c.in_ok-left.left.ok.0 c.if-is_empty.ensures)
 
@@ -66,6 +68,6 @@ returns-clause-stuck c =
     c.in_default.ensures p (subst (λ r. MayFollow (plan c.args.job.now) r p) (sym c.deref-in-loop-number-3.ensures.value) (may_follow (plan c.args.job.now) c.loop-number.come.items c.loop-number.list.items p c.loop-number.invariant.come may)) in
     let count : length c.packets-count.result.now ≡ length (plan c.args.job.now).packets = omega (arith, ap length c.packets-count.ensures, packets_count c.args.job.now) in
     let is : c.in_ok-left.left.items ≡ left_of (plan c.args.job.now) c.loop-number.list.items =
-    subst (λ r. c.in_ok-left.left.items ≡ filter (λ p. not (has r p)) (listed (length (plan c.args.job.now).packets) (λ p. p))) c.deref-3.ensures.value (subst (λ n. c.in_ok-left.left.items ≡ filter (λ p. not (has c.deref-3.result.now p)) (listed n (λ p. p))) count c.in_ok-left.ensures)
+    subst (λ r. c.in_ok-left.left.items ≡ filter (λ p. not (has r p)) (listed (length (plan c.args.job.now).packets) (λ p. p))) c.deref-2.ensures.value (subst (λ n. c.in_ok-left.left.items ≡ filter (λ p. not (has c.deref-2.result.now p)) (listed n (λ p. p))) count c.in_ok-left.ensures)
     ∙ left_same (plan c.args.job.now) c.loop-number.come.items c.loop-number.list.items c.loop-number.invariant.come in
     stuck_left (plan c.args.job.now) c.loop-number.list.items c.in_ok-left.left.items (scheduled (plan c.args.job.now) c.loop-number.list.items c.loop-number.invariant.least) none is (some_length c.in_ok-left.left.len (length c.in_ok-left.left.items) c.in_ok-left.left.ok.0 c.if-is_empty.ensures)

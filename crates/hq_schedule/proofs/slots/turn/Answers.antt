@@ -1,7 +1,7 @@
 use Rattle.std.proofs.Common.{ap, length, arith, slice_index, sym, ◌∙◌}
 use Rattle.hq_waits.proofs.Packets.{packets_count}
 use Rattle.hq_schedule.proofs.Submitting.{first_place, never_absent}
-use Rattle.hq_schedule.proofs.needs.turn.Goals as goal
+use Rattle.hq_schedule.proofs.slots.turn.Goals as goal
 
 pub returns-then-submitted-number-clause-turn : goal.returns-then-submitted-number-clause-turn
 returns-then-submitted-number-clause-turn c = first_place c.args.job.now.submissions c.loop-turn.turn c.args.number (omega (arith, ap length c.submissions-submitted-items.ensures))
