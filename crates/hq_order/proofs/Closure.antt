@@ -3,10 +3,11 @@ use Rattle.std.proofs.Common.{◌≡◌, ◌↔◌, ℕ, zero, suc, ◌+◌, ◌
 use Rattle.std.specs.Global.{Vec}
 use Rattle.std.proofs.lemmas.Bool.{cases_lt}
 use Rattle.hq_model.specs.Job.{Job, Decrements}
-use Rattle.hq_model.specs.Order.{Before, Branch}
+use Rattle.hq_model.specs.Order.{AwaitsAny, Before, Branch}
 use Rattle.hq_model.specs.Order.Before.{by_bit, by_queue, by_and, by_or, through}
 use Rattle.hq_model.specs.Order.Branch.{itself, after}
 use Rattle.hq_rows.specs.Matrix.{Marks, IsSquare, matrix, last, IsMarkedNowhere, IsMarkedFirst}
+use Rattle.hq_rows.specs.Uniting.{Through}
 use Rattle.hq_order.specs.Rounds.{AreRounds, IsClosed, Direct, Reaches, Next, Within, IsFirstWithin}
 use Rattle.std.specs.Prelude.{Option, Some, None, MatchOption}
 use Rattle.hq_order.specs.Rounds.Precedes.{by_bit as bit_behind, by_queue as queued}
@@ -29,6 +30,12 @@ pub next_within : (job : Job) (rows : List (Vec ℕ)) (p r : ℕ) → length row
 next_within job rows p r e (by_known k) = marked_below rows p r k
 next_within job rows p r e (by_either b) = let l : r < length job.packets = b.any.some.2.is_packet in omega arith
 next_within job rows p r e (joining {m} k l) = marked_below rows m r l
+
+-- where two rows give no more, and there is no barrier-OR, nothing is added
+pub closed_whole : (job : Job) (rows : List (Vec ℕ)) → ((p r : ℕ) → Through rows p r → Marks rows p r) → ((r : ℕ) → AwaitsAny job r → ⊥) → (p r : ℕ) → Next job (Marks rows) p r → Marks rows p r
+closed_whole job rows whole none p r (by_known k) = k
+closed_whole job rows whole none p r (by_either e) = absurd (none r e.any)
+closed_whole job rows whole none p r (joining {m} k l) = whole p r (inr (m, k, l))
 
 -- ---- rounds
 

@@ -4,6 +4,7 @@ ghost use Rattle.std.specs.Prelude.{◌≡◌, ℕ, ◌+◌, ◌-◌, ◌<◌, �
 ghost use Rattle.std.specs.Prelude.{MatchOption, IfSome, length, ◌*◌};
 ghost use Rattle.hq_job.specs.Plan.{plan};
 ghost use Rattle.hq_model.specs.Order as order;
+ghost use Rattle.hq_model.specs.Order.{AwaitsAny};
 ghost use Rattle.hq_bits.specs.Bits.{Grown, has};
 ghost use Rattle.hq_rows.specs.Lists.{AllAre};
 ghost use Rattle.hq_rows.specs.Matrix.{row, words_for, Marks, IsSquare, last, earlier, lag};
@@ -16,9 +17,10 @@ use crate::direct::{direct_row, go_on};
 use crate::rounds::next_row;
 use hq_bits::{WIDTH, WORDS};
 use hq_job::Job;
+use hq_packet::Packet;
 use hq_rows::{
-    Known, all_turned, are_same, between, earlier_rows, first_turned, last_rows, marks, row_of,
-    unions_if_many,
+    Known, all_turned, are_same, are_whole, between, earlier_rows, first_turned, last_rows, marks,
+    row_of, unions_if_many,
 };
 use hq_waits::{OrderFault, completing};
 use std::alloc::{AllocError, Global};
@@ -122,6 +124,43 @@ fn following(
     next_rows(alloc, job, completing, &known, new)
 }
 
+/// Whether no packet is a barrier-OR.
+fn has_no_either(job: &Job) -> bool
+    ensures { IsTrue result → (r : ℕ) → AwaitsAny (plan job.now) r → ⊥ }
+{
+    job.valid();
+    for r in 0..job.packets().len() {
+        if let Packet::Or(_) = job.packet(r).packet {
+            return false;
+        }
+    }
+    true
+}
+
+/// Whether one more round would add nothing, as far as that is told without the rows of that round.
+fn is_closed(
+    alloc: Global,
+    job: &Job,
+    rounds: &[Vec<Vec<u64>>],
+    renewed: &[u64],
+) -> Result<bool, AllocError>
+    requires rounds { AreRounds (plan job.now) rounds.now }
+    requires stepped { Stepped (earlier rounds.now) (last rounds.now) renewed.now }
+    ensures { IfOk result (λ is. IsTrue is → IsClosed (plan job.now) rounds.now) }
+{
+    if !has_no_either(job) {
+        return Ok(false);
+    }
+    let known = Known {
+        rows: last_rows(rounds),
+        earlier: earlier_rows(rounds),
+        renewed,
+        unions: &[],
+    };
+    let whole = are_whole(alloc, &known, words_of(job))?;
+    Ok(whole)
+}
+
 /// Adds the next round, and answers true, unless it would be the same as the last. `renewed` has the packets whose
 /// rows in the last round have more than two of the rows before give.
 fn add_round(
@@ -144,6 +183,10 @@ fn add_round(
     ensures closed { IfOk result (λ more. more ≡ false → IsClosed (plan job.now) rounds.new.items) }
 {
     job.valid();
+    let closed = is_closed(alloc, job, rounds, renewed)?;
+    if closed {
+        return Ok(false);
+    }
     let mut new = hq_bits::empty(alloc, WORDS)?;
     let next = following(alloc, job, completing, rounds, renewed, &mut new)?;
     if are_same(&next, last_rows(rounds)) {

@@ -109,7 +109,7 @@ fn count_fresh(row: &[u64], earlier: &[u64], renewed: &[u64]) -> u32 {
 }
 
 /// Whether many packets are fresh, in all rows together, by what every fourth row has.
-fn are_many(rows: &[Vec<u64>], earlier: &[Vec<u64>], renewed: &[u64]) -> bool {
+pub(crate) fn are_many(rows: &[Vec<u64>], earlier: &[Vec<u64>], renewed: &[u64]) -> bool {
     let mut count = 0u32;
     for (r, row) in rows.iter().enumerate() {
         if r % 4 == 0 {

@@ -2,7 +2,7 @@
 //!
 //! A number is a packet's, and tables come round by round, each from the one before it: `last_rows`, `earlier_rows`,
 //! `are_same`. `reached` and `through_row` take in what is before the numbers of a set or a row (`Known`), four of them
-//! at a time where there are many (`unions_if_many`); `all_turned` turns rows round, so that `between` and
+//! at a time where there are many (`unions_if_many`), and `are_whole` tells whether that brings nothing; `all_turned` turns rows round, so that `between` and
 //! `first_turned` answer at once. Nothing here knows of jobs.
 #![tactic(auto)]
 
@@ -17,6 +17,6 @@ mod tables;
 pub use columns::{all_turned, between, row_of};
 pub use gathering::{Known, unions_if_many};
 pub use joining::{meet_each, note, unite_more};
-pub use reaching::{reached, through_row};
+pub use reaching::{are_whole, reached, through_row};
 pub use skipping::beyond;
 pub use tables::{are_same, earlier_rows, first_turned, last_rows, marks};
