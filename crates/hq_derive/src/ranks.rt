@@ -20,6 +20,14 @@ pub struct Place {
     pub later_ahead: u32,
 }
 
+/// No line is needed.
+const NOTHING: Place = Place {
+    initial: 0,
+    later: 0,
+    initial_ahead: 0,
+    later_ahead: 0,
+};
+
 /// How many lines stand ahead of one, of those of round 0 where it is one of these, or else of those of later rounds.
 #[derive(Clone, Copy, Debug)]
 pub enum Rank {
@@ -53,36 +61,34 @@ impl Ranks {
     ///
     /// `AllocError` where there is no memory.
     pub fn new(alloc: Global, before: &Before, needs: &Needs) -> Result<Ranks, AllocError> {
-        let places = Vec::with_capacity(alloc, needs.bits().len())?;
+        let places = vec![in alloc; NOTHING; needs.bits().len()]?;
         let mut ranks = Ranks {
             places,
             initial: 0,
             later: 0,
         };
         for (place, word) in needs.bits().iter().enumerate() {
-            let initial = match *word {
-                0 => 0,
-                some => some & before.fresh(0, place / WORDS, place % WORDS),
-            };
-            ranks.push(initial, less(*word, initial))?;
+            if *word != 0 {
+                let initial = *word & before.fresh(0, place / WORDS, place % WORDS);
+                ranks.note(place, initial, less(*word, initial));
+            }
         }
         Ok(ranks)
     }
 
-    /// Adds a place.
+    /// Notes which lines are needed at a place; those ahead of it are noted.
     #[inline(always)]
-    fn push(&mut self, initial: u64, later: u64) -> Result<(), AllocError> {
-        self.places.push(Place {
-            initial,
-            later,
-            initial_ahead: self.initial,
-            later_ahead: self.later,
-        })?;
-        if initial | later != 0 {
-            self.initial = self.initial.saturating_add(initial.count_ones());
-            self.later = self.later.saturating_add(later.count_ones());
+    fn note(&mut self, place: usize, initial: u64, later: u64) {
+        if let Some(noted) = self.places.get_mut(place) {
+            *noted = Place {
+                initial,
+                later,
+                initial_ahead: self.initial,
+                later_ahead: self.later,
+            };
         }
-        Ok(())
+        self.initial = self.initial.saturating_add(initial.count_ones());
+        self.later = self.later.saturating_add(later.count_ones());
     }
 
     /// How many lines of round 0 are needed.

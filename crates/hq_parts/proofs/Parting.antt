@@ -1,5 +1,5 @@
 -- Packets whose parts of memory are apart don't conflict.
-use Rattle.std.proofs.Common.{◌≡◌, ◌≢◌, ◌↔◌, ◌⊎◌, ◌||◌, ◌==◌, Bool, true, false, IsTrue, drop, ℕ, zero, suc, ◌+◌, ◌*◌, ◌/◌, ◌%◌, ◌<◌, ◌≤◌, inl, inr, List, [], ◌∷◌, ◌++◌, length, refl, sym, ◌∙◌, ap, subst, arith, Some, slice_get, slice_index_or, take, bit_or, w64, ◌^◌}
+use Rattle.std.proofs.Common.{◌≡◌, ◌≢◌, ◌↔◌, ◌⊎◌, ◌||◌, ◌==◌, Bool, true, false, IsTrue, drop, ℕ, zero, suc, ◌+◌, ◌*◌, ◌/◌, ◌%◌, ◌<◌, ◌≤◌, inl, inr, List, [], ◌∷◌, ◌++◌, length, refl, sym, ◌∙◌, ap, subst, arith, Some, slice_get, slice_index_or, take, bit_or, bit_and, w64, ◌^◌}
 use Rattle.std.specs.Prelude.{All}
 use Rattle.std.specs.Int.{bit_at}
 use Rattle.std.specs.List.{AllZip, flat_map}
@@ -7,7 +7,7 @@ use Rattle.std.proofs.Math.Nat.{div-mul-le_self}
 use Rattle.std.proofs.lemmas.Bool.{cases_eq, cases_lt, eq-eqb}
 use Rattle.std.proofs.lemmas.List.{length-map, take_more}
 use Rattle.std.proofs.lemmas.Nat.{le-div}
-use Rattle.std.proofs.lemmas.Nat.Bits.{bit_at_or, bit_at-lt, bit_at-zero, bit_at_set_same, bit_at_set_other, bit_at_ones, bit_at_above}
+use Rattle.std.proofs.lemmas.Nat.Bits.{bit_at_and, bit_at_or, bit_at-lt, bit_at-zero, bit_at_set_same, bit_at_set_other, bit_at_ones, bit_at_above}
 use Rattle.std.proofs.lemmas.Option.{slice_get_within, slice_get-get_or}
 use Rattle.std.proofs.lemmas.List.{take_all}
 use Rattle.hq_footprint.specs.declared.footprint.Range.{Range}
@@ -23,7 +23,7 @@ use Rattle.hq_parts.specs.declared.parts.Parts.{Parts}
 use Rattle.hq_parts.specs.declared.parts.Touch.{Touch}
 use Rattle.hq_bits.specs.Bits.{has}
 use Rattle.hq_bits.proofs.Walked.{column_has}
-use Rattle.hq_parts.specs.Parts.{HasRange, HasFoot, AreDisjoint, IsApart, NeverConflict, TellConflicts, IsTable, AreParts, TakesRows}
+use Rattle.hq_parts.specs.Parts.{AreApart, HasRange, HasFoot, AreDisjoint, IsApart, NeverConflict, TellConflicts, IsTable, AreParts, TakesRows}
 
 -- ---- masks
 
@@ -235,3 +235,43 @@ none_of_others job parts bits a t are e touched written s low none =
       first = no_row t.written touches parts.tables.touched.items bits (λ v. v.touched) u s are.tables.touched touched there few none;
       second = no_row t.touched touches parts.tables.written.items bits (λ v. v.written) u s are.tables.written written there few none;
     })
+
+-- ---- finer parts
+
+no_bit : (a b k : ℕ) → bit_and a b ≡ 0 → bit_at a k ≡ 1 → bit_at b k ≡ 1 → ⊥
+no_bit a b k none x y =
+    let both : bit_at (bit_and a b) k ≡ 0 = ap (λ w. bit_at w k) none ∙ bit_at-zero k in
+    let least = bit_at_and a b k in
+    omega (arith, x, y, both, least)
+
+pub apart_by : (t u : Touch) → bit_and t.written u.touched ≡ 0 → bit_and t.touched u.written ≡ 0 → IsApart t u
+apart_by t u first second = record { first = λ k x y. no_bit t.written u.touched k first x y; second = λ k x y. no_bit t.touched u.written k second x y }
+
+-- what is left of a row where some packets were taken out that are apart from a
+abbrev pub LeftOf : List ℕ → List Touch → ℕ → List ℕ → Type 0
+LeftOf old touches a new = (s : ℕ) → s < length touches → has new s ≡ false → (has old s ≡ false) ⊎ AreApart touches a s
+
+pub none_left : (job : Job) (parts : Parts) (first bits : List ℕ) (a : ℕ) (t : Touch) → AreParts job parts → LeftOf first parts.fine.items a bits → slice_get parts.packets.items a ≡ Some t → a < length job.packets
+    → TakesRows parts.tables.touched.items t.written first → TakesRows parts.tables.written.items t.touched first → (s : ℕ) → s < length job.packets → has bits s ≡ false → NeverConflict job a s
+none_left job parts first bits a t are left e is touched written s low none = elim (left s within none) [
+  | inl out ↦ none_of_others job parts first a t are e touched written s low out
+  | inr apart ↦ are.fine.apart a s v u at_a at_s (apart v u at_a at_s)
+]
+  where
+    fine : List Touch
+    fine = parts.fine.items
+
+    within : s < length fine
+    within = omega (arith, are.fine.len, low)
+
+    v : Touch
+    v = slice_index_or fine a t
+
+    u : Touch
+    u = slice_index_or fine s t
+
+    at_a : slice_get fine a ≡ Some v
+    at_a = slice_get-get_or fine a t (omega (arith, are.fine.len, is))
+
+    at_s : slice_get fine s ≡ Some u
+    at_s = slice_get-get_or fine s t within

@@ -33,6 +33,10 @@ pub record IsApart (t u : Touch) : Type 0 where
   pub first : AreDisjoint t.written u.touched
   pub second : AreDisjoint t.touched u.written
 
+-- so it is of two of them, by their places
+abbrev pub AreApart : List Touch → ℕ → ℕ → Type 0
+AreApart touches a b = (t u : Touch) → slice_get touches a ≡ Some t → slice_get touches b ≡ Some u → IsApart t u
+
 -- There is no conflict of a with b, a first.
 abbrev pub NeverConflict : Job → ℕ → ℕ → Type 0
 NeverConflict job a b = (kind : Conflict) → Conflicts job kind a b → ⊥
@@ -58,6 +62,7 @@ pub record AreTables (touches : List Touch) (tables : Tables) : Type 0 where
 pub record AreParts (job : Job) (parts : Parts) : Type 0 where
   pub few : length parts.packets.items ≤ WIDTH
   pub tell : TellConflicts job parts.packets.items
+  pub fine : TellConflicts job parts.fine.items
   pub tables : AreTables parts.packets.items parts.tables
 
 -- the row has all packets that the table has for the parts of the mask

@@ -1,14 +1,16 @@
 //! Which parts of memory packets write and touch, as far as that tells at once that two of them don't conflict.
 
-ghost use Rattle.std.specs.Prelude.{◌≡◌, ℕ, ◌+◌, ◌%◌, ◌^◌, ◌<◌, ◌≤◌, IsTrue, IfOk, All, length};
+ghost use Rattle.std.specs.Prelude.{◌≡◌, ℕ, ◌+◌, ◌%◌, ◌^◌, ◌<◌, ◌≤◌, ◌⊎◌, false, IsTrue, IfOk, All, length};
 ghost use Rattle.std.specs.Int.{bit_at};
 ghost use Rattle.hq_job.specs.Plan.{plan};
 ghost use Rattle.hq_model.specs.Job.{IsPacket};
 ghost use Rattle.hq_bits.specs.Bits.{has};
 ghost use Rattle.hq_parts.specs.Parts.{HasRange, HasFoot, TellConflicts, IsTable, AreTables, AreParts, AreOthers};
-ghost use Rattle.hq_parts.specs.Parts.{NeverConflict, TakesRows};
+ghost use Rattle.hq_parts.specs.Parts.{AreApart, IsApart, NeverConflict, TakesRows};
 
-use hq_bits::{WIDTH, WORDS, column_of, first_from, lowest, turn_word, unite, without};
+use hq_bits::{
+    WIDTH, WORDS, column_of, first_from, lowest, next_in, remove, turn_word, unite, without,
+};
 use hq_footprint::{Footprint, Range};
 use hq_job::Job;
 use std::alloc::{AllocError, Global};
@@ -169,6 +171,36 @@ fn take_rows(row: &mut [u64], table: &[u64], parts: u64)
     }
 }
 
+/// A row of fewer packets than this is worth a look at finer parts.
+const FEW: u32 = 64;
+
+/// How many of those a part has.
+const FINER: u64 = 64;
+
+/// Whether neither writes in a part that the other touches.
+fn is_apart(left: Touch, right: Touch) -> bool
+    ensures { IsTrue result → IsApart left right }
+{
+    left.written & right.touched == 0 && left.touched & right.written == 0
+}
+
+/// Takes the packets out of a row that are apart from a.
+fn drop_apart(row: &mut [u64], touches: &[Touch], a: usize)
+    requires row { length row.old ≡ WORDS }
+    requires few { length touches.now ≤ WIDTH }
+    requires a_is { a < length touches.now }
+    ensures { (s : ℕ) → s < length touches.now → has row.new s ≡ false
+        → (has row.old s ≡ false) ⊎ AreApart touches.now a s }
+{
+    let mut b = next_in(row, 0, touches.len());
+    'others: while b < touches.len() {
+        if is_apart(touches[a], touches[b]) {
+            remove(row, b);
+        }
+        b = next_in(row, b + 1, touches.len());
+    }
+}
+
 /// The packets that a packet may conflict with, as bits.
 #[derive(Clone, Copy, Debug)]
 pub struct Others {
@@ -221,6 +253,8 @@ impl Others {
 #[derive(Drop)]
 pub struct Parts {
     packets: Vec<Touch>,
+    /// The same by finer parts.
+    fine: Vec<Touch>,
     tables: Tables,
 }
 
@@ -234,13 +268,19 @@ impl Parts {
         ensures { IfOk result (AreParts (plan job.now)) }
     {
         job.valid();
-        let packets = touches_of(alloc, job, part_size(job))?;
+        let size = part_size(job);
+        let packets = touches_of(alloc, job, size)?;
+        let fine = touches_of(alloc, job, (size / FINER).max(1))?;
         let tables = tables_of(alloc, &packets)?;
-        Ok(Parts { packets, tables })
+        Ok(Parts {
+            packets,
+            fine,
+            tables,
+        })
     }
 
     /// The packets that a may conflict with: those that touch a part in which it writes, and those that write in a
-    /// part that it touches.
+    /// part that it touches; where these are few, without those that finer parts tell apart from it.
     pub fn others(&self, job: &Job, a: usize) -> Others
         requires parts { AreParts (plan job.now) self.now }
         requires a_is { IsPacket (plan job.now) a }
@@ -250,6 +290,9 @@ impl Parts {
         let mut bits = [0; WORDS];
         take_rows(&mut bits, &self.tables.touched, touch.written);
         take_rows(&mut bits, &self.tables.written, touch.touched);
+        if (Others { bits }).count() < FEW {
+            drop_apart(&mut bits, &self.fine, a);
+        }
         Others { bits }
     }
 }

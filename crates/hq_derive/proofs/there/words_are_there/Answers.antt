@@ -13,5 +13,5 @@ loop-place-preserved c =
       | inl early ↦ c.loop-place.invariant n early h
       | inr from ↦
           let here : n / 64 ≡ place = omega (arith, below, from) in
-          bits_less lines (initial_of c.args.ranks.now) c.args.bits.now place n c.less-rest.result here c.requires (c.word_is_there.ensures all) (search rules) h
+          bits_less lines (initial_of c.args.ranks.now) c.args.bits.now place n c.later_of-rest.result here c.requires (c.word_is_there.ensures all) (search rules) h
     ]
