@@ -15,7 +15,8 @@ use Rattle.hq_model.specs.Fence.{Ordered}
 use Rattle.hq_model.specs.Settings.{SameButHeads, head_of, head_at, highest, no_head, HeadRaises, Raises}
 use Rattle.hq_model.proofs.SettingsKept.{same_length, packets_same, heads_leave_conflicts}
 use Rattle.hq_model.proofs.SettingsSteps.{raises_on, highest_is_highest}
-use Rattle.hq_parts.specs.Parts.{AreParts, NeverConflict}
+use Rattle.hq_parts.specs.Parts.{AreParts, NeverConflict, TellConflicts}
+use Rattle.hq_parts.specs.declared.parts.Touch.{Touch}
 use Rattle.hq_parts.specs.declared.parts.Parts.{Parts}
 use Rattle.hq_change.specs.declared.level.Level.{Level}
 use Rattle.hq_change.specs.declared.level.Level.TheVariants as level
@@ -59,12 +60,16 @@ starts_on floor job floored above ordered = record {
 pub parts_stay : (j k : Job) (ps : Parts) → SameButHeads j k → AreParts j ps → AreParts k ps
 parts_stay j k ps same h = record {
   few = h.few;
-  tell = record { len = h.tell.len ∙ same_length j.packets k.packets (packets_same j k same); apart = λ a b t u e f g. never a b (h.tell.apart a b t u e f g) };
+  tell = stays ps.packets.items h.tell;
+  fine = stays ps.fine.items h.fine;
   tables = h.tables;
 }
   where
     never : (a b : ℕ) → NeverConflict j a b → NeverConflict k a b
     never a b n kind c = n kind ((heads_leave_conflicts j k kind a b same).1 c)
+
+    stays : (touches : List Touch) → TellConflicts j touches → TellConflicts k touches
+    stays touches told = record { len = told.len ∙ same_length j.packets k.packets (packets_same j k same); apart = λ a b t u e f g. never a b (told.apart a b t u e f g) }
 
 -- ---- all levels
 

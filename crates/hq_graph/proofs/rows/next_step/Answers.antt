@@ -10,7 +10,8 @@ next_in-requires-clause-few c =
     let steps = c.requires.sees.steps in
     let low : c.args.r < length c.args.sight.now.steps.now = omega (arith, steps.height, c.requires.r) in
     let is = row_is c.args.sight.now.steps.now c.args.r c.index-sight-r.result low c.index-sight-r.is ∙ ap (λ (v : Vec ℕ). v.items) c.index-sight-r.is ∙ sym c.deref.ensures.value in
-    subst (λ words. length words ≤ WORDS) is (steps.width c.args.r c.requires.r)
+    let few : length c.deref.result.now ≤ WORDS = subst (λ words. length words ≤ WORDS) is (steps.width c.args.r c.requires.r) in
+    omega (arith, few)
 
 pub returns-clause-none : goal.returns-clause-none
 returns-clause-none c = λ p from low step.
