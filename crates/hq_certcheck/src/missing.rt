@@ -1,6 +1,6 @@
 //! Conflicts that have no pair lines.
 
-ghost use Rattle.std.specs.Prelude.{◌≡◌, ℕ, ◌*◌, ◌<◌, ◌≤◌, ◌↔◌, IsTrue, IfOk, MatchOption, false, length};
+ghost use Rattle.std.specs.Prelude.{◌≡◌, ℕ, ◌*◌, ◌<◌, ◌↔◌, IsTrue, IfOk, MatchOption, false, length};
 ghost use Rattle.hq_job.specs.Plan.{plan};
 ghost use Rattle.hq_bits.specs.Bits.{has};
 ghost use Rattle.hq_model.specs.Fence.{Conflict, Conflicts};

@@ -7,11 +7,11 @@ use Rattle.std.specs.Ordering.{nat_cmp}
 use Rattle.hq_model.specs.Machine.{Copy, is_dirty}
 use Rattle.hq_model.specs.View.{Held, copies_of}
 use Rattle.hq_bits.specs.Bits.{has}
-use Rattle.hq_copies.specs.Copies.{a_copy, held, dirty_only, dirty_within, cleaned, taken, after_pushes, IsCopies}
+use Rattle.hq_copies.specs.Copies.{held, dirty_only, dirty_within, cleaned, taken, after_pushes, IsCopies}
 use Rattle.hq_copies.specs.Known.{AreKnown, HasDirty, HasHolding, HasRoom}
 use Rattle.hq_copies.proofs.Gathered.{same_held}
 use Rattle.hq_copies.proofs.Levels.{get_only}
-use Rattle.hq_copies.proofs.Within.{lent, set_here, set_there, within_step}
+use Rattle.hq_copies.proofs.Within.{lent, set_there, within_step}
 
 -- ---- what isn't in a set
 
@@ -172,9 +172,6 @@ only_some copy t = elim (cases_Bool (is_dirty copy)) [
 some_dirty : (xs new : List Held) (k b : ℕ) → held new k ≡ dirty_only (held xs k) → is_some (copies_of new k b) ≡ true → is_dirty (copies_of xs k b) ≡ true
 some_dirty xs new k b e t = only_some (copies_of xs k b) (sym (ap is_some (ap (λ m. finite.get m b) e ∙ get_only (held xs k) b)) ∙ t)
 
-same_copy : (xs new : List Held) (k b : ℕ) → held new k ≡ held xs k → copies_of new k b ≡ copies_of xs k b
-same_copy xs new k b e = ap (λ m. finite.get m b) e
-
 and_true : (b : Bool) → b ≡ true → (b && true) ≡ true
 and_true b e = ap (λ x. x && true) e
 
@@ -212,17 +209,9 @@ dropped_on xs ys start lane n x m holding marked a b c e at only are none =
 
 -- ---- dirty bytes that become clean
 
-cleaned_same : (copy : Option Copy) → is_dirty copy ≡ false → copy ≡ cleaned copy
-cleaned_same None e = refl
-cleaned_same (Some copy) e = ap (λ d. Some (a_copy copy.value d)) e
-
 cleaned_some : (copy : Option Copy) → is_some (cleaned copy) ≡ true → is_some copy ≡ true
 cleaned_some None t = t
 cleaned_some (Some copy) t = refl
-
-cleaned_not : (copy : Option Copy) → is_dirty (cleaned copy) ≡ false
-cleaned_not None = refl
-cleaned_not (Some copy) = refl
 
 -- clean ones in place of dirty ones: what holds bytes does so still
 pub holding_cleaned : (lanes new : List Held) (holding : List ℕ) (start end : ℕ) → HasHolding lanes holding → ((k b : ℕ) → start ≤ k → k < end → copies_of new k b ≡ cleaned (copies_of lanes k b)) → ((k b : ℕ) → (k < start) ⊎ (end ≤ k) → copies_of new k b ≡ copies_of lanes k b)
@@ -235,49 +224,11 @@ holding_cleaned lanes new holding start end are within outside k b t = elim (cas
   ]
 ]
 
--- the set without a lane
-pub record Taken (old : List ℕ) (lane : ℕ) (new : List ℕ) : Type 0 where
-  pub bits : (k : ℕ) → has new k ≡ (has old k && not (k == lane))
-  pub len : length new ≡ length old
-
--- a lane of which no byte is dirty any more
-pub lane_marked : (lanes : List Held) (marked less : List ℕ) (lane : ℕ) (m : Held) → HasDirty lanes marked → lane < length lanes → ((b : ℕ) → finite.get m b ≡ cleaned (copies_of lanes lane b)) → Taken marked lane less → HasDirty (set lanes lane m) less
-lane_marked lanes marked less lane m are low clean taken k b t = elim (cases_eq k lane) [
-  | inl same ↦ absurd (true≢false (sym (subst (λ n. is_dirty (copies_of (set lanes lane m) n b) ≡ true) same t) ∙ ap is_dirty (set_here lanes lane m b low ∙ clean b) ∙ cleaned_not (copies_of lanes lane b)))
-  | inr d ↦ taken.bits k ∙ ap (λ x. has marked k && not x) (ne_eqb k lane d) ∙ and_true (has marked k) (are k b (sym (ap is_dirty (set_there lanes lane k m b d)) ∙ t))
-]
-
 -- so far as before lane: those from start on are clean, and the rest is as it was
 pub record Cleaned (xs : List Held) (start lane : ℕ) (ys : List Held) : Type 0 where
   pub count : length ys ≡ length xs
   pub inside : (k b : ℕ) → start ≤ k → k < lane → copies_of ys k b ≡ cleaned (copies_of xs k b)
   pub outside : (k b : ℕ) → (k < start) ⊎ (lane ≤ k) → copies_of ys k b ≡ copies_of xs k b
-
--- those that aren't dirty are passed over
-pub cleaned_none : (xs ys : List Held) (start lane n : ℕ) (marked : List ℕ) → Cleaned xs start lane ys → lane ≤ n → HasDirty ys marked → ((k : ℕ) → lane ≤ k → k < n → has marked k ≡ false) → Cleaned xs start n ys
-cleaned_none xs ys start lane n marked so far are none = record {
-  count = so.count;
-  inside = λ k b from to. elim (cases_lt k lane) [
-    | inl before ↦ so.inside k b from before
-    | inr behind ↦
-        let same : copies_of ys k b ≡ copies_of xs k b = so.outside k b (inr behind) in
-        same ∙ cleaned_same (copies_of xs k b) (sym (ap is_dirty same) ∙ not_dirty ys marked k b are (none k behind to))
-  ];
-  outside = λ k b out. so.outside k b (elim out [ inl low ↦ inl low | inr high ↦ inr (omega arith) ]);
-}
-
-pub cleaned_one : (xs ys : List Held) (start lane : ℕ) (m : Held) → Cleaned xs start lane ys → start ≤ lane → lane < length xs → ((b : ℕ) → finite.get m b ≡ cleaned (copies_of ys lane b)) → Cleaned xs start (lane + 1) (set ys lane m)
-cleaned_one xs ys start lane m so from low clean = record {
-  count = length-set ys lane m ∙ so.count;
-  inside = λ k b above to. elim (cases_eq k lane) [
-    | inl same ↦ ap (λ n. copies_of (set ys lane m) n b) same ∙ set_here ys lane m b (omega (arith, so.count)) ∙ clean b ∙ ap cleaned (so.outside lane b (inr (omega arith))) ∙ ap (λ n. cleaned (copies_of xs n b)) (sym same)
-    | inr d ↦ set_there ys lane k m b d ∙ so.inside k b above (omega arith)
-  ];
-  outside = λ k b out. set_there ys lane k m b (λ same. elim out [ inl l ↦ absurd (omega arith) | inr h ↦ absurd (omega arith) ]) ∙ so.outside k b (elim out [ inl l ↦ inl l | inr h ↦ inr (omega arith) ]);
-}
-
-pub cleaned_first : (xs : List Held) (start : ℕ) → Cleaned xs start start xs
-cleaned_first xs start = record { count = refl; inside = λ k b from to. absurd (omega arith); outside = λ k b out. refl }
 
 -- ---- what stands below
 

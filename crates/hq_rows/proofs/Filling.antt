@@ -31,13 +31,6 @@ pub or_right : (a b : Bool) → b ≡ true → (a || b) ≡ true
 or_right true b h = refl
 or_right false b h = h
 
--- a row of zeros that was filled
-pub filled_zeros : (P : ℕ → Type 0) (old row : List ℕ) (n : ℕ) → old ≡ replicate n 0 → ((p : ℕ) → IsTrue (has row p) ↔ (IsTrue (has old p) ⊎ P p)) → (p : ℕ) → IsTrue (has row p) ↔ P p
-filled_zeros P old row n e f p = (
-  λ h. elim ((f p).0 h) [ inl t ↦ let no_bit : has old p ≡ false = has_nothing old n p e in let never : ⊥ = cc in absurd never | inr b ↦ b ],
-  λ h. (f p).1 (inr h),
-)
-
 -- what the old row had, and what the statement says of a number below i
 pub record Gathered (P : ℕ → ℕ → Type 0) (old : List ℕ) (i : ℕ) (row : List ℕ) : Type 0 where
   pub are : (e : ℕ) → IsTrue (has row e) ↔ (IsTrue (has old e) ⊎ ((k : ℕ) × (k < i) × P k e))

@@ -1,3 +1,2 @@
 pub mod Submitting
-pub mod Behind
 pub mod Settling
