@@ -172,7 +172,7 @@ fn take_rows(row: &mut [u64], table: &[u64], parts: u64)
 }
 
 /// A row of fewer packets than this is worth a look at finer parts.
-const FEW: u32 = 64;
+const FEW: u32 = 32;
 
 /// How many of those a part has.
 const FINER: u64 = 64;
@@ -184,7 +184,7 @@ fn is_apart(left: Touch, right: Touch) -> bool
     left.written & right.touched == 0 && left.touched & right.written == 0
 }
 
-/// Takes the packets out of a row that are apart from a.
+/// Takes the packets above a out of a row that are apart from a: those below it look at a themselves.
 fn drop_apart(row: &mut [u64], touches: &[Touch], a: usize)
     requires row { length row.old ≡ WORDS }
     requires few { length touches.now ≤ WIDTH }
@@ -192,9 +192,11 @@ fn drop_apart(row: &mut [u64], touches: &[Touch], a: usize)
     ensures { (s : ℕ) → s < length touches.now → has row.new s ≡ false
         → (has row.old s ≡ false) ⊎ AreApart touches.now a s }
 {
-    let mut b = next_in(row, 0, touches.len());
+    let own = touches[a];
+    let mut b = next_in(row, a + 1, touches.len());
     'others: while b < touches.len() {
-        if is_apart(touches[a], touches[b]) {
+        let other = touches[b];
+        if is_apart(own, other) {
             remove(row, b);
         }
         b = next_in(row, b + 1, touches.len());
@@ -280,7 +282,7 @@ impl Parts {
     }
 
     /// The packets that a may conflict with: those that touch a part in which it writes, and those that write in a
-    /// part that it touches; where these are few, without those that finer parts tell apart from it.
+    /// part that it touches; where these are few, without those above a that finer parts tell apart from it.
     pub fn others(&self, job: &Job, a: usize) -> Others
         requires parts { AreParts (plan job.now) self.now }
         requires a_is { IsPacket (plan job.now) a }
