@@ -30,6 +30,7 @@ fn is_over(job: &Job, completing: &[Vec<u64>], come: &[u64], signal: u16) -> boo
     requires low { signal < length completing.now }
     ensures { IsTrue result ↔ IsOver (plan job.now) come.now signal }
 {
+    // the job is asked for by the contract alone
     let _ = job;
     covers(come, &completing[signal as usize])
 }
