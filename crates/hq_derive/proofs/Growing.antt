@@ -1,13 +1,14 @@
 -- Lines that hold go on holding as lines are added.
-use Rattle.std.proofs.Common.{ℕ, ◌/◌, ◌%◌, ◌<◌, ◌≤◌, List, [], ◌∷◌, ◌++◌, length, ◌∙◌, arith, Option, Some, None, length-append}
+use Rattle.std.proofs.Common.{ℕ, ◌+◌, ◌*◌, ◌<◌, ◌≤◌, List, [], ◌∷◌, ◌++◌, length, ◌∙◌, arith, Option, Some, None, length-append}
 use Rattle.std.specs.List.{AllZip}
 use Rattle.std.proofs.lemmas.Option.{slice_get_within}
 use Rattle.hq_job.proofs.Grouped.{get_before}
 use Rattle.hq_model.specs.Job.{Job, packet, Decrements}
 use Rattle.hq_model.specs.Certificate.{Line, Rule, Says, Cites, Follows, signals}
 use Rattle.hq_model.specs.Certificate.Rule.{Bit, Queue, And, Or, Through}
-use Rattle.hq_derive.specs.Gathered.{Grown}
-use Rattle.hq_derive.specs.Needed.{BitsThere, HasLine, IsNumber}
+use Rattle.hq_derive.specs.declared.ranks.Ranks.{Ranks}
+use Rattle.hq_derive.specs.Gathered.{Grown, InitialThere}
+use Rattle.hq_derive.specs.Needed.{HasLine, IsNumber, WordThere}
 
 pub grown_same : (lines : List Line) → Grown lines lines
 grown_same lines = record { len = omega arith; lines = λ k line e. e }
@@ -39,8 +40,11 @@ number_more old new p r k g h = (says_more old new (length old) (length new) k p
 pub has_more : (old new : List Line) (p r : ℕ) → Grown old new → HasLine old p r → HasLine new p r
 has_more old new p r g h = (h.0, number_more old new p r h.0 g h.1)
 
-pub bits_grown : (old new : List Line) (bits : List ℕ) → Grown old new → BitsThere old bits → BitsThere new bits
-bits_grown old new bits g there = λ n h. has_more old new (n / 1024) (n % 1024) g (there n h)
+pub word_more : (old new : List Line) (p word first : ℕ) → Grown old new → WordThere old p word first → WordThere new p word first
+word_more old new p word first g there = λ bit low is. has_more old new p (first + bit) g (there bit low is)
+
+pub initial_grown : (old new : List Line) (ranks : Ranks) → Grown old new → InitialThere old ranks → InitialThere new ranks
+initial_grown old new ranks g there = λ p k place is. word_more old new p place.initial (k * 64) g (there p k place is)
 
 pub cites_more : (old new : List Line) (a b : ℕ) (c : Option ℕ) (p r : ℕ) → Grown old new → a ≤ b → Cites old a c p r → Cites new b c p r
 cites_more old new a b None p r g l s = s

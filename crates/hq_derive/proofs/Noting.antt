@@ -1,19 +1,17 @@
 -- Lines are noted as needed.
-use Rattle.std.proofs.Common.{◌≡◌, ℕ, ◌+◌, ◌*◌, ◌/◌, ◌%◌, ◌^◌, ◌<◌, inr, List, length, refl, sym, ◌∙◌, ap, subst, arith, IsTrue, Bool, true, false, not, ◌||◌, ◌&&◌, ◌==◌, slice_index, slice_index_or, slice_get, slice_set, bit_or, Option, Some, None, take, drop, ◌++◌, append-nil}
+use Rattle.std.proofs.Common.{◌≡◌, ℕ, ◌+◌, ◌*◌, ◌/◌, ◌%◌, ◌^◌, ◌<◌, inr, List, length, refl, sym, ◌∙◌, ap, subst, arith, IsTrue, Bool, true, false, ◌||◌, ◌&&◌, ◌==◌, slice_index, slice_get, slice_set, bit_or, Option, Some, None, take, drop, ◌++◌, append-nil}
 use Rattle.std.specs.Prelude.{IsSome, MatchOption}
 use Rattle.std.specs.Int.{bit_at}
-use Rattle.std.proofs.lemmas.Bool.{eqb-true}
-use Rattle.std.proofs.lemmas.List.{take_all, drop_all, get_or-map}
+use Rattle.std.proofs.lemmas.List.{take_all, drop_all}
 use Rattle.std.proofs.lemmas.Option.{same_Some}
 use Rattle.hq_bits.specs.Bits.{has}
 use Rattle.hq_bits.proofs.Sets.{has_insert, has_word}
-use Rattle.hq_bits.proofs.Words.{or_cases, eq_test}
+use Rattle.hq_bits.proofs.Words.{or_cases, eq_test, within}
+use Rattle.hq_bits.proofs.Walked.{column_has}
 use Rattle.hq_model.specs.Certificate as model
 use Rattle.hq_model.specs.Certificate.{Says}
-use Rattle.hq_derive.specs.declared.ranks.Place.{Place}
-use Rattle.hq_derive.specs.declared.ranks.Ranks.{Ranks}
-use Rattle.hq_derive.specs.Gathered.{initial_of}
-use Rattle.hq_derive.specs.Needed.{BitsThere, HasLine, IsNumber, WordThere}
+use Rattle.hq_derive.specs.declared.needs.Needs.{Needs}
+use Rattle.hq_derive.specs.Needed.{HasLine, IsNeeded, IsNumber}
 
 -- what a row has, it has when bits are put over one of its words
 pub has_still : (row : List ℕ) (k w x : ℕ) → k < length row → IsTrue (has row x) → IsTrue (has (slice_set row k (bit_or (slice_index row k) w)) x)
@@ -30,6 +28,26 @@ has_noted row k p r place low =
     subst (λ b. IsTrue (has (slice_set row k (bit_or (slice_index row k) (1 * 2 ^ b % 2 ^ 64))) n)) bit
     (subst (λ j. IsTrue (has (slice_set row j (bit_or (slice_index row j) (1 * 2 ^ (n % 64) % 2 ^ 64))) n)) at is)
 
+-- ---- the row of a packet
+
+pub never_both : (b : Bool) → IsTrue b → b ≡ false → ⊥
+never_both true t f = absurd cc
+never_both false t f = absurd cc
+
+-- what a packet is needed to be before stands in its row
+pub needed_in : (needs : Needs) (p r : ℕ) (bits row : List ℕ) → bits ≡ needs.bits.items → row ≡ take 16 (drop (p * 16) bits) → IsNeeded needs p r → IsTrue (has row r)
+needed_in needs p r bits row is column h =
+    let low : r < 1024 = h.0 in
+    let there : IsTrue (has bits (p * 1024 + r)) = subst (λ xs. IsTrue (has xs (p * 1024 + r))) (sym is) h.1 in
+    subst (λ xs. IsTrue (has xs r)) (sym column) (column_has bits p r (omega (arith, low)) ∙ there)
+
+-- a packet that is needed to be before another has a row
+pub needed_low : (needs : Needs) (n p r : ℕ) → length needs.bits.items ≡ n * 16 → IsNeeded needs p r → p < n
+needed_low needs n p r len h =
+    let low : r < 1024 = h.0 in
+    let there = within needs.bits.items (p * 1024 + r) h.1 in
+    omega (arith, low, there, len)
+
 -- ---- a line, where it stands
 
 pub said_here : (lines : List model.Line) (k p r : ℕ) (x : model.Line) → slice_get lines k ≡ Some x → Says lines (length lines) k p r → (x.p ≡ p) × (x.r ≡ r)
@@ -45,43 +63,6 @@ says_here lines k p r x low is first second = record {
   first = first;
   second = second;
 }
-
--- ---- words
-
--- where there is a line for each bit of a word, there is one for the number of a bit
-line_of_bit : (lines : List model.Line) (place n word : ℕ) → n / 64 ≡ place → WordThere lines (place / 16) word (place % 16 * 64) → bit_at word (n % 64) ≡ 1 → HasLine lines (n / 1024) (n % 1024)
-line_of_bit lines place n word here there bit =
-    let low : n % 64 < 64 = omega arith in
-    let first : place / 16 ≡ n / 1024 = omega (arith, here) in
-    let second : place % 16 * 64 + n % 64 ≡ n % 1024 = omega (arith, here) in
-    subst (λ p. HasLine lines p (n % 1024)) first (subst (HasLine lines (place / 16)) second (there (n % 64) low bit))
-
-pub bits_more : (lines : List model.Line) (bits : List ℕ) (place n : ℕ) → n / 64 ≡ place → WordThere lines (place / 16) (slice_index bits place) (place % 16 * 64) → IsTrue (has bits n) → HasLine lines (n / 1024) (n % 1024)
-bits_more lines bits place n here there h =
-    line_of_bit lines place n (slice_index bits place) here there (ap (λ k. bit_at (slice_index bits k) (n % 64)) (sym here) ∙ eqb-true (bit_at (slice_index bits (n / 64)) (n % 64)) 1 h)
-
--- where there is one for each bit of the first words, and for each other bit of a word
-pub bits_less : (lines : List model.Line) (first bits : List ℕ) (place n rest : ℕ) → n / 64 ≡ place → BitsThere lines first → WordThere lines (place / 16) rest (place % 16 * 64)
-    → ((b : ℕ) → (bit_at rest b == 1) ≡ ((bit_at (slice_index bits place) b == 1) && not (bit_at (slice_index first place) b == 1))) → IsTrue (has bits n) → HasLine lines (n / 1024) (n % 1024)
-bits_less lines first bits place n rest here firsts there is h =
-    by_first (has first n) refl
-  where
-    -- the bit of n in a row, at its place
-    at_place : (row : List ℕ) → has row n ≡ (bit_at (slice_index row place) (n % 64) == 1)
-    at_place row = ap (λ k. bit_at (slice_index row k) (n % 64) == 1) here
-
-    by_first : (b : Bool) → has first n ≡ b → HasLine lines (n / 1024) (n % 1024)
-    by_first true e = firsts n e
-    by_first false e =
-        let word : (bit_at (slice_index bits place) (n % 64) == 1) ≡ true = sym (at_place bits) ∙ h in
-        let none : (bit_at (slice_index first place) (n % 64) == 1) ≡ false = sym (at_place first) ∙ e in
-        let left : (bit_at rest (n % 64) == 1) ≡ true = is (n % 64) ∙ ap (λ b. b && not (bit_at (slice_index first place) (n % 64) == 1)) word ∙ ap not none in
-        line_of_bit lines place n rest here there (eqb-true (bit_at rest (n % 64)) 1 left)
-
--- the bits of round 0 at a place
-pub initial_is : (ranks : Ranks) (items : List Place) (place : ℕ) (d : Place) → items ≡ ranks.places.items → place < length items → (slice_index_or items place d).initial ≡ slice_index (initial_of ranks) place
-initial_is ranks items place d is low =
-    ap (λ xs. (slice_index_or xs place d).initial) is ∙ sym (get_or-map (λ (x : Place). x.initial) ranks.places.items place d 0 (subst (λ xs. place < length xs) is low))
 
 -- where a number was found there is a line
 pub line_known : (lines : List model.Line) (p r : ℕ) (number : Option ℕ) → MatchOption number (Unit {0}) (IsNumber lines p r) → IsSome number → HasLine lines p r

@@ -1,5 +1,5 @@
 -- What is known of lines as they are gathered.
-use Rattle.std.specs.Prelude.{◌≡◌, ℕ, ◌+◌, ◌^◌, ◌<◌, ◌≤◌, List, length, map, Some, slice_get}
+use Rattle.std.specs.Prelude.{◌≡◌, ℕ, ◌+◌, ◌*◌, ◌^◌, ◌<◌, ◌≤◌, List, length, Some, slice_get}
 use Rattle.std.specs.List.{AllZip}
 use Rattle.hq_cert.specs.declared.certificate.Rule.{Rule}
 use Rattle.hq_cert.specs.declared.citation.Citation.{Citation}
@@ -9,8 +9,9 @@ use Rattle.hq_model.specs.declared.limits.TheConstants.{PACKETS}
 use Rattle.hq_model.specs.Certificate as model
 use Rattle.hq_model.specs.Certificate.{Says, Cites, Follows, signals}
 use Rattle.hq_derive.specs.declared.lines.Lines.{Lines}
+use Rattle.hq_derive.specs.declared.ranks.Place.{Place}
 use Rattle.hq_derive.specs.declared.ranks.Ranks.{Ranks}
-use Rattle.hq_derive.specs.Needed.{HasLine}
+use Rattle.hq_derive.specs.Needed.{HasLine, WordThere}
 
 -- the lines so far, as the model has them
 abbrev pub lines_of : Lines → List model.Line
@@ -31,9 +32,19 @@ pub record Grown (old new : List model.Line) : Type 0 where
   pub len : length old ≤ length new
   pub lines : (k : ℕ) (line : model.Line) → slice_get old k ≡ Some line → slice_get new k ≡ Some line
 
--- the bits of the needed lines of round 0, row by row
-abbrev pub initial_of : Ranks → List ℕ
-initial_of ranks = map (λ place. place.initial) ranks.places.items
+-- the row in which the ranks note which lines are needed that p is before others
+pub record IsRowOf (ranks : Ranks) (p : ℕ) (row : List Place) : Type 0 where
+  pub number : ℕ
+  pub numbered : slice_get ranks.numbers.items p ≡ Some (number + 1)
+  pub there : slice_get ranks.rows.items number ≡ Some row
+
+-- the place of its word k
+abbrev pub IsPlaceOf : Ranks → ℕ → ℕ → Place → Type 0
+IsPlaceOf ranks p k place = (row : List Place) × IsRowOf ranks p row × (slice_get row k ≡ Some place)
+
+-- there is a line for each that is noted as one of round 0
+abbrev pub InitialThere : List model.Line → Ranks → Type 0
+InitialThere lines ranks = (p k : ℕ) (place : Place) → IsPlaceOf ranks p k place → WordThere lines p place.initial (k * 64)
 
 -- what one more step of the gathering keeps
 pub record Goes (job : Job) (old new : Lines) : Type 0 where

@@ -1,5 +1,5 @@
 -- Which lines are noted as needed, and whether these are there.
-use Rattle.std.specs.Prelude.{◌≡◌, IsTrue, ℕ, ◌+◌, ◌*◌, ◌/◌, ◌%◌, ◌^◌, ◌<◌, ◌≤◌, List, length}
+use Rattle.std.specs.Prelude.{◌≡◌, IsTrue, ℕ, ◌+◌, ◌*◌, ◌^◌, ◌<◌, ◌≤◌, List, length}
 use Rattle.std.specs.Int.{bit_at}
 use Rattle.hq_bits.specs.Bits.{has}
 use Rattle.hq_bits.specs.declared.TheConstants.{WORDS}
@@ -34,10 +34,6 @@ HasLine lines p r = (k : ℕ) × IsNumber lines p r k
 -- there is one for each bit of a word, from p to the packet of that bit, of which the first is this one
 abbrev pub WordThere : List model.Line → ℕ → ℕ → ℕ → Type 0
 WordThere lines p word first = (bit : ℕ) → bit < 64 → bit_at word bit ≡ 1 → HasLine lines p (first + bit)
-
--- there is one for each bit of all words, a row for each first packet
-abbrev pub BitsThere : List model.Line → List ℕ → Type 0
-BitsThere lines bits = (n : ℕ) → IsTrue (has bits n) → HasLine lines (n / PACKETS) (n % PACKETS)
 
 -- each line is there that is noted as needed
 abbrev pub AllThere : Needs → List model.Line → Type 0

@@ -1,15 +1,15 @@
 //! A line for each that is needed.
 
-ghost use Rattle.std.specs.Prelude.{All, IfOk, IsTrue, OnOk, ◌+◌, ◌<◌, ◌≤◌};
+ghost use Rattle.std.specs.Prelude.{All, IfOk, IsTrue, OnOk, Some, length, slice_get, ◌≡◌, ◌+◌, ◌*◌, ◌<◌, ◌≤◌, ℕ};
 ghost use Rattle.hq_model.specs.Job.{IsPacket};
 ghost use Rattle.hq_derive.specs.Derived.{AllDerived, IsDerived};
-ghost use Rattle.hq_derive.specs.Gathered.{initial_of, lines_of, AreSound, Goes};
-ghost use Rattle.hq_derive.specs.Needed.{AllThere, BitsThere, HasLine, HasRoom, WordThere};
+ghost use Rattle.hq_derive.specs.Gathered.{lines_of, AreSound, Goes, InitialThere};
+ghost use Rattle.hq_derive.specs.Needed.{AllThere, HasLine, HasRoom, WordThere};
 
 use crate::grounds::rule_alone;
 use crate::lines::Lines;
 use crate::needs::Needs;
-use crate::ranks::Ranks;
+use crate::ranks::{Place, Ranks};
 use crate::resting::{Derivations, Derived, derive_all};
 use hq_bits::{WIDTH, WORDS, lowest, without};
 use hq_order::Before;
@@ -85,6 +85,31 @@ fn add_word(
     Ok(true)
 }
 
+/// Adds the needed lines of round 0 that p is before others, which are at these places, as long as they are so; answers
+/// whether all are.
+fn add_row(
+    lines: &mut Lines,
+    alloc: Global,
+    before: &Before,
+    p: usize,
+    places: &[Place],
+) -> Result<bool, AllocError>
+    requires few { length places.now ≤ WORDS }
+    requires kept { AreSound before.now lines.old }
+    requires p_is { IsPacket before.now p }
+    ensures goes { OnOk result (Goes before.now lines.old lines.new) }
+    ensures there { IfOk result
+        (λ are. IsTrue are → (k : ℕ) (place : Place) → slice_get places.now k ≡ Some place
+        → WordThere (lines_of lines.new) p place.initial (k * 64)) }
+{
+    for (k, place) in places.iter().enumerate() {
+        if !add_word(lines, alloc, before, p, place.initial, k * 64)? {
+            return Ok(false);
+        }
+    }
+    Ok(true)
+}
+
 /// Adds the needed lines of round 0, by the first packet and then by the second, as long as they are so; answers
 /// whether all are.
 fn add_initial(
@@ -95,14 +120,13 @@ fn add_initial(
 ) -> Result<bool, AllocError>
     requires kept { AreSound before.now lines.old }
     ensures goes { OnOk result (Goes before.now lines.old lines.new) }
-    ensures there { IfOk result (λ are. IsTrue are → BitsThere (lines_of lines.new) (initial_of ranks.now)) }
+    ensures there { IfOk result (λ are. IsTrue are → InitialThere (lines_of lines.new) ranks.now) }
 {
-    for (place, marks) in ranks.places().iter().enumerate() {
-        let p = place / WORDS;
+    for p in 0..ranks.len() {
         if p >= before.len() {
             return Ok(false);
         }
-        if !add_word(lines, alloc, before, p, marks.initial, place % WORDS * 64)? {
+        if !add_row(lines, alloc, before, p, ranks.row(p))? {
             return Ok(false);
         }
     }
@@ -169,6 +193,32 @@ fn add_rounds(
     Ok(())
 }
 
+/// The needed lines, by these ranks, and those that are derived; `needs` are to be among them.
+fn lines_by(
+    alloc: Global,
+    before: &Before,
+    ranks: Ranks,
+    rounds: &[Derivations],
+    needs: &Needs,
+) -> Result<Lines, AllocError>
+    requires room { HasRoom before.now needs.now }
+    requires derived { All (AllDerived before.now) rounds.now }
+    ensures sound { IfOk result (AreSound before.now) }
+    ensures there { IfOk result (λ lines. AllThere needs.now (lines_of lines)) }
+{
+    let mut lines = Lines::new(alloc, before, ranks.initial(), ranks.later())?;
+    if !add_initial(&mut lines, alloc, before, &ranks)? {
+        return Err(AllocError);
+    }
+    lines.number_by(ranks);
+    add_rounds(&mut lines, alloc, before, rounds)?;
+    if lines.has_all(before, needs) {
+        Ok(lines)
+    } else {
+        Err(AllocError)
+    }
+}
+
 /// The lines that are needed, and those that they rest on: by round, then by the first packet, then by the second. That
 /// they stand so, and that there are no others, isn't promised.
 ///
@@ -180,18 +230,13 @@ pub fn lines_for(alloc: Global, before: &Before, needs: &Needs) -> Result<Lines,
     ensures sound { IfOk result (AreSound before.now) }
     ensures there { IfOk result (λ lines. AllThere needs.now (lines_of lines)) }
 {
+    if before.rounds() < 2 {
+        // no line rests on others
+        let ranks = Ranks::new(alloc, before, needs)?;
+        return lines_by(alloc, before, ranks, &[], needs);
+    }
     let mut all = needs.copied(alloc)?;
     let rounds = derive_all(alloc, &mut all, before)?;
     let ranks = Ranks::new(alloc, before, &all)?;
-    let mut lines = Lines::new(alloc, before, ranks.initial(), ranks.later())?;
-    if !add_initial(&mut lines, alloc, before, &ranks)? {
-        return Err(AllocError);
-    }
-    lines.number_by(ranks);
-    add_rounds(&mut lines, alloc, before, &rounds)?;
-    if lines.has_all(needs) {
-        Ok(lines)
-    } else {
-        Err(AllocError)
-    }
+    lines_by(alloc, before, ranks, &rounds, needs)
 }

@@ -9,10 +9,10 @@ ghost use Rattle.hq_model.specs.Job.{IsPacket};
 ghost use Rattle.hq_model.specs.Certificate.{Says, signals};
 ghost use Rattle.hq_order.specs.Rounds.{IsFirstWithin, Reaches, ByOr};
 ghost use Rattle.hq_derive.specs.Rests.{Below, ByMiddle, FollowsAlone};
-ghost use Rattle.hq_derive.specs.Gathered.{initial_of, lines_of, AreSound, AddsLine, Numbered, Ruled};
+ghost use Rattle.hq_derive.specs.Gathered.{lines_of, AreSound, AddsLine, InitialThere, Numbered, Ruled};
 ghost use Rattle.hq_derive.specs.Short.{told};
 ghost use Rattle.hq_derive.specs.Gathered.{Branched, AllBranched};
-ghost use Rattle.hq_derive.specs.Needed.{AllThere, BitsThere, HasLine, IsNumber};
+ghost use Rattle.hq_derive.specs.Needed.{AllThere, HasLine, HasRoom, IsNumber};
 
 use crate::grounds::{Ground, branch_of, ground_of};
 use crate::needs::Needs;
@@ -168,11 +168,12 @@ impl Lines {
     }
 
     /// Whether each line is there that is noted as needed. Those of round 0 are.
-    pub(crate) fn has_all(&self, needs: &Needs) -> bool
-        requires { BitsThere (lines_of self.now) (initial_of self.now.ranks) }
+    pub(crate) fn has_all(&self, before: &Before, needs: &Needs) -> bool
+        requires initial { InitialThere (lines_of self.now) self.now.ranks }
+        requires room { HasRoom before.now needs.now }
         ensures { IsTrue result → AllThere needs.now (lines_of self.now) }
     {
-        are_there(self, &self.ranks, needs)
+        are_there(self, &self.ranks, before, needs)
     }
 
     /// The number of a line that is there, which says that p is before r.

@@ -1,11 +1,11 @@
 //! Which lines a certificate needs.
 
-ghost use Rattle.std.specs.Prelude.{◌≡◌, ℕ, ◌+◌, ◌*◌, ◌/◌, ◌<◌, IfOk, IsTrue, length};
+ghost use Rattle.std.specs.Prelude.{◌≡◌, ℕ, ◌+◌, ◌*◌, ◌/◌, ◌<◌, ◌≤◌, IfOk, IsTrue, false, length};
 ghost use Rattle.hq_bits.specs.Bits.{has};
 ghost use Rattle.hq_model.specs.Job.{IsPacket};
 ghost use Rattle.hq_derive.specs.Needed.{IsNeeded, HasRoom, Widens};
 
-use hq_bits::{WIDTH, WORDS, unite};
+use hq_bits::{WIDTH, WORDS, column_of, unite};
 use hq_order::Before;
 use std::alloc::{AllocError, Global};
 
@@ -15,6 +15,17 @@ pub fn place_of(p: usize, r: usize) -> usize
     ensures { p < WIDTH → r < WIDTH → result ≡ (p * WIDTH + r) / 64 }
 {
     p.wrapping_mul(WORDS).wrapping_add(r / 64)
+}
+
+/// Whether a row has no bits. All words are looked at, as that costs less than to stop at the first that has some.
+fn is_bare(row: &[u64]) -> bool
+    ensures { IsTrue result → (r : ℕ) → has row.now r ≡ false }
+{
+    let mut all = 0;
+    for word in row {
+        all |= *word;
+    }
+    all == 0
 }
 
 /// Which lines are needed.
@@ -45,11 +56,17 @@ impl Needs {
         Ok(Needs { bits })
     }
 
-    /// The bits, row by row.
-    pub(crate) fn bits(&self) -> &[u64]
-        ensures { result.now ≡ self.now.bits.items }
+    /// The packets that p is needed to be before, as bits; none at all where there is no such packet.
+    pub(crate) fn row(&self, p: usize) -> &[u64]
+        ensures len { length result.now ≤ WORDS }
+        ensures has { p < WIDTH → (p + 1) * WORDS ≤ length self.now.bits.items
+            → (r : ℕ) → IsNeeded self.now p r → IsTrue (has result.now r) }
     {
-        &self.bits
+        if p >= WIDTH || (p + 1) * WORDS > self.bits.len() {
+            return &[];
+        }
+        let row = column_of(&self.bits, p);
+        if is_bare(row) { &[] } else { row }
     }
 
     /// What others note as needed is needed too.

@@ -1,9 +1,10 @@
 //! The rank of each line that is needed.
 
-ghost use Rattle.std.specs.Prelude.{◌≡◌};
+ghost use Rattle.std.specs.Prelude.{◌≡◌, ◌≤◌, ◌↔◌, ℕ, List, MatchOption, Some, length, slice_get};
+ghost use Rattle.hq_derive.specs.Gathered.{IsPlaceOf, IsRowOf};
 
-use crate::needs::{Needs, place_of};
-use hq_bits::{WORDS, less};
+use crate::needs::Needs;
+use hq_bits::{WORDS, less, word_at};
 use hq_order::Before;
 use std::alloc::{AllocError, Global};
 
@@ -38,7 +39,9 @@ pub enum Rank {
 /// Ranks of the needed lines of round 0, and of those of later rounds, by the first packet and then by the second.
 #[derive(Drop)]
 pub struct Ranks {
-    places: Vec<Place>,
+    /// For each packet one more than the number of its row, or 0 where no line is needed that it is before another.
+    numbers: Vec<usize>,
+    rows: Vec<[Place; WORDS]>,
     /// How many of round 0 there are in all,
     initial: u32,
     /// and how many of later rounds.
@@ -49,7 +52,8 @@ impl Ranks {
     /// The ranks of no lines.
     pub fn none(alloc: Global) -> Ranks {
         Ranks {
-            places: Vec::new(alloc),
+            numbers: Vec::new(alloc),
+            rows: Vec::new(alloc),
             initial: 0,
             later: 0,
         }
@@ -61,34 +65,46 @@ impl Ranks {
     ///
     /// `AllocError` where there is no memory.
     pub fn new(alloc: Global, before: &Before, needs: &Needs) -> Result<Ranks, AllocError> {
-        let places = vec![in alloc; NOTHING; needs.bits().len()]?;
         let mut ranks = Ranks {
-            places,
+            numbers: Vec::with_capacity(alloc, before.len())?,
+            rows: Vec::with_capacity(alloc, before.len())?,
             initial: 0,
             later: 0,
         };
-        for (place, word) in needs.bits().iter().enumerate() {
-            if *word != 0 {
-                let initial = *word & before.fresh(0, place / WORDS, place % WORDS);
-                ranks.note(place, initial, less(*word, initial));
-            }
+        for p in 0..before.len() {
+            let number = ranks.add(before, p, needs.row(p))?;
+            ranks.numbers.push(number)?;
         }
         Ok(ranks)
     }
 
-    /// Notes which lines are needed at a place; those ahead of it are noted.
-    #[inline(always)]
-    fn note(&mut self, place: usize, initial: u64, later: u64) {
-        if let Some(noted) = self.places.get_mut(place) {
-            *noted = Place {
-                initial,
-                later,
-                initial_ahead: self.initial,
-                later_ahead: self.later,
-            };
+    /// Adds the row of p, where a line is needed that it is before another; answers one more than its number, or 0.
+    fn add(&mut self, before: &Before, p: usize, needed: &[u64]) -> Result<usize, AllocError> {
+        if needed.is_empty() {
+            return Ok(0);
         }
+        let mut row = [NOTHING; WORDS];
+        for k in 0..WORDS {
+            let word = word_at(needed, k);
+            let initial = word & before.fresh(0, p, k);
+            row[k] = self.placed(initial, less(word, initial));
+        }
+        self.rows.push(row)?;
+        Ok(self.rows.len())
+    }
+
+    /// The place at which these lines are needed, behind all that are noted.
+    #[inline(always)]
+    fn placed(&mut self, initial: u64, later: u64) -> Place {
+        let place = Place {
+            initial,
+            later,
+            initial_ahead: self.initial,
+            later_ahead: self.later,
+        };
         self.initial = self.initial.saturating_add(initial.count_ones());
         self.later = self.later.saturating_add(later.count_ones());
+        place
     }
 
     /// How many lines of round 0 are needed.
@@ -101,17 +117,39 @@ impl Ranks {
         self.later as usize
     }
 
-    /// The places, those of a packet behind one another.
-    pub fn places(&self) -> &[Place]
-        ensures { result.now ≡ self.now.places.items }
+    /// For how many packets it is known whether they have a row.
+    pub fn len(&self) -> usize
+        ensures { result ≡ length self.now.numbers.items }
     {
-        &self.places
+        self.numbers.len()
+    }
+
+    /// The row of p, if it has one.
+    #[inline(always)]
+    fn row_of(&self, p: usize) -> Option<&[Place; WORDS]>
+        ensures { MatchOption result ((row : List Place) → IsRowOf self.now p row → ⊥)
+            (λ row. IsRowOf self.now p row.now) }
+    {
+        let number = self.numbers.get(p)?.checked_sub(1)?;
+        self.rows.get(number)
+    }
+
+    /// The places of p; none where no line is needed that it is before another.
+    #[inline(always)]
+    pub fn row(&self, p: usize) -> &[Place]
+        ensures places { (k : ℕ) (place : Place) → slice_get result.now k ≡ Some place ↔ IsPlaceOf self.now p k place }
+        ensures len { length result.now ≤ WORDS }
+    {
+        match self.row_of(p) {
+            Some(row) => row,
+            None => &[],
+        }
     }
 
     /// The rank of the line that p is before r, if one is needed.
     #[inline(always)]
     pub fn rank(&self, p: usize, r: usize) -> Option<Rank> {
-        let place = self.places.get(place_of(p, r))?;
+        let place = self.row_of(p)?.get(r / 64)?;
         let bit = 1u64 << (r % 64);
         let ahead = bit.wrapping_sub(1);
         if place.initial & bit != 0 {

@@ -215,6 +215,9 @@ fn derive_row(
     ensures { OnOk result (All (IsDerived before.now round) lines.new.items) }
 {
     before.job().valid();
+    if needs.row(p).is_empty() {
+        return Ok(());
+    }
     for place in 0..WORDS {
         let needed = needs.word(p * WORDS + place);
         if needed != 0 {

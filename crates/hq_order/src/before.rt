@@ -138,27 +138,19 @@ fn has_no_either(job: &Job) -> bool
 }
 
 /// Whether one more round would add nothing, as far as that is told without the rows of that round.
-fn is_closed(
-    alloc: Global,
-    job: &Job,
-    rounds: &[Vec<Vec<u64>>],
-    renewed: &[u64],
-) -> Result<bool, AllocError>
+fn is_closed(job: &Job, rounds: &[Vec<Vec<u64>>], renewed: &[u64]) -> bool
     requires rounds { AreRounds (plan job.now) rounds.now }
     requires stepped { Stepped (earlier rounds.now) (last rounds.now) renewed.now }
-    ensures { IfOk result (λ is. IsTrue is → IsClosed (plan job.now) rounds.now) }
+    ensures { IsTrue result → IsClosed (plan job.now) rounds.now }
 {
-    if !has_no_either(job) {
-        return Ok(false);
-    }
+    job.valid();
     let known = Known {
         rows: last_rows(rounds),
         earlier: earlier_rows(rounds),
         renewed,
         unions: &[],
     };
-    let whole = are_whole(alloc, &known, words_of(job))?;
-    Ok(whole)
+    has_no_either(job) && are_whole(&known)
 }
 
 /// Adds the next round, and answers true, unless it would be the same as the last. `renewed` has the packets whose
@@ -183,8 +175,7 @@ fn add_round(
     ensures closed { IfOk result (λ more. more ≡ false → IsClosed (plan job.now) rounds.new.items) }
 {
     job.valid();
-    let closed = is_closed(alloc, job, rounds, renewed)?;
-    if closed {
+    if is_closed(job, rounds, renewed) {
         return Ok(false);
     }
     let mut new = hq_bits::empty(alloc, WORDS)?;

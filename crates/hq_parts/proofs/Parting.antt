@@ -1,10 +1,10 @@
 -- Packets whose parts of memory are apart don't conflict.
-use Rattle.std.proofs.Common.{◌&&◌, not, ◌≡◌, ◌≢◌, ◌↔◌, ◌⊎◌, ◌||◌, ◌==◌, Bool, true, false, IsTrue, drop, ℕ, zero, suc, ◌+◌, ◌*◌, ◌/◌, ◌%◌, ◌<◌, ◌≤◌, inl, inr, List, [], ◌∷◌, ◌++◌, length, refl, sym, ◌∙◌, ap, subst, arith, Some, slice_get, slice_index_or, take, bit_or, bit_and, w64, ◌^◌}
+use Rattle.std.proofs.Common.{◌≡◌, ◌≢◌, ◌↔◌, ◌⊎◌, ◌||◌, ◌==◌, Bool, true, false, IsTrue, drop, ℕ, zero, suc, ◌+◌, ◌*◌, ◌/◌, ◌%◌, ◌<◌, ◌≤◌, inl, inr, List, [], ◌∷◌, ◌++◌, length, refl, sym, ◌∙◌, ap, subst, arith, Some, slice_get, slice_index_or, take, bit_or, bit_and, w64, ◌^◌}
 use Rattle.std.specs.Prelude.{All}
 use Rattle.std.specs.Int.{bit_at}
 use Rattle.std.specs.List.{AllZip, flat_map}
 use Rattle.std.proofs.Math.Nat.{div-mul-le_self}
-use Rattle.std.proofs.lemmas.Bool.{ne_eqb, cases_eq, cases_lt, eq-eqb}
+use Rattle.std.proofs.lemmas.Bool.{cases_eq, cases_lt, eq-eqb}
 use Rattle.std.proofs.lemmas.List.{length-map, take_more}
 use Rattle.std.proofs.lemmas.Nat.{le-div}
 use Rattle.std.proofs.lemmas.Nat.Bits.{bit_at_and, bit_at_or, bit_at-lt, bit_at-zero, bit_at_set_same, bit_at_set_other, bit_at_ones, bit_at_above}
@@ -23,7 +23,7 @@ use Rattle.hq_parts.specs.declared.parts.Parts.{Parts}
 use Rattle.hq_parts.specs.declared.parts.Touch.{Touch}
 use Rattle.hq_bits.specs.Bits.{has}
 use Rattle.hq_bits.proofs.Walked.{column_has}
-use Rattle.hq_parts.specs.Parts.{AreApart, HasRange, HasFoot, AreDisjoint, IsApart, NeverConflict, TellConflicts, IsTable, AreParts, TakesRows}
+use Rattle.hq_parts.specs.Parts.{HasRange, HasFoot, AreDisjoint, IsApart, LeftOf, NeverConflict, TellConflicts, IsTable, AreParts, TakesRows}
 
 -- ---- masks
 
@@ -246,24 +246,6 @@ no_bit a b k none x y =
 
 pub apart_by : (t u : Touch) → bit_and t.written u.touched ≡ 0 → bit_and t.touched u.written ≡ 0 → IsApart t u
 apart_by t u first second = record { first = λ k x y. no_bit t.written u.touched k first x y; second = λ k x y. no_bit t.touched u.written k second x y }
-
--- what is left of a row where some packets were taken out that are apart from a
-abbrev pub LeftOf : List ℕ → List Touch → ℕ → List ℕ → Type 0
-LeftOf old touches a new = (s : ℕ) → s < length touches → has new s ≡ false → (has old s ≡ false) ⊎ AreApart touches a s
-
-and_true : (b : Bool) → (b && true) ≡ b
-and_true true = refl
-and_true false = refl
-
-pub left_without : (old row new : List ℕ) (touches : List Touch) (a b : ℕ) (t u : Touch) → LeftOf old touches a row → slice_get touches a ≡ Some t → slice_get touches b ≡ Some u → IsApart t u → ((p : ℕ) → has new p ≡ (has row p && not (p == b))) → LeftOf old touches a new
-left_without old row new touches a b t u left at_a at_b apart grows s low none = elim (cases_eq s b) [
-  | inl same ↦ inr (λ v w x y.
-      let is_t : t ≡ v = cc in
-      let there : slice_get touches b ≡ Some w = subst (λ n. slice_get touches n ≡ Some w) same y in
-      let is_u : u ≡ w = cc in
-      subst (λ q. IsApart q w) is_t (subst (λ q. IsApart t q) is_u apart))
-  | inr other ↦ left s low (sym (grows s ∙ ap (λ x. has row s && not x) (ne_eqb s b other) ∙ and_true (has row s)) ∙ none)
-]
 
 pub none_left : (job : Job) (parts : Parts) (first bits : List ℕ) (a : ℕ) (t : Touch) → AreParts job parts → LeftOf first parts.fine.items a bits → slice_get parts.packets.items a ≡ Some t → a < length job.packets
     → TakesRows parts.tables.touched.items t.written first → TakesRows parts.tables.written.items t.touched first → (s : ℕ) → s < length job.packets → has bits s ≡ false → NeverConflict job a s

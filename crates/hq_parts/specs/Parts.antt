@@ -1,6 +1,6 @@
 -- Which parts of memory packets write and touch: byte x lies in part x / size mod 64, and bit k of a mask stands
 -- for part k.
-use Rattle.std.specs.Prelude.{◌≡◌, ℕ, ◌+◌, ◌*◌, ◌/◌, ◌%◌, ◌<◌, ◌≤◌, IsTrue, false, List, Some, All, length, slice_get}
+use Rattle.std.specs.Prelude.{◌≡◌, ℕ, ◌+◌, ◌*◌, ◌/◌, ◌%◌, ◌<◌, ◌≤◌, ◌⊎◌, IsTrue, false, List, Some, All, length, slice_get}
 use Rattle.std.specs.Int.{bit_at}
 use Rattle.hq_footprint.specs.declared.footprint.Range.{Range}
 use Rattle.hq_footprint.specs.declared.footprint.Footprint.{Footprint}
@@ -73,3 +73,7 @@ pub record TakesRows (table : List ℕ) (mask : ℕ) (row : List ℕ) : Type 0 w
 -- a packet that is none of them doesn't conflict with a
 abbrev pub AreOthers : Job → ℕ → Others → Type 0
 AreOthers job a others = (s : ℕ) → s < length job.packets → has others.bits s ≡ false → NeverConflict job a s
+
+-- a packet that was taken out of the row is apart from a
+abbrev pub LeftOf : List ℕ → List Touch → ℕ → List ℕ → Type 0
+LeftOf old touches a new = (s : ℕ) → s < length touches → has new s ≡ false → (has old s ≡ false) ⊎ AreApart touches a s

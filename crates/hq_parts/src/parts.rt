@@ -1,16 +1,14 @@
 //! Which parts of memory packets write and touch, as far as that tells at once that two of them don't conflict.
 
-ghost use Rattle.std.specs.Prelude.{◌≡◌, ℕ, ◌+◌, ◌%◌, ◌^◌, ◌<◌, ◌≤◌, ◌⊎◌, false, IsTrue, IfOk, All, length};
+ghost use Rattle.std.specs.Prelude.{◌≡◌, ℕ, ◌+◌, ◌%◌, ◌^◌, ◌<◌, ◌≤◌, IsTrue, IfOk, All, length};
 ghost use Rattle.std.specs.Int.{bit_at};
 ghost use Rattle.hq_job.specs.Plan.{plan};
 ghost use Rattle.hq_model.specs.Job.{IsPacket};
 ghost use Rattle.hq_bits.specs.Bits.{has};
 ghost use Rattle.hq_parts.specs.Parts.{HasRange, HasFoot, TellConflicts, IsTable, AreTables, AreParts, AreOthers};
-ghost use Rattle.hq_parts.specs.Parts.{AreApart, IsApart, NeverConflict, TakesRows};
+ghost use Rattle.hq_parts.specs.Parts.{IsApart, LeftOf, NeverConflict, TakesRows};
 
-use hq_bits::{
-    WIDTH, WORDS, column_of, first_from, lowest, next_in, remove, turn_word, unite, without,
-};
+use hq_bits::{WIDTH, WORDS, column_of, first_from, lowest, remove, turn_word, unite, without};
 use hq_footprint::{Footprint, Range};
 use hq_job::Job;
 use std::alloc::{AllocError, Global};
@@ -184,22 +182,41 @@ fn is_apart(left: Touch, right: Touch) -> bool
     left.written & right.touched == 0 && left.touched & right.written == 0
 }
 
+/// Takes those of some packets out of a row that are apart from a: those of a word whose first bit is that of packet
+/// `first`.
+#[inline(always)]
+fn drop_apart_of(row: &mut [u64], touches: &[Touch], a: usize, first: usize, word: u64)
+    requires row { length row.old ≡ WORDS }
+    requires few { length touches.now ≤ WIDTH }
+    requires a_is { a < length touches.now }
+    requires first { first < WIDTH }
+    ensures { LeftOf row.old touches.now a row.new }
+{
+    let own = touches[a];
+    let mut rest = word;
+    'each: while rest != 0 {
+        let bit = lowest(rest);
+        if let Some(other) = touches.get(first + bit) {
+            if is_apart(own, *other) {
+                remove(row, first + bit);
+            }
+        }
+        rest = without(rest, bit);
+    }
+}
+
 /// Takes the packets above a out of a row that are apart from a: those below it look at a themselves.
 fn drop_apart(row: &mut [u64], touches: &[Touch], a: usize)
     requires row { length row.old ≡ WORDS }
     requires few { length touches.now ≤ WIDTH }
     requires a_is { a < length touches.now }
-    ensures { (s : ℕ) → s < length touches.now → has row.new s ≡ false
-        → (has row.old s ≡ false) ⊎ AreApart touches.now a s }
+    ensures { LeftOf row.old touches.now a row.new }
 {
-    let own = touches[a];
-    let mut b = next_in(row, a + 1, touches.len());
-    'others: while b < touches.len() {
-        let other = touches[b];
-        if is_apart(own, other) {
-            remove(row, b);
-        }
-        b = next_in(row, b + 1, touches.len());
+    let above = row[a / 64] & u64::MAX << (a % 64);
+    drop_apart_of(row, touches, a, a / 64 * 64, above);
+    for place in a / 64 + 1..WORDS {
+        let word = row[place];
+        drop_apart_of(row, touches, a, place * 64, word);
     }
 }
 
@@ -214,7 +231,10 @@ impl Others {
     pub fn count(&self) -> u32 {
         let mut count = 0u32;
         for word in &self.bits {
-            count = count.wrapping_add(word.count_ones());
+            // mostly it is 0, and told at once
+            if *word != 0 {
+                count = count.wrapping_add(word.count_ones());
+            }
         }
         count
     }
@@ -289,12 +309,12 @@ impl Parts {
         ensures { AreOthers (plan job.now) a result }
     {
         let touch = self.packets[a];
-        let mut bits = [0; WORDS];
-        take_rows(&mut bits, &self.tables.touched, touch.written);
-        take_rows(&mut bits, &self.tables.written, touch.touched);
-        if (Others { bits }).count() < FEW {
-            drop_apart(&mut bits, &self.fine, a);
+        let mut others = Others { bits: [0; WORDS] };
+        take_rows(&mut others.bits, &self.tables.touched, touch.written);
+        take_rows(&mut others.bits, &self.tables.written, touch.touched);
+        if others.count() < FEW {
+            drop_apart(&mut others.bits, &self.fine, a);
         }
-        Others { bits }
+        others
     }
 }

@@ -9,7 +9,7 @@ ghost use Rattle.hq_rows.specs.Uniting.{OfChoice, OfFour, AreUnions, CanUnite, U
 
 use crate::columns::row_of;
 use crate::fours::unite_four;
-use hq_bits::{WORDS, less, lowest, unite, without, word_at};
+use hq_bits::{WORDS, covers, less, lowest, unite, without, word_at};
 use std::alloc::{AllocError, Global};
 
 /// How many choices there are from a group of four packets.
@@ -248,8 +248,12 @@ fn fresh_word(row: &[u64], earlier: &[u64], renewed: &[u64], place: usize) -> u6
     ensures { (bit : ℕ) → bit < 64
         → (bit_at result bit == 1) ≡ is_fresh row.now earlier.now renewed.now (place * 64 + bit) }
 {
+    let word = word_at(row, place);
+    if word == 0 {
+        return 0;
+    }
     let old = less(word_at(earlier, place), word_at(renewed, place));
-    less(word_at(row, place), old)
+    less(word, old)
 }
 
 /// Takes in what is before those packets of the set that aren't among the earlier ones, or are renewed.
@@ -268,4 +272,46 @@ pub fn unite_fresh(new: &mut [u64], known: &Known, set: &[u64], earlier: &[u64],
             unite_word(new, known, place, word);
         }
     }
+}
+
+/// Whether the set has all that is before m, where there is such a packet.
+fn covers_row(set: &[u64], rows: &[Vec<u64>], m: usize) -> bool
+    requires width { (k : ℕ) → k < length rows.now → length (row rows.now k) ≡ length set.now }
+    ensures { IsTrue result → (p : ℕ) → Marks rows.now p m → IsTrue (has set.now p) }
+{
+    m >= rows.len() || covers(set, row_of(rows, m))
+}
+
+/// Whether the set has all that is before each packet of a word; `place` is its place in its row.
+fn covers_each(set: &[u64], rows: &[Vec<u64>], place: usize, word: u64) -> bool
+    requires width { (k : ℕ) → k < length rows.now → length (row rows.now k) ≡ length set.now }
+    requires place { place < WORDS }
+    ensures { IsTrue result → (bit p : ℕ) → bit < 64 → bit_at word bit ≡ 1 → Marks rows.now p (place * 64 + bit)
+        → IsTrue (has set.now p) }
+{
+    let mut rest = word;
+    'each: while rest != 0 {
+        let bit = lowest(rest);
+        if !covers_row(set, rows, place * 64 + bit) {
+            return false;
+        }
+        rest = without(rest, bit);
+    }
+    true
+}
+
+/// Whether the set has all that is before those of its packets that aren't among the earlier ones, or are renewed.
+pub(crate) fn covers_fresh(set: &[u64], known: &Known, earlier: &[u64]) -> bool
+    requires width { (k : ℕ) → k < length known.now.rows.now → length (row known.now.rows.now k) ≡ length set.now }
+    requires few { length set.now ≤ WORDS }
+    ensures { IsTrue result → (m p : ℕ) → Marks known.now.rows.now p m
+        → IsTrue (is_fresh set.now earlier.now known.now.renewed.now m) → IsTrue (has set.now p) }
+{
+    for place in 0..set.len() {
+        let word = fresh_word(set, earlier, known.renewed, place);
+        if !covers_each(set, known.rows, place, word) {
+            return false;
+        }
+    }
+    true
 }

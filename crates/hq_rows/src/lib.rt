@@ -2,8 +2,8 @@
 //!
 //! A number is a packet's, and tables come round by round, each from the one before it: `last_rows`, `earlier_rows`,
 //! `are_same`. `reached` and `through_row` take in what is before the numbers of a set or a row (`Known`), four of them
-//! at a time where there are many (`unions_if_many`), and `are_whole` tells whether that brings nothing; `all_turned` turns rows round, so that `between` and
-//! `first_turned` answer at once. Nothing here knows of jobs.
+//! at a time where there are many (`unions_if_many`), and `are_whole` tells whether that brings nothing; `all_turned`
+//! turns rows round, so that `between` and `first_turned` answer at once. Nothing here knows of jobs.
 #![tactic(auto)]
 
 mod columns;

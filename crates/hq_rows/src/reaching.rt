@@ -6,8 +6,8 @@ ghost use Rattle.hq_rows.specs.Matrix.{row, Marks};
 ghost use Rattle.hq_rows.specs.Uniting.{CanUnite, Stepped, Through};
 
 use crate::columns::row_of;
-use crate::gathering::{Known, are_many, unite_fresh};
-use hq_bits::{WORDS, empty, is_same};
+use crate::gathering::{Known, are_many, covers_fresh, unite_fresh};
+use hq_bits::WORDS;
 use std::alloc::{AllocError, Global};
 
 /// The packets of a set, and all that are before them.
@@ -54,41 +54,35 @@ pub fn through_row(alloc: Global, known: &Known, r: usize) -> Result<Vec<u64>, A
     Ok(new)
 }
 
-/// Whether the row of r has all that is before it by two rows. The scratch row is written over.
-fn is_whole(known: &Known, r: usize, scratch: &mut [u64]) -> bool
-    requires unions { CanUnite known.now.rows.now (length scratch.old) known.now.unions.now }
+/// Whether the row of r has all that is before it by two rows.
+fn is_whole(known: &Known, r: usize) -> bool
+    requires width { (k : ℕ) → k < length known.now.rows.now
+        → length (row known.now.rows.now k) ≡ length (row known.now.rows.now r) }
     requires stepped { Stepped known.now.earlier.now known.now.rows.now known.now.renewed.now }
     requires r_is { r < length known.now.rows.now }
-    requires few { length scratch.old ≤ WORDS }
+    requires few { length (row known.now.rows.now r) ≤ WORDS }
     ensures { IsTrue result → (p : ℕ) → Through known.now.rows.now p r → Marks known.now.rows.now p r }
 {
     let row = row_of(known.rows, r);
-    scratch.copy_from_slice(row);
-    unite_fresh(scratch, known, row, row_of(known.earlier, r), known.renewed);
-    is_same(scratch, row)
+    covers_fresh(row, known, row_of(known.earlier, r))
 }
 
 /// Whether each row has all that is before its packet by two rows; false, too, where so many packets are fresh that the
 /// next round costs less by their unions. The last packets' rows are looked at first: mostly they grow longest.
-///
-/// # Errors
-///
-/// `AllocError` where there is no memory.
-pub fn are_whole(alloc: Global, known: &Known, words: usize) -> Result<bool, AllocError>
-    requires unions { CanUnite known.now.rows.now words known.now.unions.now }
+pub fn are_whole(known: &Known) -> bool
+    requires width { (k r : ℕ) → k < length known.now.rows.now → r < length known.now.rows.now
+        → length (row known.now.rows.now k) ≡ length (row known.now.rows.now r) }
     requires stepped { Stepped known.now.earlier.now known.now.rows.now known.now.renewed.now }
-    requires few { words ≤ WORDS }
-    ensures { IfOk result
-        (λ are. IsTrue are → (p r : ℕ) → Through known.now.rows.now p r → Marks known.now.rows.now p r) }
+    requires few { (r : ℕ) → r < length known.now.rows.now → length (row known.now.rows.now r) ≤ WORDS }
+    ensures { IsTrue result → (p r : ℕ) → Through known.now.rows.now p r → Marks known.now.rows.now p r }
 {
-    let mut scratch = empty(alloc, words)?;
     for behind in 0..known.rows.len() {
-        if !is_whole(known, known.rows.len() - 1 - behind, &mut scratch) {
-            return Ok(false);
+        if !is_whole(known, known.rows.len() - 1 - behind) {
+            return false;
         }
         if behind == 0 && are_many(known.rows, known.earlier, known.renewed) {
-            return Ok(false);
+            return false;
         }
     }
-    Ok(true)
+    true
 }

@@ -1,2 +1,3 @@
 pub mod AskedFor
 pub mod Below
+pub mod Alone

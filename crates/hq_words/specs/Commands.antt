@@ -1,6 +1,6 @@
 -- The program's commands, as `clap`'s own definitions speak of them.
-use Rattle.std.specs.Prelude.{true, Some, codes}
-use Rattle.clap.specs.Words.{App, Rule, new_app, new_rule, with_rule, with_subcommand}
+use Rattle.std.specs.Prelude.{◌≡◌, ◌∷◌, List, true, Some, codes}
+use Rattle.clap.specs.Words.{App, Rule, Text, is_simple, new_app, new_rule, subcommand_of, with_rule, with_subcommand}
 use Rattle.clap.specs.declared.builder.action.ArgAction.TheVariants.{Set, SetTrue, Append}
 
 -- the word JOB, which has to be there
@@ -123,3 +123,8 @@ changing_app = with_subcommand (with_subcommand telling_app fix_app.top) trim_ap
 -- and with `show` and `pack`: the program with all its commands
 abbrev pub hsaq_app : App
 hsaq_app = with_subcommand (with_subcommand changing_app show_app.top) pack_app.top
+
+-- words that begin with this name mean to the command what they mean to the program with all its commands
+pub record ReadsAsAll (name : Text) (app : App) : Type 0 where
+  pub simple : is_simple app ≡ true
+  pub same : (words : List Text) → subcommand_of app (name ∷ words) ≡ subcommand_of hsaq_app (name ∷ words)

@@ -1,6 +1,6 @@
 //! The program's commands as `clap` reads them.
 
-ghost use Rattle.std.specs.Prelude.{◌≡◌, IfOk, IsOkAnd, false};
+ghost use Rattle.std.specs.Prelude.{◌≡◌, IfOk, IfSome, IsOkAnd, false};
 ghost use Rattle.clap.specs.Words.{app_of, new_app, rule_of, with_rule, with_subcommand};
 ghost use Rattle.clap.specs.declared.builder.command.Command.TheViews.{out-Command as fields_of};
 ghost use Rattle.hq_words.specs.Commands.{job_rule, file_rule, timeline_rule, show_app, audit_app, check_app};
@@ -8,6 +8,7 @@ ghost use Rattle.hq_words.specs.Commands.{out_rule, pack_app, replay_app, copies
 ghost use Rattle.hq_words.specs.Commands.{pair_rule, second_rule, all_rule, words_rule, explain_app, good_rule};
 ghost use Rattle.hq_words.specs.Commands.{bad_rule, witness_app, fix_app, trim_app, run_app, program_app};
 ghost use Rattle.hq_words.specs.Commands.{judging_app, running_app, telling_app, changing_app, hsaq_app};
+ghost use Rattle.hq_words.specs.Commands.{ReadsAsAll};
 
 use clap::{Arg, ArgAction, Command};
 use std::alloc::{AllocError, Global};
@@ -470,4 +471,36 @@ pub fn hsaq<'a>(alloc: Global) -> Result<Command<'a>, AllocError>
     ensures { IfOk result (λ c. app_of c ≡ hsaq_app) }
 {
     with(with(changing(alloc), show(alloc)), pack(alloc))
+}
+
+/// The command of a name, if there is one.
+fn named<'a>(alloc: Global, name: &str) -> Result<Option<Command<'a>>, AllocError>
+    ensures alone { IfOk result (λ c. IfSome c (λ c. ReadsAsAll name.now (with_subcommand program_app (app_of c).top))) }
+    ensures local { IfOk result (λ c. IfSome c (λ c. (fields_of c).has_globals ≡ false)) }
+{
+    match name {
+        "show" => Ok(Some(show(alloc)?)),
+        "audit" => Ok(Some(audit(alloc)?)),
+        "check" => Ok(Some(check(alloc)?)),
+        "run" => Ok(Some(run(alloc)?)),
+        "replay" => Ok(Some(replay(alloc)?)),
+        "chart" => Ok(Some(chart(alloc)?)),
+        "graph" => Ok(Some(graph(alloc)?)),
+        "explain" => Ok(Some(explain(alloc)?)),
+        "witness" => Ok(Some(witness(alloc)?)),
+        "fix" => Ok(Some(fix(alloc)?)),
+        "trim" => Ok(Some(trim(alloc)?)),
+        "pack" => Ok(Some(pack(alloc)?)),
+        _ => Ok(None),
+    }
+}
+
+/// `hsaq` with the one command of a name, if there is one. It costs less to make than `hsaq` with all.
+pub fn hsaq_alone<'a>(alloc: Global, name: &str) -> Result<Option<Command<'a>>, AllocError>
+    ensures { IfOk result (λ c. IfSome c (λ c. ReadsAsAll name.now (app_of c))) }
+{
+    match named(alloc, name)? {
+        Some(command) => Ok(Some(with(Ok(program(alloc)), Ok(command))?)),
+        None => Ok(None),
+    }
 }

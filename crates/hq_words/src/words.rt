@@ -5,7 +5,7 @@ ghost use Rattle.clap.specs.Words.{all_of, found_of, rows_of, subcommand_of, sub
 ghost use Rattle.hq_words.specs.Commands.{hsaq_app};
 ghost use Rattle.hq_words.specs.Asking.{Asks, AsksAlone, AsksFor, AsksOfTwo, AsksWith, AsksWords, is_set, IsWords};
 
-use crate::command::hsaq;
+use crate::command::{hsaq, hsaq_alone};
 use clap::error::ErrorKind;
 use clap::{ArgMatches, Error};
 use std::alloc::{AllocError, AllocFailed, Global};
@@ -94,8 +94,31 @@ impl From<AllocError> for WordsFault {
 /// What stands in place of no words at all.
 static AUDIT: [&str; 2] = ["audit", "@"];
 
-/// What `clap` makes of the words.
-fn matches_of<'a>(alloc: Global, words: &'a [&'a str]) -> Result<ArgMatches<'a>, WordsFault>
+/// What `clap` makes of the words by the command alone that the first of them names; nothing where there is none, or it
+/// doesn't take them.
+fn matches_alone<'a>(
+    alloc: Global,
+    words: &'a [&'a str],
+) -> Result<Option<ArgMatches<'a>>, AllocError>
+    ensures { IfOk result
+        (λ m. IfSome m (λ m. subcommand_rows_of m ≡ subcommand_of hsaq_app (map (λ w. w.now) words.entry.now))) }
+{
+    let Some(name) = words.first() else {
+        return Ok(None);
+    };
+    let Some(command) = hsaq_alone(alloc, name)? else {
+        return Ok(None);
+    };
+    match command.try_get_matches_from(words) {
+        Ok(matches) => Ok(Some(matches)),
+        Err(_) => Ok(None),
+    }
+}
+
+/// What `clap` makes of the words by all commands, which stand in the texts of faults and of help.
+#[cold]
+#[inline(never)]
+fn matches_of_all<'a>(alloc: Global, words: &'a [&'a str]) -> Result<ArgMatches<'a>, WordsFault>
     ensures found { IfOk result
         (λ m. subcommand_rows_of m ≡ subcommand_of hsaq_app (map (λ w. w.now) words.entry.now)) }
     ensures refused { IfErr result (λ f. IsWords f → takes hsaq_app (map (λ w. w.now) words.entry.now) ≢ true) }
@@ -107,6 +130,18 @@ fn matches_of<'a>(alloc: Global, words: &'a [&'a str]) -> Result<ArgMatches<'a>,
             ErrorKind::OutOfMemory => Err(WordsFault::Memory),
             _ => Err(WordsFault::Words(error)),
         },
+    }
+}
+
+/// What `clap` makes of the words.
+fn matches_of<'a>(alloc: Global, words: &'a [&'a str]) -> Result<ArgMatches<'a>, WordsFault>
+    ensures found { IfOk result
+        (λ m. subcommand_rows_of m ≡ subcommand_of hsaq_app (map (λ w. w.now) words.entry.now)) }
+    ensures refused { IfErr result (λ f. IsWords f → takes hsaq_app (map (λ w. w.now) words.entry.now) ≢ true) }
+{
+    match matches_alone(alloc, words)? {
+        Some(matches) => Ok(matches),
+        None => matches_of_all(alloc, words),
     }
 }
 

@@ -49,8 +49,8 @@ returns-clause-falls c = λ answer.
     let differ = subst (λ rows. Differ next.items rows) (c.last_rows.ensures ∙ ap last c.deref-6.ensures.value) (subst (λ rows. Differ rows c.last_rows.result.now) c.deref-5.ensures.value (c.are_same.ensures.other c.if-are_same.false)) in
     subst (λ rows. lag_of_rows rows < lag rounds) (sym (ap last c.in_ok-push.ensures.items ∙ last_pushed rounds next)) (lag_falls (last rounds) next.items len grown differ)
 
-pub returns-then-closed-clause-closed : goal.returns-then-closed-clause-closed
-returns-then-closed-clause-closed c = λ _. subst (IsClosed (plan c.args.job.now)) c.deref.ensures.value (c.in_ok-closed.ensures c.if-closed.true)
+pub returns-then-is_closed-clause-closed : goal.returns-then-is_closed-clause-closed
+returns-then-is_closed-clause-closed c = λ _. subst (IsClosed (plan c.args.job.now)) c.deref.ensures.value (c.is_closed.ensures c.if-is_closed.true)
 
 pub returns-then-are_same-clause-closed : goal.returns-then-are_same-clause-closed
 returns-then-are_same-clause-closed c = λ _ p r n.

@@ -1,10 +1,17 @@
-use Rattle.std.proofs.Common.{◌∙◌, subst, IsTrue}
+use Rattle.std.proofs.Common.{inl, inr, subst, sym, IsTrue}
 use Rattle.hq_bits.specs.Bits.{has}
-use Rattle.hq_rows.proofs.Gathered.{through_exact}
+use Rattle.hq_rows.specs.Matrix.{row}
+use Rattle.hq_rows.specs.Uniting.{is_fresh}
+use Rattle.hq_rows.proofs.Gathered.{through_fresh}
 use Rattle.hq_rows.proofs.reaching.is_whole.Goals as goal
 
 pub returns : goal.returns
 returns c = λ t p through.
     let known = c.args.known.now in
-    let united = through_exact known.earlier.now known.rows.now known.renewed.now c.row_of-row.result.now c.row_of.result.now c.copy_from_slice.new.self c.unite_fresh.new.new p c.args.r c.row_of-row.ensures c.row_of.ensures c.copy_from_slice.ensures.after c.requires.stepped (c.unite_fresh.ensures.exact p) in
-    subst (λ row. IsTrue (has row p)) (c.is_same.ensures.same.0 t ∙ c.row_of-row.ensures) (united.1 through)
+    let rows = known.rows.now in
+    elim ((through_fresh known.earlier.now rows known.renewed.now p c.args.r c.requires.stepped).1 through) [
+      | inl marked ↦ marked
+      | inr x ↦ subst (λ set. IsTrue (has set p)) c.row_of-row.ensures (c.covers_fresh.ensures t x.0 p x.1
+          (subst (λ set. IsTrue (is_fresh set c.row_of.result.now known.renewed.now x.0)) (sym c.row_of-row.ensures)
+          (subst (λ old. IsTrue (is_fresh (row rows c.args.r) old known.renewed.now x.0)) (sym c.row_of.ensures) x.2)))
+    ]

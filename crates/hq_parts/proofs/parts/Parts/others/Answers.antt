@@ -1,7 +1,7 @@
 use Rattle.std.proofs.Common.{arith, subst}
 use Rattle.hq_job.specs.Plan.{plan}
-use Rattle.hq_parts.proofs.Parting.{LeftOf, none_left, none_of_others, read_at, takes_more}
-use Rattle.hq_parts.specs.Parts.{TakesRows}
+use Rattle.hq_parts.proofs.Parting.{none_left, none_of_others, read_at, takes_more}
+use Rattle.hq_parts.specs.Parts.{LeftOf, TakesRows}
 use Rattle.hq_parts.proofs.parts.Parts.others.Goals as goal
 
 pub returns-else-count-lt-FEW : goal.returns-else-count-lt-FEW

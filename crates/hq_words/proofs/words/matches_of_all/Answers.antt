@@ -2,7 +2,7 @@ use Rattle.std.proofs.Common.{ap, ◌≡◌, true, refl, ◌∙◌, map}
 use Rattle.clap.specs.Words.{App, is_simple, subcommand_of, takes}
 use Rattle.clap.proofs.OnLiterals.{clap_on_literals}
 use Rattle.hq_words.specs.Commands.{hsaq_app}
-use Rattle.hq_words.proofs.words.matches_of.Goals as goal
+use Rattle.hq_words.proofs.words.matches_of_all.Goals as goal
 
 simple : is_simple hsaq_app ≡ true
 unfolding clap_on_literals
