@@ -44,11 +44,12 @@ impl Range {
     fn meets(self, other: Range) -> bool
         ensures { IsTrue result ↔ Overlap self other }
     {
-        if self.at < other.at {
-            other.len != 0 && other.at - self.at < self.len
+        let (first, second) = if self.at < other.at {
+            (self.len, other.len)
         } else {
-            self.len != 0 && self.at - other.at < other.len
-        }
+            (other.len, self.len)
+        };
+        second != 0 && self.at.abs_diff(other.at) < first
     }
 
     /// Whether some byte is in both ranges.

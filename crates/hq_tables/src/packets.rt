@@ -26,6 +26,7 @@ use hq_footprint::{FootFault, Footprint, Range, Task, Work, inside, of_kernel, o
 use hq_model::PACKETS;
 use hq_packet::{Kernel, Packet};
 use hq_signals::SignalTable;
+use std::alloc::AllocError;
 
 /// The dependency handles of a barrier packet.
 fn deps_of(packet: &Packet) -> &[u64]
@@ -156,6 +157,24 @@ fn has_last(placed: &[Placed], queue: u16, count: usize) -> bool
         Some(place) => placed[place].queue == queue,
         None => false,
     }
+}
+
+/// Where so many packets stand, room is made for all that a job can have: copies of a growing list cost more than
+/// memory that isn't touched.
+const MANY: usize = 64;
+
+/// Makes room for the next packet.
+///
+/// # Errors
+///
+/// Where there is no memory; then the packets stay as they were.
+fn make_room(placed: &mut Vec<Placed>) -> Result<(), AllocError>
+    ensures { placed.new.items ≡ placed.old.items }
+{
+    if placed.len() == MANY {
+        placed.reserve(PACKETS - MANY)?;
+    }
+    Ok(())
 }
 
 impl Tables {
@@ -356,6 +375,7 @@ impl Tables {
         self.check_names(&packet)?;
         let work = self.check_work(&packet)?;
         let placed = self.placed(queue, packet, work);
+        make_room(&mut self.placed)?;
         self.placed.push(placed)?;
         note(&mut self.signals, &packet);
         Ok(())
