@@ -57,6 +57,18 @@ fn direct_from(before: &Before, p: usize, r: usize, kinds: Kinds) -> Result<Dire
     }
 }
 
+/// How r conflicts with p, where it is known how p conflicts with r.
+fn turned(before: &Before, p: usize, r: usize, kinds: Kinds) -> Kinds
+    requires { HasConflicts before.now p r kinds }
+    ensures { HasConflicts before.now r p result }
+{
+    Kinds {
+        wr: kinds.rw,
+        ww: kinds.ww,
+        rw: kinds.wr,
+    }
+}
+
 /// The direction in which a and b are ordered, or what isn't in the direction that is told of.
 ///
 /// # Errors
@@ -79,10 +91,26 @@ pub fn direct_kinds(before: &Before, a: usize, b: usize, kinds: Kinds) -> Result
     ensures { MatchResult result (λ d. IsDirected before.now a b d) (λ u. IsUnshown before.now a b u) }
 {
     if before.holds(b, a) {
-        direct_from(before, b, a, before.job().kinds(b, a))
+        direct_from(before, b, a, turned(before, a, b, kinds))
     } else {
         direct_from(before, a, b, kinds)
     }
+}
+
+/// What `direct` answers of a and b with b first, where that costs little to find out; else None.
+#[inline(never)]
+fn turned_at_once(before: &Before, a: usize, b: usize, kinds: Kinds) -> Option<Directed>
+    requires a_is { a < length before.now.packets }
+    requires b_is { b < length before.now.packets }
+    requires kinds { HasConflicts before.now a b kinds }
+    ensures { IfSome result (IsDirected before.now a b) }
+{
+    let shown = judge_at_once(before, b, a, turned(before, a, b, kinds))?;
+    Some(Directed {
+        first: b,
+        second: a,
+        shown,
+    })
 }
 
 /// What `direct` answers, where that costs little to find out; else None, and it is not said whether there is such a
@@ -94,10 +122,12 @@ pub fn direct_at_once(before: &Before, a: usize, b: usize, kinds: Kinds) -> Opti
     requires kinds { HasConflicts before.now a b kinds }
     ensures { IfSome result (IsDirected before.now a b) }
 {
-    let shown = judge_at_once(before, a, b, kinds)?;
-    Some(Directed {
-        first: a,
-        second: b,
-        shown,
-    })
+    match judge_at_once(before, a, b, kinds) {
+        Some(shown) => Some(Directed {
+            first: a,
+            second: b,
+            shown,
+        }),
+        None => turned_at_once(before, a, b, kinds),
+    }
 }

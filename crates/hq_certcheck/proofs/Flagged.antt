@@ -1,15 +1,19 @@
 -- Flags, a bit for each kind of conflict of two packets.
-use Rattle.std.proofs.Common.{◌≡◌, ℕ, zero, suc, ◌+◌, ◌*◌, ◌<◌, ◌≤◌, ◌↔◌, ◌⊎◌, inl, inr, IsTrue, List, [], ◌∷◌, ◌++◌, length, sym, ◌∙◌, ap, subst, arith, Option, None, Some, MatchOption, slice_get, refl, ◌==◌, ◌||◌}
+use Rattle.std.proofs.Common.{◌≡◌, ℕ, zero, suc, ◌+◌, ◌*◌, ◌/◌, ◌%◌, ◌<◌, ◌≤◌, ◌↔◌, ◌⊎◌, inl, inr, IsTrue, List, [], ◌∷◌, ◌++◌, length, sym, ◌∙◌, ap, subst, arith, Option, None, Some, MatchOption, slice_get, refl, ◌==◌, ◌||◌, false, replicate}
 use Rattle.std.proofs.lemmas.Bool.{cases_lt, cases_eq}
 use Rattle.hq_bits.specs.Bits.{has}
+use Rattle.std.specs.Int.{bit_at}
+use Rattle.std.proofs.lemmas.List.{get_or-replicate, length-replicate}
 use Rattle.hq_bits.proofs.Walked.{mark_bit}
+use Rattle.std.proofs.lemmas.Nat.Bits.{bit_at-zero}
+use Rattle.hq_bits.proofs.Words.{past}
 use Rattle.hq_footprint.specs.declared.conflicts.Kinds.{Kinds}
 use Rattle.hq_job.specs.Conflicts.{HasConflicts}
 use Rattle.hq_model.specs.Job.{Job, IsPacket}
 use Rattle.hq_model.specs.Fence.{Conflict, Conflicts}
 use Rattle.hq_model.specs.Fence.Conflict.{WriteRead, WriteWrite, ReadWrite}
 use Rattle.hq_model.specs.Certificate.{Certificate, Pair, kind_of, HasPair, HasPairs}
-use Rattle.hq_certcheck.specs.Covering.{Covered, NoneMissing, FirstMissing, has_kind, has_flag, row_of, IsFor, AreListed, IsMarked, AreFlagged, IsFlagged, AllFlagged, RowFlagged, FirstUnflagged}
+use Rattle.hq_certcheck.specs.Covering.{Covered, NoneMissing, FirstMissing, has_kind, has_flag, row_of, IsFor, AreListed, IsListed, IsMarked, AreFlagged, IsFlagged, AllFlagged, RowFlagged, FirstUnflagged}
 use Rattle.std.proofs.lemmas.Option.{slice_get_within}
 use Rattle.hq_ordercheck.proofs.Options.{some_same}
 use Rattle.hq_certcheck.proofs.Behind.{got_left, got_right}
@@ -45,6 +49,22 @@ place_apart p r q s a b l m e =
     let lower = row_low b in
     let rows : p * 3 + row_of a ≡ q * 3 + row_of b = omega (arith, l, m, e) in
     (omega (arith, rows, low, lower), omega (arith, rows, e), same_row a b (omega (arith, rows, low, lower)))
+
+-- ---- no flags
+
+pub no_rows : (n : ℕ) → has [] n ≡ false
+no_rows n = past [] n (omega arith)
+
+pub no_flag : (words n : ℕ) → has (replicate words 0) n ≡ false
+no_flag words n = elim (cases_lt (n / 64) words) [
+  | inl low ↦ ap (λ w. bit_at w (n % 64) == 1) (get_or-replicate words (n / 64) 0 0 low) ∙ ap (λ b. b == 1) (bit_at-zero (n % 64))
+  | inr high ↦ past (replicate words 0) n (omega (arith, high, length-replicate {A = ℕ} words 0))
+]
+
+-- the same flags in other rows
+pub listed_as : (pairs : List Pair) (count : ℕ) (old new : List ℕ) → ((n : ℕ) → has new n ≡ has old n) → AreListed pairs count old → AreListed pairs count new
+listed_as pairs count old new alike h p r l m kind =
+    subst (λ b. IsTrue b ↔ IsListed pairs p r kind) (sym (alike ((p * 3 + row_of kind) * 1024 + r))) (h p r l m kind)
 
 -- ---- flags set
 

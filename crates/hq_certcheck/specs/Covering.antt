@@ -9,7 +9,7 @@ use Rattle.hq_model.specs.Job.{Job, IsPacket, packet}
 use Rattle.hq_model.specs.Fence.{Conflict, Conflicts}
 use Rattle.hq_model.specs.Fence.Conflict.{WriteRead, WriteWrite, ReadWrite}
 use Rattle.hq_model.specs.Certificate.{Certificate, Pair, kind_of, HasPairs}
-use Rattle.hq_certcheck.specs.declared.flags.TheConstants.{KINDS}
+use Rattle.hq_certcheck.specs.declared.flags.TheConstants.{KINDS, PACKET_WORDS}
 use Rattle.hq_certcheck.specs.declared.possible.Possible.{Possible}
 
 -- Each conflict of p with r has its pair line, those of one direction all of theirs.
@@ -58,6 +58,10 @@ pub record IsFor (pair : Pair) (p r : ℕ) (kind : Conflict) : Type 0 where
   pub first : pair.p ≡ p
   pub second : pair.r ≡ r
   pub kind_is : kind_of pair.fences ≡ kind
+
+-- There are the rows of so many packets; or none at all, where there is no flag.
+abbrev pub HasRows : ℕ → List ℕ → Type 0
+HasRows count flags = (flags ≡ []) ⊎ (length flags ≡ count * PACKET_WORDS)
 
 -- One of the pair lines is for this kind of conflict of p with r.
 pub record IsListed (pairs : List Pair) (p r : ℕ) (kind : Conflict) : Type 0 where

@@ -1,5 +1,5 @@
 -- What is known of the lines and pair lines of a certificate that were seen, and what a check of it answers.
-use Rattle.std.specs.Prelude.{◌≡◌, ℕ, ◌≤◌, ◌*◌, List, [], length, map, Option, Result, IfOk, IfErr}
+use Rattle.std.specs.Prelude.{◌≡◌, ℕ, ◌≤◌, List, [], length, map, Option, Result, IfOk, IfErr}
 use Rattle.hq_job.specs.Plan.{plan}
 use Rattle.hq_job.specs.Value.{JobValue}
 use Rattle.hq_model.specs.declared.limits.TheConstants.{PACKETS}
@@ -9,11 +9,10 @@ use Rattle.hq_model.specs.Fence.{Ordered}
 use Rattle.hq_model.specs.Order.{Extends}
 use Rattle.hq_model.specs.Theorems.{Headline}
 use Rattle.hq_certcheck.specs.Concluded.{conclusion_of}
-use Rattle.hq_certcheck.specs.Covering.{AreListed}
+use Rattle.hq_certcheck.specs.Covering.{AreListed, HasRows}
 use Rattle.hq_certcheck.specs.Listed.{Block, BadLineBut, BadPairIs}
 use Rattle.hq_certcheck.specs.Refusals.{IsRefused}
 use Rattle.hq_certcheck.specs.View.{AcceptedJob}
-use Rattle.hq_certcheck.specs.declared.flags.TheConstants.{PACKET_WORDS}
 use Rattle.hq_certcheck.specs.declared.fault.CheckNo.{CheckNo}
 use Rattle.hq_certcheck.specs.declared.fault.CheckNo.TheVariants.{Memory}
 use Rattle.hq_certcheck.specs.declared.seen.Seen.TheInside.{Inside}
@@ -38,10 +37,10 @@ seen_of s = record {
   bad_pair = s.bad_pair;
 }
 
--- there are the rows of each packet
+-- there are the rows of each packet, from the first pair line on
 pub record IsTable (s : Inside) : Type 0 where
   pub few : s.count ≤ PACKETS
-  pub len : length s.flags.items ≡ s.count * PACKET_WORDS
+  pub rows : HasRows s.count s.flags.items
 
 -- These lines and these pair lines of a certificate were seen, and all lines were checked but those of these blocks.
 -- Each kind of conflict of each two packets has its flag exactly where one of the pair lines is for it, and the first

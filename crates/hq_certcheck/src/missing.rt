@@ -1,16 +1,16 @@
 //! Conflicts that have no pair lines.
 
-ghost use Rattle.std.specs.Prelude.{◌≡◌, ℕ, ◌*◌, ◌<◌, ◌↔◌, IsTrue, IfOk, MatchOption, false, length};
+ghost use Rattle.std.specs.Prelude.{◌≡◌, ℕ, ◌<◌, ◌↔◌, IsTrue, IfOk, MatchOption, false, length};
 ghost use Rattle.hq_job.specs.Plan.{plan};
 ghost use Rattle.hq_bits.specs.Bits.{has};
 ghost use Rattle.hq_model.specs.Fence.{Conflict, Conflicts};
 ghost use Rattle.hq_model.specs.Certificate as model;
-ghost use Rattle.hq_certcheck.specs.Covering.{MissingIs, has_kind, AreListed, IsPossible};
+ghost use Rattle.hq_certcheck.specs.Covering.{MissingIs, has_kind, AreListed, HasRows, IsPossible};
 ghost use Rattle.hq_certcheck.specs.Covering.{AreFlagged, IsFlagged, RowFlagged};
 ghost use Rattle.hq_certcheck.specs.Covering.{FirstUnflaggedAfter, FirstUnflagged};
 ghost use Rattle.hq_certcheck.specs.Seen.{IsSeen};
 
-use crate::flags::{PACKET_WORDS, flags_of};
+use crate::flags::flags_of;
 use crate::possible::Possible;
 use crate::seen::Seen;
 use hq_bits::next_in;
@@ -68,7 +68,7 @@ pub fn first_unflagged_after(
     p: usize,
 ) -> Option<usize>
     requires possible { IsPossible (plan job.now) possible.now }
-    requires len { length flags.now ≡ length job.now.packets * PACKET_WORDS }
+    requires rows { HasRows (length job.now.packets) flags.now }
     requires p_is { p < length job.now.packets }
     ensures { MatchOption result (RowFlagged (plan job.now) flags.now p)
         (λ r. FirstUnflaggedAfter (plan job.now) flags.now p r) }
@@ -89,7 +89,7 @@ pub fn first_unflagged_after(
 /// The first packets in number order whose conflicts lack flags.
 fn first_unflagged(job: &Job, possible: &Possible, flags: &[u64]) -> Option<(u16, u16)>
     requires possible { IsPossible (plan job.now) possible.now }
-    requires len { length flags.now ≡ length job.now.packets * PACKET_WORDS }
+    requires rows { HasRows (length job.now.packets) flags.now }
     ensures { MatchOption result
         ((p : ℕ) → p < length job.now.packets → RowFlagged (plan job.now) flags.now p)
         (λ found. FirstUnflagged (plan job.now) flags.now found.0 found.1) }
@@ -106,7 +106,7 @@ fn first_unflagged(job: &Job, possible: &Possible, flags: &[u64]) -> Option<(u16
 /// The first packets in number order whose conflicts lack pair lines, by the flags.
 fn missing_by(job: &Job, possible: &Possible, flags: &[u64]) -> Option<(u16, u16)>
     requires possible { IsPossible (plan job.now) possible.now }
-    requires len { length flags.now ≡ length job.now.packets * PACKET_WORDS }
+    requires rows { HasRows (length job.now.packets) flags.now }
     ensures { (c : model.Certificate) → AreListed c.pairs (length job.now.packets) flags.now
         → MissingIs (plan job.now) c result }
 {

@@ -1,12 +1,12 @@
 //! Conflicts that packets can have at all, by the parts of memory that they touch and by whether they read and write.
 
-ghost use Rattle.std.specs.Prelude.{◌≡◌, ℕ, ◌*◌, ◌<◌, ◌↔◌, IsTrue, IfOk, All, [], false, length};
+ghost use Rattle.std.specs.Prelude.{◌≡◌, ℕ, ◌<◌, ◌↔◌, IsTrue, IfOk, All, [], false, length};
 ghost use Rattle.hq_job.specs.Plan.{plan};
 ghost use Rattle.hq_bits.specs.Bits.{has};
 ghost use Rattle.hq_model.specs.Job.{IsPacket, packet};
-ghost use Rattle.hq_certcheck.specs.Covering.{AreFlagged, IsPossible};
+ghost use Rattle.hq_certcheck.specs.Covering.{AreFlagged, HasRows, IsPossible};
 
-use crate::flags::{PACKET_WORDS, READ_WRITE, WRITE_READ, WRITE_WRITE, flags_in};
+use crate::flags::{READ_WRITE, WRITE_READ, WRITE_WRITE, flags_in};
 use hq_bits::{WORDS, has, insert, less};
 use hq_footprint::Footprint;
 use hq_job::Job;
@@ -100,7 +100,7 @@ impl Possible {
     /// does.
     pub fn suspects(&self, job: &Job, flags: &[u64], p: usize) -> [u64; WORDS]
         requires possible { IsPossible (plan job.now) self.now }
-        requires len { length flags.now ≡ length job.now.packets * PACKET_WORDS }
+        requires rows { HasRows (length job.now.packets) flags.now }
         requires p_is { p < length job.now.packets }
         ensures { (s : ℕ) → IsPacket (plan job.now) s → has result s ≡ false
             → AreFlagged (plan job.now) flags.now p s }

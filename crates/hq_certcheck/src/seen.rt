@@ -1,19 +1,19 @@
 //! Lines and pair lines of a certificate, one block behind another.
 
-ghost use Rattle.std.specs.Prelude.{◌≡◌, ◌<◌, ℕ, ◌⊎◌, [], ◌∷◌, ◌++◌, ◌*◌, List, IfOk, OnOk, map, length};
+ghost use Rattle.std.specs.Prelude.{◌≡◌, ◌<◌, ℕ, ◌⊎◌, [], ◌∷◌, ◌++◌, List, IfOk, OnOk, map, length};
 ghost use Rattle.hq_cert.specs.View.{line_of, pair_of};
 ghost use Rattle.hq_job.specs.Plan.{plan};
 ghost use Rattle.hq_model.specs.Job.{Job as JobOf};
 ghost use Rattle.hq_model.specs.Certificate as model;
 ghost use Rattle.hq_certcheck.specs.Concluded.{bare};
+ghost use Rattle.hq_certcheck.specs.Covering.{HasRows};
 ghost use Rattle.hq_certcheck.specs.Listed.{Block, BadLineOf, BadPairIs, IsUpTo};
 ghost use Rattle.hq_certcheck.specs.Seen.{HasSeen, IsSeen};
 
 use crate::conclusion::{Conclusion, conclude};
-use crate::flags::{PACKET_WORDS, mark_all};
+use crate::flags::mark_all;
 use crate::lines::first_bad_line;
 use crate::pairs::first_bad_pair;
-use hq_bits::empty;
 use hq_cert::{Certificate, Line, Pair};
 use hq_job::Job;
 use std::alloc::{AllocError, Global};
@@ -56,22 +56,17 @@ fn least(one: Option<usize>, other: Option<usize>) -> Option<usize>
 
 impl Seen {
     /// Before the first line of a certificate for this job.
-    ///
-    /// # Errors
-    ///
-    /// `AllocError` where there is no memory.
-    pub fn new(alloc: Global, job: &Job) -> Result<Seen, AllocError>
-        ensures { IfOk result (λ seen. HasSeen (plan job.now) [] [] [] seen) }
+    pub fn new(alloc: Global, job: &Job) -> Seen
+        ensures { HasSeen (plan job.now) [] [] [] result }
     {
         job.valid();
-        let count = job.packets().len();
-        Ok(Seen {
+        Seen {
             lines: Vec::new(alloc),
             bad_line: None,
-            count,
-            flags: empty(alloc, count * PACKET_WORDS)?,
+            count: job.packets().len(),
+            flags: Vec::new(alloc),
             bad_pair: None,
-        })
+        }
     }
 
     /// Takes in lines that are left to be checked. No pair lines came before them.
@@ -118,24 +113,40 @@ impl Seen {
     }
 
     /// Takes in pair lines, of which this is the first that doesn't hold.
-    pub fn put(&mut self, pairs: &[Pair], bad: Option<(u32, u32)>)
-        ensures { (job : JobOf) (lines : List model.Line) (before : List model.Pair) (left : List Block)
+    ///
+    /// # Errors
+    ///
+    /// `AllocError` where there is no memory. What is known then isn't said: it is to be dropped.
+    pub fn put(
+        &mut self,
+        alloc: Global,
+        pairs: &[Pair],
+        bad: Option<(u32, u32)>,
+    ) -> Result<(), AllocError>
+        ensures { OnOk result
+            ((job : JobOf) (lines : List model.Line) (before : List model.Pair) (left : List Block)
             → HasSeen job lines before left self.old
             → BadPairIs job (map bare self.old.lines) (map pair_of pairs.now) bad
-            → HasSeen job lines (before ++ map pair_of pairs.now) left self.new }
+            → HasSeen job lines (before ++ map pair_of pairs.now) left self.new) }
     {
-        mark_all(&mut self.flags, self.count, pairs);
+        mark_all(alloc, &mut self.flags, self.count, pairs)?;
         self.bad_pair = self.bad_pair.or(bad);
+        Ok(())
     }
 
     /// Takes in the next pair lines of a certificate, and checks them by what its lines conclude.
-    pub fn take_pairs(&mut self, job: &Job, pairs: &[Pair])
-        ensures { (lines : List model.Line) (before : List model.Pair) (left : List Block)
+    ///
+    /// # Errors
+    ///
+    /// `AllocError` where there is no memory. What is known then isn't said: it is to be dropped.
+    pub fn take_pairs(&mut self, alloc: Global, job: &Job, pairs: &[Pair]) -> Result<(), AllocError>
+        ensures { OnOk result
+            ((lines : List model.Line) (before : List model.Pair) (left : List Block)
             → HasSeen (plan job.now) lines before left self.old
-            → HasSeen (plan job.now) lines (before ++ map pair_of pairs.now) left self.new }
+            → HasSeen (plan job.now) lines (before ++ map pair_of pairs.now) left self.new) }
     {
         let bad = first_bad_pair(job, &self.lines, pairs);
-        self.put(pairs, bad);
+        self.put(alloc, pairs, bad)
     }
 
     /// All lines and pair lines of a certificate.
@@ -146,9 +157,9 @@ impl Seen {
     ) -> Result<Seen, AllocError>
         ensures { IfOk result (IsSeen (plan job.now) certificate.now) }
     {
-        let mut seen = Seen::new(alloc, job)?;
+        let mut seen = Seen::new(alloc, job);
         seen.take_lines(job, certificate.lines())?;
-        seen.take_pairs(job, certificate.pairs());
+        seen.take_pairs(alloc, job, certificate.pairs())?;
         Ok(seen)
     }
 
@@ -173,10 +184,11 @@ impl Seen {
         self.bad_pair
     }
 
-    /// Which kinds of conflict of which packets have pair lines: a row of bits for each packet and kind.
+    /// Which kinds of conflict of which packets have pair lines: a row of bits for each packet and kind, or no row where
+    /// there are no pair lines.
     pub(crate) fn flags(&self) -> &[u64]
         ensures flags { result.now ≡ self.now.flags }
-        ensures len { length result.now ≡ self.now.count * PACKET_WORDS }
+        ensures rows { HasRows self.now.count result.now }
     {
         &self.flags
     }

@@ -65,14 +65,14 @@ fn seen_wide(
 ) -> Result<Seen, AllocError>
     ensures { IfOk result (IsSeen (plan job.now) certificate.now) }
 {
-    let mut seen = Seen::new(alloc, job)?;
+    let mut seen = Seen::new(alloc, job);
     let lines = certificate.lines();
     seen.conclude(lines)?;
     let bad_line = first_bad_line(rt, job, seen.lines(), lines);
     seen.note(bad_line);
     let pairs = certificate.pairs();
     let bad_pair = first_bad_pair(rt, job, seen.lines(), pairs);
-    seen.put(pairs, bad_pair);
+    seen.put(alloc, pairs, bad_pair)?;
     Ok(seen)
 }
 

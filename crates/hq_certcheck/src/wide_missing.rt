@@ -1,13 +1,12 @@
 //! Conflicts that have no pair lines, sought in many threads.
 
-ghost use Rattle.std.specs.Prelude.{◌≡◌, ℕ, ◌*◌, ◌<◌, IsTrue, IfOk, MatchOption, false, length};
+ghost use Rattle.std.specs.Prelude.{◌≡◌, ℕ, ◌<◌, IsTrue, IfOk, MatchOption, false, length};
 ghost use Rattle.hq_job.specs.Plan.{plan};
 ghost use Rattle.hq_certcheck.specs.Covering.{MissingIs, AreListed, IsPossible, RowFlagged, FirstUnflaggedRow};
-ghost use Rattle.hq_certcheck.specs.Covering.{FirstUnflagged};
+ghost use Rattle.hq_certcheck.specs.Covering.{FirstUnflagged, HasRows};
 ghost use Rattle.hq_certcheck.specs.Seen.{IsSeen};
 ghost use Rattle.hq_model.specs.Certificate as model;
 
-use crate::flags::PACKET_WORDS;
 use crate::missing::first_unflagged_after;
 use crate::possible::Possible;
 use crate::seen::Seen;
@@ -22,7 +21,7 @@ const LEAST_ROWS: usize = 128;
 /// Whether a conflict of p with a packet after it lacks flags.
 fn lacks_some(job: &Job, possible: &Possible, flags: &[u64], p: usize) -> bool
     requires possible { IsPossible (plan job.now) possible.now }
-    requires len { length flags.now ≡ length job.now.packets * PACKET_WORDS }
+    requires rows { HasRows (length job.now.packets) flags.now }
     requires p_is { p < length job.now.packets }
     ensures { (result ≡ false → RowFlagged (plan job.now) flags.now p)
         × (IsTrue result → ¬ RowFlagged (plan job.now) flags.now p) }
@@ -38,7 +37,7 @@ fn first_row(
     flags: &[u64],
 ) -> Option<usize>
     requires possible { IsPossible (plan job.now) possible.now }
-    requires len { length flags.now ≡ length job.now.packets * PACKET_WORDS }
+    requires rows { HasRows (length job.now.packets) flags.now }
     ensures { MatchOption result
         ((p : ℕ) → p < length job.now.packets → RowFlagged (plan job.now) flags.now p)
         (FirstUnflaggedRow (plan job.now) flags.now) }
@@ -50,7 +49,7 @@ fn first_row(
         rt,
         |p: usize| -> bool
             requires { IsPossible (plan job.now) possible.now
-                × (length flags.now ≡ length job.now.packets * PACKET_WORDS) × (p < length job.now.packets) }
+                × HasRows (length job.now.packets) flags.now × (p < length job.now.packets) }
             ensures { (result ≡ false → RowFlagged (plan job.entry.now) flags.entry.now p)
                 × (IsTrue result → ¬ RowFlagged (plan job.entry.now) flags.entry.now p) }
         { lacks_some(job, possible, flags, p) },
@@ -65,7 +64,7 @@ fn first_unflagged(
     flags: &[u64],
 ) -> Option<(u16, u16)>
     requires possible { IsPossible (plan job.now) possible.now }
-    requires len { length flags.now ≡ length job.now.packets * PACKET_WORDS }
+    requires rows { HasRows (length job.now.packets) flags.now }
     ensures { MatchOption result
         ((p : ℕ) → p < length job.now.packets → RowFlagged (plan job.now) flags.now p)
         (λ found. FirstUnflagged (plan job.now) flags.now found.0 found.1) }
@@ -88,7 +87,7 @@ fn missing_by(
     flags: &[u64],
 ) -> Option<(u16, u16)>
     requires possible { IsPossible (plan job.now) possible.now }
-    requires len { length flags.now ≡ length job.now.packets * PACKET_WORDS }
+    requires rows { HasRows (length job.now.packets) flags.now }
     ensures { (c : model.Certificate) → AreListed c.pairs (length job.now.packets) flags.now
         → MissingIs (plan job.now) c result }
 {

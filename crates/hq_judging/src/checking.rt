@@ -16,7 +16,7 @@ use hq_cert::Certificate;
 use hq_certcheck::Seen;
 use hq_certread::{CertFault, Progress, ReadFault};
 use hq_job::Job;
-use hq_status::{Status, say_file, say_memory};
+use hq_status::{Status, say_file};
 use hq_text::{Source, TURNS, TakesLines, read_lines};
 use std::alloc::Global;
 use std::io::{Read, Write};
@@ -39,17 +39,16 @@ pub struct ReadCertificate {
 }
 
 impl Checking {
-    /// Before the first line of a certificate for this job; or the job, where there is no memory.
-    pub fn new(alloc: Global, job: Job) -> Result<Checking, Job>
-        ensures { IfOk result (λ checking. HasChecked checking [] checking × (checking.job ≡ job)) }
+    /// Before the first line of a certificate for this job.
+    pub fn new(alloc: Global, job: Job) -> Checking
+        ensures checked { HasChecked result [] result }
+        ensures job { result.job ≡ job }
     {
-        match Seen::new(alloc, &job) {
-            Ok(seen) => Ok(Checking {
-                job,
-                progress: Progress::new(alloc),
-                seen,
-            }),
-            Err(_) => Err(job),
+        let seen = Seen::new(alloc, &job);
+        Checking {
+            job,
+            progress: Progress::new(alloc),
+            seen,
         }
     }
 
@@ -74,7 +73,13 @@ impl Checking {
         {
             return Err(Progress::no_memory());
         }
-        self.seen.take_pairs(&self.job, self.progress.pairs());
+        if self
+            .seen
+            .take_pairs(alloc, &self.job, self.progress.pairs())
+            .is_err()
+        {
+            return Err(Progress::no_memory());
+        }
         self.progress.let_go()
     }
 
@@ -180,11 +185,6 @@ pub fn take_certificate<K: ReadsCertificates, R: Read, W: Write>(
         (Reported (ReaderReport R R.remaining reader.old reader.new NoCertificate) (W.contents writer.old)
         (W.contents writer.new)) }
 {
-    match Checking::new(alloc, job) {
-        Ok(checking) => read_certificate(by, alloc, reader, writer, checking),
-        Err(job) => {
-            job.let_go();
-            Err(say_memory(writer))
-        }
-    }
+    let checking = Checking::new(alloc, job);
+    read_certificate(by, alloc, reader, writer, checking)
 }

@@ -93,7 +93,10 @@ impl Checking {
                 if self.seen.conclude(chunk.ahead.lines()).is_err() {
                     return Err(Progress::no_memory());
                 }
-                self.seen.put(chunk.ahead.pairs(), chunk.bad_pair);
+                let pairs = chunk.ahead.pairs();
+                if self.seen.put(alloc, pairs, chunk.bad_pair).is_err() {
+                    return Err(Progress::no_memory());
+                }
                 self.take_text(alloc, text.split_at(at).1)
             }
             None => {

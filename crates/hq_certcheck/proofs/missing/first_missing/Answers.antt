@@ -1,9 +1,9 @@
-use Rattle.std.proofs.Common.{◌*◌, ℕ, List, sym, subst, ap, ◌∙◌}
-use Rattle.hq_certcheck.specs.Covering.{AreListed}
+use Rattle.std.proofs.Common.{ℕ, List, sym, subst}
+use Rattle.hq_certcheck.specs.Covering.{AreListed, HasRows}
 use Rattle.hq_certcheck.proofs.missing.first_missing.Goals as goal
 
-pub missing_by-requires-clause-len : goal.missing_by-requires-clause-len
-missing_by-requires-clause-len c = c.flags.ensures.len ∙ ap (λ n. n * 48) c.requires.count
+pub missing_by-requires-clause-rows : goal.missing_by-requires-clause-rows
+missing_by-requires-clause-rows c = subst (λ n. HasRows n c.flags.result.now) c.requires.count c.flags.ensures.rows
 
 pub returns : goal.returns
 returns c cert h =

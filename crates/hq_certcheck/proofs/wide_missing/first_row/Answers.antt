@@ -4,7 +4,7 @@ use Rattle.rayon.specs.Lists.{range_start, range_end}
 use Rattle.rayon.specs.Numbers.{nat_range}
 use Rattle.rayon.proofs.ToStd.{nat_range-All}
 use Rattle.hq_job.specs.Plan.{plan}
-use Rattle.hq_certcheck.specs.Covering.{IsPossible, RowFlagged, FirstUnflaggedRow}
+use Rattle.hq_certcheck.specs.Covering.{HasRows, IsPossible, RowFlagged, FirstUnflaggedRow}
 use Rattle.hq_ordercheck.proofs.Packets.{packets_count}
 use Rattle.hq_certcheck.proofs.Flagged.{match_change}
 use Rattle.hq_certcheck.proofs.Leasts.{Tells, IsLeastOf, least_told}
@@ -15,8 +15,8 @@ position_first-requires-clause-items g c κs lives =
     let ends = c.into_par_iter.ensures in
     let n = length c.args.job.now.packets in
     rw (c.with_min_len-rows.ensures.base, ends.0, ends.1)
-    (nat_range-All (λ p. IsPossible (plan c.args.job.now) c.args.possible.now × (length c.args.flags.now ≡ n * 48) × (p < n)) 0 (length c.packets.result.now)
-    (λ i low high. (c.requires.possible, c.requires.len, subst (λ xs. i < length xs) c.packets.ensures high)))
+    (nat_range-All (λ p. IsPossible (plan c.args.job.now) c.args.possible.now × HasRows n c.args.flags.now × (p < n)) 0 (length c.packets.result.now)
+    (λ i low high. (c.requires.possible, c.requires.rows, subst (λ xs. i < length xs) c.packets.ensures high)))
 
 pub returns : goal.returns
 returns g c =

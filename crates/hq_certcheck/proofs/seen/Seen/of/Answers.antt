@@ -10,4 +10,4 @@ returns c =
     let job = plan c.args.job.now in
     subst (λ (ls : List Line). HasSeen job ls c.args.certificate.now.pairs [] c.take_pairs.new.self) c.lines.ensures
     (subst (λ (ps : List Pair). HasSeen job (map line_of c.lines.result.now) ps [] c.take_pairs.new.self) c.pairs.ensures
-    (c.take_pairs.ensures (map line_of c.lines.result.now) [] [] (c.in_ok-take_lines.ensures [] [] [] (inl refl) c.in_ok-seen.ensures)))
+    (c.in_ok-take_pairs.ensures (map line_of c.lines.result.now) [] [] (c.in_ok-take_lines.ensures [] [] [] (inl refl) c.new-seen.ensures)))

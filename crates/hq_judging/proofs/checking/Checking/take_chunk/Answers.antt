@@ -33,6 +33,7 @@ mid c at from chunks lines looked still h =
     let pa = pairs_ahead chunk.ahead in
     let p = some_told c.in_ok-at.field-0 c.in-Some.at _ _ c.in-Some.is c.in_ok-at.ensures.passed text lines h.front h.gone looked.ahead h.taken h.no_lines h.no_pairs in
     let concluded = no_fault c.conclude.result _ (sym c.is_err.ensures.value ∙ c.if-is_err.false) c.conclude.ensures in
+    let put = no_fault c.put.result _ (sym c.is_err-in-Some.ensures.value ∙ c.if-is_err-2.false) c.put.ensures in
     let left = map block_of chunks in
     let passed =
     chunk_passed at from chunks lines old c.pass.new.self c.conclude.new.self c.put.new.self text chunk c.in-Some.at (length c.lines.result.now) looked still h p
@@ -41,8 +42,8 @@ mid c at from chunks lines looked still h =
     subst (λ ls. HasSeen job (h.front ++ ls) pairs (left ++ record { from = length h.front; count = length c.lines.result.now } ∷ []) c.conclude.new.self) c.lines.ensures
     (concluded job h.front pairs left (subst (λ ls. (pairs ≡ []) ⊎ (ls ≡ [])) (sym c.lines.ensures) none) seen))
     (λ ls blocks seen bad.
-    subst (λ ps. HasSeen job ls (h.gone ++ ps) blocks c.put.new.self) c.pairs.ensures
-    (c.put.ensures job ls h.gone blocks seen (subst (λ ps. BadPairIs job (map bare c.conclude.new.self.lines) ps chunk.bad_pair) (sym c.pairs.ensures) bad))) in
+    subst (λ ps. HasSeen job ls (h.gone ++ ps) blocks c.put.new.self) c.pairs-pairs.ensures
+    (put job ls h.gone blocks seen (subst (λ ps. BadPairIs job (map bare c.conclude.new.self.lines) ps chunk.bad_pair) (sym c.pairs-pairs.ensures) bad))) in
     record {
       more = p.more;
       whole = p.whole ∙ ap (λ r. p.more ++ lines_of r) (sym c.split_at.ensures.back);
@@ -50,21 +51,24 @@ mid c at from chunks lines looked still h =
       stays = stays_both at old (record { job = old.job; progress = c.pass.new.self; seen = c.put.new.self }) still passed.1;
     }
 
-pub returns-else-is_err-clause-took : goal.returns-else-is_err-clause-took
-returns-else-is_err-clause-took c = on_ok c.take_text.result c.take_text.ensures.took (λ took at from chunks lines looked still h.
+pub returns-else-is_err-2-clause-took : goal.returns-else-is_err-2-clause-took
+returns-else-is_err-2-clause-took c = on_ok c.take_text.result c.take_text.ensures.took (λ took at from chunks lines looked still h.
     let m = mid c at from chunks lines looked still h in
     let t = took from (chunks ++ c.args.chunk.now ∷ []) (lines ++ m.more) m.checked in (
       subst (λ (ls : List (List ℕ)). HasCheckedBut from (chunks ++ c.args.chunk.now ∷ []) ls c.take_text.new.self) (in_two lines m.more (lines_of c.split_at.result.1.now) (lines_of c.args.text.now) m.whole) t.0,
       stays_both at (record { job = c.args.self.now.job; progress = c.pass.new.self; seen = c.put.new.self }) c.take_text.new.self m.stays t.1,
     ))
 
-pub returns-else-is_err-clause-fault : goal.returns-else-is_err-clause-fault
-returns-else-is_err-clause-fault c = on_err c.take_text.result c.take_text.ensures.fault (λ f fault at from chunks lines more looked still h.
+pub returns-else-is_err-2-clause-fault : goal.returns-else-is_err-2-clause-fault
+returns-else-is_err-2-clause-fault c = on_err c.take_text.result c.take_text.ensures.fault (λ f fault at from chunks lines more looked still h.
     let m = mid c at from chunks lines looked still h in
     subst (λ (ls : List (List ℕ)). HasFault ls f) (in_two_and_more lines m.more (lines_of c.split_at.result.1.now) (lines_of c.args.text.now) more m.whole) (fault from (chunks ++ c.args.chunk.now ∷ []) (lines ++ m.more) more m.checked))
 
 pub returns-then-is_err-clause-fault : goal.returns-then-is_err-clause-fault
 returns-then-is_err-clause-fault c at from chunks lines more looked still h = c.no_memory.ensures (lines ++ (lines_of c.args.text.now ++ more))
+
+pub returns-then-is_err-2-clause-fault : goal.returns-then-is_err-2-clause-fault
+returns-then-is_err-2-clause-fault c at from chunks lines more looked still h = c.no_memory-then-is_err-2.ensures (lines ++ (lines_of c.args.text.now ++ more))
 
 pub returns-in-None-clause-took : goal.returns-in-None-clause-took
 returns-in-None-clause-took c = on_ok c.take_text-in-None.result c.take_text-in-None.ensures.took (λ took at from chunks lines looked still h.

@@ -24,8 +24,9 @@ returns-clause-took c = on_both c.let_go.result c.let_go.ensures.gone (on_both c
     let stand : (h.gone ≡ []) ⊎ (read ≡ []) = elim (stand_gone h.gone c.args.self.now.progress c.take.new.self (c.in_ok-take.ensures.lines lines h.front h.gone h.taken)) [ inl none ↦ inl none | inr same ↦ inr (same ∙ h.no_lines) ] in
     let took_lines = no_fault c.take_lines.result _ (sym c.is_err.ensures.value ∙ c.if-is_err.false) c.take_lines.ensures in
     let lines_seen = took_lines h.front h.gone left (elim stand [ inl none ↦ inl none | inr same ↦ inr (c.lines.ensures ∙ same) ]) h.seen in
+    let took_pairs = no_fault c.take_pairs.result _ (sym c.is_err-2.ensures.value ∙ c.if-is_err-2.false) c.take_pairs.ensures in
     let now = seen_as job c.take_pairs.new.self (h.front ++ map line_of c.lines.result.now) (h.front ++ read) (h.gone ++ map pair_of c.pairs.result.now) (h.gone ++ pairs) left
-    (ap (λ ls. h.front ++ ls) c.lines.ensures) (ap (λ ps. h.gone ++ ps) c.pairs.ensures) (c.take_pairs.ensures (h.front ++ map line_of c.lines.result.now) h.gone left lines_seen) in (
+    (ap (λ ls. h.front ++ ls) c.lines.ensures) (ap (λ ps. h.gone ++ ps) c.pairs.ensures) (took_pairs (h.front ++ map line_of c.lines.result.now) h.gone left lines_seen) in (
       record {
         same = h.same;
         front = h.front ++ read;
@@ -48,3 +49,6 @@ returns-in_err-take-clause-fault c =
 
 pub returns-then-is_err-clause-fault : goal.returns-then-is_err-clause-fault
 returns-then-is_err-clause-fault c from chunks lines more h = c.no_memory.ensures (lines ++ (lines_of c.args.text.now ++ more))
+
+pub returns-then-is_err-2-clause-fault : goal.returns-then-is_err-2-clause-fault
+returns-then-is_err-2-clause-fault c from chunks lines more h = c.no_memory-then-is_err-2.ensures (lines ++ (lines_of c.args.text.now ++ more))

@@ -2,7 +2,7 @@ use Rattle.std.proofs.Common.{◌≡◌, ◌*◌, ◌++◌, List, map, length, t
 use Rattle.hq_cert.specs.View.{pair_of}
 use Rattle.hq_model.specs.Certificate as model
 use Rattle.hq_certcheck.specs.Covering.{AreListed}
-use Rattle.hq_certcheck.proofs.flags.mark_all.Given as goal
+use Rattle.hq_certcheck.proofs.flags.mark_each.Given as goal
 
 abbrev pub invariant-loop-pair : goal.invariant-loop-pair
 invariant-loop-pair l = record {
