@@ -28,7 +28,8 @@ use std::process::ExitCode;
 use std::sync::Wait;
 use std::thread::Threads;
 
-/// Does what is asked for beside judging.
+/// Does what is asked for beside judging. A function of its own, so that to judge needs no room on the stack for that.
+#[inline(never)]
 fn answer_else<W: Write>(
     rt: &HostRuntime,
     threads: &(impl Threads + Wait + Sync),

@@ -18,6 +18,7 @@ use std::io::Write;
 use std::thread::Threads;
 
 /// Shows the job of a file.
+#[inline(never)]
 fn show<W: Write>(rt: &HostRuntime, job: &str, writer: &mut W) -> Status
     ensures { Reported (FileReport (JobTextReport ShowReport)) (W.contents writer.old) (W.contents writer.new) result }
 {
@@ -27,7 +28,9 @@ fn show<W: Write>(rt: &HostRuntime, job: &str, writer: &mut W) -> Status
     }
 }
 
-/// Audits the job of a file.
+/// Audits the job of a file. This is a function of its own, as the others here are, so that no command needs room on
+/// the stack for another one.
+#[inline(never)]
 fn audit<W: Write>(
     rt: &HostRuntime,
     threads: &(impl Threads + Sync),
@@ -44,6 +47,7 @@ fn audit<W: Write>(
 }
 
 /// Checks the certificate of a file for the job of another.
+#[inline(never)]
 fn check<W: Write>(
     rt: &HostRuntime,
     threads: &(impl Threads + Sync),

@@ -17,7 +17,7 @@ stops : (c : List Rule) (names : Names) (name : Text) (words : List Text) → �
 stops c names name words met =
     ap (λ (w : Walk). (fold (walked c names) w words).stopped) met ∙ sym (ap (λ (w : Walk). w.stopped) (walk_stopped c names (walk_from nothing_held) name [] words))
 
-reads : (app : App) (name : Text) (words : List Text) → app.top.no_binary_name ≡ true → IsMet app name → subcommand_of app (name ∷ words) ≡ entered (built app) (Some (name, words))
+pub reads : (app : App) (name : Text) (words : List Text) → app.top.no_binary_name ≡ true → IsMet app name → subcommand_of app (name ∷ words) ≡ entered (built app) (Some (name, words))
 reads app name words bare met =
     ap (λ b. entered (built app) (stop_after (built app).top.rules (names_of (built app)) (if b then name ∷ words else words))) bare ∙ ap (entered (built app)) (stops (built app).top.rules (names_of (built app)) name words met)
 

@@ -1,3 +1,4 @@
 pub mod AskedFor
 pub mod Below
 pub mod Alone
+mod Plain

@@ -1,6 +1,7 @@
 //! What the words of a command line ask for.
 
-ghost use Rattle.std.specs.Prelude.{◌≡◌, ◌≢◌, [], Some, true, codes, map, option_map, IfOk, IfErr, IfSome};
+ghost use Rattle.std.specs.Prelude.{◌≡◌, ◌≢◌, [], Some, None, true, false, codes, map, option_map, IfOk, IfErr, IfSome};
+ghost use Rattle.clap.specs.Lexer.{strip_byte};
 ghost use Rattle.clap.specs.Words.{all_of, found_of, rows_of, subcommand_of, subcommand_rows_of, takes};
 ghost use Rattle.hq_words.specs.Commands.{hsaq_app};
 ghost use Rattle.hq_words.specs.Asking.{Asks, AsksAlone, AsksFor, AsksOfTwo, AsksWith, AsksWords, is_set, IsWords};
@@ -299,7 +300,8 @@ fn asked_of_files<'a>(
 }
 
 /// What is asked for where `clap` accepts words.
-fn asked_of<'a>(alloc: Global, words: &'a [&'a str]) -> Result<Asked<'a>, WordsFault>
+#[inline(never)]
+fn asked_by_clap<'a>(alloc: Global, words: &'a [&'a str]) -> Result<Asked<'a>, WordsFault>
     ensures asked { IfOk result (Asks (subcommand_of hsaq_app (map (λ w. w.now) words.entry.now))) }
     ensures refused { IfErr result (λ f. IsWords f → takes hsaq_app (map (λ w. w.now) words.entry.now) ≢ true) }
 {
@@ -310,6 +312,40 @@ fn asked_of<'a>(alloc: Global, words: &'a [&'a str]) -> Result<Asked<'a>, WordsF
     match matches.subcommand() {
         Some((name, own)) => Ok(asked_for(alloc, name, own)?),
         None => Err(WordsFault::Memory),
+    }
+}
+
+/// Whether `clap` may take a word for an option: it begins with a hyphen.
+fn may_be_option(word: &str) -> bool
+    ensures { result ≡ false → strip_byte 45 word.now ≡ None }
+{
+    matches!(word.as_bytes().first(), Some(b'-'))
+}
+
+/// What `audit` with a job and nothing else asks for: the command that is asked for most. `clap` would answer the same,
+/// and a small job would wait longer for that than it is audited.
+fn audit_of<'a>(words: &'a [&'a str]) -> Option<Asked<'a>>
+    ensures { IfSome result (Asks (subcommand_of hsaq_app (map (λ w. w.now) words.entry.now))) }
+{
+    if words.len() != 2 {
+        return None;
+    }
+    let job = words[1];
+    if words[0] == "audit" && !may_be_option(job) {
+        Some(Asked::Audit { job })
+    } else {
+        None
+    }
+}
+
+/// What is asked for by words.
+fn asked_of<'a>(alloc: Global, words: &'a [&'a str]) -> Result<Asked<'a>, WordsFault>
+    ensures asked { IfOk result (Asks (subcommand_of hsaq_app (map (λ w. w.now) words.entry.now))) }
+    ensures refused { IfErr result (λ f. IsWords f → takes hsaq_app (map (λ w. w.now) words.entry.now) ≢ true) }
+{
+    match audit_of(words) {
+        Some(asked) => Ok(asked),
+        None => asked_by_clap(alloc, words),
     }
 }
 
