@@ -7,16 +7,16 @@ SECTIONS
   .text.audit :
   {
     /* from the words of a command line to an answer */
-    *(.text.main .text.+threads* .text.hq_front* .text.hq_commands*audit* .text.hq_status* .text.hq_plain*explain*)
+    *(.text.main .text.+threads* .text.hq_front* .text.hq_commands*audit* .text.hq_judging*giving* .text.hq_status* .text.hq_plain*explain*)
     /* jobs read, their order, conflicts judged, certificates printed */
     *(.text.hq_text* .text.hq_lines* .text.hq_jobtext* .text.hq_tables* .text.hq_signals* .text.hq_packet* .text.hq_footprint*)
     *(.text.hq_job?:* .text.hq_bits* .text.hq_rows* .text.hq_waits* .text.hq_schedule* .text.hq_order* .text.hq_parts*)
     *(.text.hq_fence* .text.hq_derive* .text.hq_cert?:* .text.*hq_certtext* .text.hq_audit*)
     /* the libraries beneath */
-    *(.text.indexmap* .text.memchr* .text.*std_alloc* .text.core* .text.std?:*)
+    *(.text.indexmap* .text.memchr* .text.*std_alloc??vec* .text.core??cmp??slices* .text.core??str??utf8* .text.std??fs* .text.std??io*)
     *libos_c.a:*(.text .text.*) *liblibc_c.a:*(.text .text.*)
     /* the C library: how a program starts */
-    *crt1.o(.text) *libc.a:libc-start.o(.text .text.*) *libc.a:libc-tls.o(.text .text.*) *libc.a:libc_early_init.o(.text .text.*)
+    *crt1.o(.text) *crtbegin*.o(.text) *libc.a:libc-start.o(.text .text.*) *libc.a:libc-tls.o(.text .text.*) *libc.a:libc_early_init.o(.text .text.*)
     *libc.a:init-first.o(.text .text.*) *libc.a:init-misc.o(.text .text.*) *libc.a:get-cpuid-feature-leaf.o(.text .text.*)
     *libc.a:dl-tunables.o(.text .text.*) *libc.a:dl-support.o(.text .text.*) *libc.a:dl-early_allocate.o(.text .text.*)
     *libc.a:dl-tls.o(.text .text.*) *libc.a:dl-tls_init_tp.o(.text .text.*) *libc.a:dl-origin.o(.text .text.*)
