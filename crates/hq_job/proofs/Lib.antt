@@ -14,3 +14,4 @@ pub mod Options
 pub mod BlockRows
 pub mod AllHeads
 pub mod Rings
+pub mod InOrder

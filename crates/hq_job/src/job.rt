@@ -12,7 +12,7 @@ ghost use Rattle.hq_model.specs.Theorems.{Valid};
 
 use crate::heads;
 use crate::memory::memory_of;
-use crate::numbering::{by_number, submissions};
+use crate::numbering::{by_number, firsts_of, submissions};
 use crate::places::{number_at, span_of};
 use hq_packet::Head;
 use hq_signals::SignalTable;
@@ -20,6 +20,7 @@ use hq_tables::{Block, Kernel, Placed, Queue, Tables, byte_number};
 use hq_text::Name;
 use std::alloc::{AllocError, Global};
 use std::marker::Model;
+use std::mem;
 use std::ops::Range;
 
 /// A job that was read. Contracts see it as the value that its text describes; everything above the texts speaks of the
@@ -64,10 +65,12 @@ impl Job {
         requires exact { All (λ s. ¬ NeverReachesZero s) tables.signals }
         ensures { IfOk result (λ job. job ≡ job_of (tables_of tables)) }
     {
-        let (packets, firsts) = by_number(alloc, tables.queues.len(), &tables.placed)?;
+        let queues = tables.queues.len();
+        let firsts = firsts_of(alloc, queues, &tables.placed)?;
         let next = firsts.clone()?;
-        let submissions = submissions(alloc, tables.queues.len(), next, &tables.placed)?;
-        tables.placed = Vec::new(alloc);
+        let submissions = submissions(alloc, queues, next, &tables.placed)?;
+        let placed = mem::replace(&mut tables.placed, Vec::new(alloc));
+        let packets = by_number(alloc, queues, !tables.rings, placed)?;
         Ok(Job {
             tables,
             packets,

@@ -1,6 +1,6 @@
 //! Packets by number.
 
-ghost use Rattle.std.specs.Prelude.{◌≡◌, ◌+◌, ◌<◌, ◌≤◌, ◌++◌, length, map, All, IfOk, OnOk};
+ghost use Rattle.std.specs.Prelude.{◌≡◌, ◌+◌, ◌<◌, ◌≤◌, ◌++◌, length, map, All, AllPairs, IfOk, IsTrue, OnOk};
 ghost use Rattle.hq_job.specs.Numbering.{with_key, by_number, submissions_of};
 ghost use Rattle.hq_model.specs.Journal.{numbers};
 
@@ -20,23 +20,52 @@ fn push_queue(packets: &mut Vec<Placed>, queue: usize, placed: &[Placed]) -> Res
     Ok(())
 }
 
-#[tactic(auto, using(crate::proofs::Grouped::grouped_next, crate::proofs::Grouped::map_numbers_next))]
-/// The packets by number, and the number of the first packet of each queue.
+#[tactic(auto, using(crate::proofs::Grouped::grouped_next))]
+/// The packets by number. Where they stand queue by queue, they stand so already, and aren't copied.
 pub fn by_number(
     alloc: Global,
     queues: usize,
-    placed: &[Placed],
-) -> Result<(Vec<Placed>, Vec<usize>), AllocError>
-    ensures packets { IfOk result (λ r. r.0.items ≡ by_number queues placed.now) }
-    ensures firsts { IfOk result (λ r. r.1.items ≡ map (λ q. length (by_number q placed.now)) (numbers queues)) }
+    in_order: bool,
+    placed: Vec<Placed>,
+) -> Result<Vec<Placed>, AllocError>
+    requires rises { IsTrue in_order → AllPairs (λ p r. p.queue ≤ r.queue) placed.items }
+    requires below { All (λ p. p.queue < queues) placed.items }
+    ensures { IfOk result (λ packets. packets.items ≡ by_number queues placed.items) }
 {
-    let mut packets = Vec::with_capacity(alloc, placed.len())?;
-    let mut firsts = Vec::with_capacity(alloc, queues)?;
-    for queue in 0..queues {
-        firsts.push(packets.len())?;
-        push_queue(&mut packets, queue, placed)?;
+    if in_order {
+        return Ok(placed);
     }
-    Ok((packets, firsts))
+    let mut packets = Vec::with_capacity(alloc, placed.len())?;
+    for queue in 0..queues {
+        push_queue(&mut packets, queue, &placed)?;
+    }
+    Ok(packets)
+}
+
+/// How many packets stand in a queue.
+fn count_of(placed: &[Placed], queue: usize) -> usize
+    ensures { result ≡ length (with_key (λ p. p.queue) placed.now queue) }
+{
+    placed
+        .iter()
+        .filter(|packet| packet.queue as usize == queue)
+        .count()
+}
+
+#[tactic(auto, using(crate::proofs::Grouped::grouped_next, crate::proofs::Grouped::map_numbers_next))]
+/// The number of the first packet of each queue.
+pub fn firsts_of(alloc: Global, queues: usize, placed: &[Placed]) -> Result<Vec<usize>, AllocError>
+    requires { length placed.now ≤ PACKETS }
+    ensures { IfOk result
+        (λ firsts. firsts.items ≡ map (λ q. length (by_number q placed.now)) (numbers queues)) }
+{
+    let mut firsts = Vec::with_capacity(alloc, queues)?;
+    let mut first = 0;
+    for queue in 0..queues {
+        firsts.push(first)?;
+        first += count_of(placed, queue);
+    }
+    Ok(firsts)
 }
 
 /// The numbers of the packets in the order of their lines, by the number of the first packet of each queue.
