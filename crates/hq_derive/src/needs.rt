@@ -11,7 +11,7 @@ use std::alloc::{AllocError, Global};
 
 /// The place of r's word in the row of p.
 #[inline(always)]
-pub fn place_of(p: usize, r: usize) -> usize
+fn place_of(p: usize, r: usize) -> usize
     ensures { p < WIDTH → r < WIDTH → result ≡ (p * WIDTH + r) / 64 }
 {
     p.wrapping_mul(WORDS).wrapping_add(r / 64)

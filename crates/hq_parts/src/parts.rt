@@ -205,7 +205,7 @@ fn drop_apart_of(row: &mut [u64], touches: &[Touch], a: usize, first: usize, wor
     }
 }
 
-/// Takes the packets above a out of a row that are apart from a: those below it look at a themselves.
+/// Takes the packets from a on out of a row that are apart from a: those below it look at a themselves.
 fn drop_apart(row: &mut [u64], touches: &[Touch], a: usize)
     requires row { length row.old ≡ WORDS }
     requires few { length touches.now ≤ WIDTH }
