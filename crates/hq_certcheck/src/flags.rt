@@ -1,7 +1,7 @@
 //! Which kinds of conflict of which packets have pair lines, as bits: for each packet a row for each kind, in which the
 //! bits are the packets behind it in the pair line. Until there is a pair line there are no rows.
 
-ghost use Rattle.std.specs.Prelude.{◌≡◌, ℕ, ◌+◌, ◌*◌, ◌<◌, ◌≤◌, ◌⊎◌, [], ◌++◌, List, OnOk, map, length};
+ghost use Rattle.std.specs.Prelude.{◌≡◌, ℕ, ◌+◌, ◌*◌, ◌<◌, ◌≤◌, ◌⊎◌, [], ◌++◌, List, OnOk, OnErr, map, length};
 ghost use Rattle.hq_cert.specs.View.{pair_of, fences_of};
 ghost use Rattle.hq_bits.specs.Bits.{has};
 ghost use Rattle.hq_model.specs.Fence.{Conflict};
@@ -103,6 +103,7 @@ pub fn mark_all(
     ensures marked { OnOk result
         ((before : List model.Pair) → AreListed before count flags.old.items
         → AreListed (before ++ map pair_of pairs.now) count flags.new.items) }
+    ensures unmarked { OnErr result ((p : ℕ) → has flags.new.items p ≡ has flags.old.items p) }
 {
     if pairs.is_empty() {
         return Ok(());

@@ -184,8 +184,8 @@ impl Seen {
         self.bad_pair
     }
 
-    /// Which kinds of conflict of which packets have pair lines: a row of bits for each packet and kind, or no row where
-    /// there are no pair lines.
+    /// Which kinds of conflict of which packets have pair lines: a row of bits for each packet and kind, or no rows,
+    /// where there are no pair lines.
     pub(crate) fn flags(&self) -> &[u64]
         ensures flags { result.now ≡ self.now.flags }
         ensures rows { HasRows self.now.count result.now }

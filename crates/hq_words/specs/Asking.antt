@@ -1,6 +1,7 @@
 -- What the words of a command line ask for.
 use Rattle.std.specs.Prelude.{◌≡◌, Bool, false, List, [], ◌∷◌, Option, Some, None, codes, map, option_map}
 use Rattle.std.specs.Str.{bytes_eq}
+use Rattle.clap.specs.Lexer.{strip_byte}
 use Rattle.clap.specs.Words.{Row, Text, all_of, first_of, subcommand_of}
 use Rattle.hq_words.specs.Commands.{hsaq_app}
 use Rattle.hq_words.specs.declared.words.Asked.{Asked}
@@ -84,6 +85,11 @@ AsksFor name rows (Trim a) = AsksOf name rows (Trim a)
 abbrev pub Asks : Option (Text × List Row) → Asked → Type 0
 Asks None asked = ⊥
 Asks (Some (name, rows)) asked = AsksFor name rows asked
+
+-- The words are `audit` and a job that is no option, since it doesn't begin with a hyphen (byte 45), and no others.
+abbrev pub AuditsAlone : List Text → Type 0
+AuditsAlone (name ∷ job ∷ []) = (name ≡ codes "audit") × (strip_byte 45 job ≡ None)
+AuditsAlone _ = ⊥
 
 -- The fault is what `clap` says of the words.
 abbrev pub IsWords : WordsFault → Type 0

@@ -1,10 +1,12 @@
 //! What the words of a command line ask for.
 
-ghost use Rattle.std.specs.Prelude.{◌≡◌, ◌≢◌, [], Some, None, true, false, codes, map, option_map, IfOk, IfErr, IfSome};
+ghost use Rattle.std.specs.Prelude.{◌≡◌, ◌≢◌, [], Some, true, codes, map, option_map, is_some};
+ghost use Rattle.std.specs.Prelude.{IfOk, IfErr, IfSome, IsSome};
 ghost use Rattle.clap.specs.Lexer.{strip_byte};
 ghost use Rattle.clap.specs.Words.{all_of, found_of, rows_of, subcommand_of, subcommand_rows_of, takes};
 ghost use Rattle.hq_words.specs.Commands.{hsaq_app};
-ghost use Rattle.hq_words.specs.Asking.{Asks, AsksAlone, AsksFor, AsksOfTwo, AsksWith, AsksWords, is_set, IsWords};
+ghost use Rattle.hq_words.specs.Asking.{Asks, AsksAlone, AsksFor, AsksOfTwo, AsksWith, AsksWords, AuditsAlone, is_set};
+ghost use Rattle.hq_words.specs.Asking.{IsWords};
 
 use crate::command::{hsaq, hsaq_alone};
 use clap::error::ErrorKind;
@@ -317,7 +319,7 @@ fn asked_by_clap<'a>(alloc: Global, words: &'a [&'a str]) -> Result<Asked<'a>, W
 
 /// Whether `clap` may take a word for an option: it begins with a hyphen.
 fn may_be_option(word: &str) -> bool
-    ensures { result ≡ false → strip_byte 45 word.now ≡ None }
+    ensures { result ≡ is_some (strip_byte 45 word.now) }
 {
     matches!(word.as_bytes().first(), Some(b'-'))
 }
@@ -325,7 +327,8 @@ fn may_be_option(word: &str) -> bool
 /// What `audit` with a job and nothing else asks for: the command that is asked for most. `clap` would answer the same,
 /// and a small job would wait longer for that than it is audited.
 fn audit_of<'a>(words: &'a [&'a str]) -> Option<Asked<'a>>
-    ensures { IfSome result (Asks (subcommand_of hsaq_app (map (λ w. w.now) words.entry.now))) }
+    ensures asked { IfSome result (Asks (subcommand_of hsaq_app (map (λ w. w.now) words.entry.now))) }
+    ensures told { AuditsAlone (map (λ w. w.now) words.entry.now) → IsSome result }
 {
     if words.len() != 2 {
         return None;
