@@ -57,18 +57,6 @@ fn direct_from(before: &Before, p: usize, r: usize, kinds: Kinds) -> Result<Dire
     }
 }
 
-/// How r conflicts with p, where it is known how p conflicts with r.
-fn turned(before: &Before, p: usize, r: usize, kinds: Kinds) -> Kinds
-    requires { HasConflicts before.now p r kinds }
-    ensures { HasConflicts before.now r p result }
-{
-    Kinds {
-        wr: kinds.rw,
-        ww: kinds.ww,
-        rw: kinds.wr,
-    }
-}
-
 /// The direction in which a and b are ordered, or what isn't in the direction that is told of.
 ///
 /// # Errors
@@ -91,7 +79,7 @@ pub fn direct_kinds(before: &Before, a: usize, b: usize, kinds: Kinds) -> Result
     ensures { MatchResult result (λ d. IsDirected before.now a b d) (λ u. IsUnshown before.now a b u) }
 {
     if before.holds(b, a) {
-        direct_from(before, b, a, turned(before, a, b, kinds))
+        direct_from(before, b, a, kinds.turned())
     } else {
         direct_from(before, a, b, kinds)
     }
@@ -105,7 +93,7 @@ fn turned_at_once(before: &Before, a: usize, b: usize, kinds: Kinds) -> Option<D
     requires kinds { HasConflicts before.now a b kinds }
     ensures { IfSome result (IsDirected before.now a b) }
 {
-    let shown = judge_at_once(before, b, a, turned(before, a, b, kinds))?;
+    let shown = judge_at_once(before, b, a, kinds.turned())?;
     Some(Directed {
         first: b,
         second: a,

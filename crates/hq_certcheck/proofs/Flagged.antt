@@ -52,9 +52,6 @@ place_apart p r q s a b l m e =
 
 -- ---- no flags
 
-pub no_rows : (n : ℕ) → has [] n ≡ false
-no_rows n = past [] n (omega arith)
-
 pub no_flag : (words n : ℕ) → has (replicate words 0) n ≡ false
 no_flag words n = elim (cases_lt (n / 64) words) [
   | inl low ↦ ap (λ w. bit_at w (n % 64) == 1) (get_or-replicate words (n / 64) 0 0 low) ∙ ap (λ b. b == 1) (bit_at-zero (n % 64))

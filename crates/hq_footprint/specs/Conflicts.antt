@@ -17,6 +17,10 @@ pub record HasKinds (first second : Footprint) (kinds : Kinds) : Type 0 where
   pub ww : IsTrue kinds.ww ↔ Share (written_bytes first) (written_bytes second)
   pub rw : IsTrue kinds.rw ↔ Share (read_entries first) (written_bytes second)
 
+-- the same flags with the second footprint first
+abbrev pub turned : Kinds → Kinds
+turned kinds = record { wr = kinds.rw; ww = kinds.ww; rw = kinds.wr }
+
 -- Both ranges have bytes, and each begins before the other ends.
 pub record Overlap (r s : Range) : Type 0 where
   pub some_byte : 0 < r.len

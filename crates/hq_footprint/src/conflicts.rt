@@ -3,7 +3,7 @@
 ghost use Rattle.std.specs.Prelude.{◌≡◌, ◌↔◌, ◌||◌, Any, IsTrue, IsSome, IfSome};
 ghost use Rattle.std.specs.List.{flat_map};
 ghost use Rattle.hq_footprint.specs.Bytes.{bytes_of, Share};
-ghost use Rattle.hq_footprint.specs.Conflicts.{Conflict, HasKinds};
+ghost use Rattle.hq_footprint.specs.Conflicts.{Conflict, HasKinds, turned};
 
 use crate::footprint::{Footprint, Range};
 
@@ -24,6 +24,18 @@ impl Kinds {
         ensures { result ≡ (self.wr || self.ww || self.rw) }
     {
         self.wr || self.ww || self.rw
+    }
+
+    /// How the second conflicts with the first.
+    #[inline(always)]
+    pub fn turned(self) -> Kinds
+        ensures { result ≡ turned self }
+    {
+        Kinds {
+            wr: self.rw,
+            ww: self.ww,
+            rw: self.wr,
+        }
     }
 }
 

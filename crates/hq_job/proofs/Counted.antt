@@ -1,19 +1,23 @@
--- Counters that give each place of a list its number among the grouped, as they go along it.
-use Rattle.std.proofs.Common.{◌≡◌, ℕ, ◌+◌, ◌<◌, inl, inr, List, length, refl, sym, ◌∙◌, ap, subst, arith, cond, ◌==◌, Some, slice_get, slice_index, slice_index_or, slice_set, All, map, take}
+-- Counters, one for each key, as they go along a list: they count from the numbers that they begin with.
+use Rattle.std.proofs.Common.{◌≡◌, ℕ, ◌+◌, ◌<◌, ◌≤◌, inl, inr, List, length, refl, sym, ◌∙◌, ap, subst, arith, cond, ◌==◌, Some, slice_get, slice_index, slice_index_or, slice_set, All, map, take, length-append}
 use Rattle.std.proofs.lemmas.Bool.{cases_eq, cond-true, cond-false, eq-eqb, ne_eqb}
-use Rattle.std.proofs.lemmas.List.{get_or-map, length-map, get_or-set_other, length-set}
+use Rattle.std.proofs.lemmas.List.{get_or-map, length-map, length-take, get_or-set_other, length-set}
 use Rattle.std.proofs.lemmas.List.Filters.{length-filter_more}
 use Rattle.std.proofs.lemmas.Grind.{get_or-set_at, get_or_default_zero}
 use Rattle.std.proofs.lemmas.Option.{slice_get_read}
 use Rattle.hq_model.specs.Journal.{numbers}
 use Rattle.hq_model.proofs.Places.{length_numbers, number_at}
 use Rattle.hq_job.specs.Numbering.{with_key, grouped, number_of}
-use Rattle.hq_job.proofs.Grouped.{key_at, number_below, grouped_most}
+use Rattle.hq_job.proofs.Grouped.{key_at, number_below, grouped_most, grouped_next}
 
 -- of the first i
-pub record Counted {X : Type 0} (key : X → ℕ) (n : ℕ) (xs : List X) (i : ℕ) (next : List ℕ) : Type 0 where
+pub record CountedFrom {X : Type 0} (base : ℕ → ℕ) (key : X → ℕ) (n : ℕ) (xs : List X) (i : ℕ) (next : List ℕ) : Type 0 where
   pub count : length next ≡ n
-  pub each : (q : ℕ) → q < n → slice_index next q ≡ length (grouped key q xs) + length (with_key key (take i xs) q)
+  pub each : (q : ℕ) → q < n → slice_index next q ≡ base q + length (with_key key (take i xs) q)
+
+-- of counters that give each place of the list its number among the grouped
+abbrev pub Counted : {X : Type 0} → (X → ℕ) → ℕ → List X → ℕ → List ℕ → Type 0
+Counted key n xs i next = CountedFrom (λ q. length (grouped key q xs)) key n xs i next
 
 pub counted_none : {X : Type 0} (key : X → ℕ) (n : ℕ) (xs : List X) (next : List ℕ) → next ≡ map (λ q. length (grouped key q xs)) (numbers n) → Counted key n xs 0 next
 counted_none key n xs next e =
@@ -36,9 +40,19 @@ number_few key n xs i x l at low =
     let there : slice_get xs i ≡ Some x = slice_get_read xs (length xs) i x refl l at in
     omega (arith, number_below key n xs i x there low, grouped_most key n xs)
 
+-- of each key there are no more than all
+pub keyed_most : {X : Type 0} (key : X → ℕ) (xs : List X) (q : ℕ) → length (with_key key xs q) ≤ length xs
+keyed_most key xs q = omega (arith, ap length (grouped_next key q xs), length-append (grouped key q xs) (with_key key xs q), grouped_most key (q + 1) xs)
+
+-- a counter that counts from 0 is small
+pub counted_few : {X : Type 0} (key : X → ℕ) (n : ℕ) (xs : List X) (i : ℕ) (next : List ℕ) (q v : ℕ) → CountedFrom (λ _. 0) key n xs i next → q < n → v ≡ slice_index_or next q v → v ≤ length xs
+counted_few key n xs i next q v c low read =
+    let is : v ≡ slice_index next q = read ∙ get_or_default_zero next q v (omega (arith, c.count)) in
+    omega (arith, is, c.each q low, keyed_most key (take i xs) q, length-take i xs)
+
 -- one place further
-pub counted_more : {X : Type 0} (key : X → ℕ) (n : ℕ) (xs : List X) (i : ℕ) (next : List ℕ) (x : X) (v : ℕ) → Counted key n xs i next → i < length xs → x ≡ slice_index_or xs i x → key x < n → v ≡ slice_index_or next (key x) v → Counted key n xs (i + 1) (slice_set next (key x) (v + 1))
-counted_more key n xs i next x v c l at low read =
+pub counted_more : {X : Type 0} (base : ℕ → ℕ) (key : X → ℕ) (n : ℕ) (xs : List X) (i : ℕ) (next : List ℕ) (x : X) (v : ℕ) → CountedFrom base key n xs i next → i < length xs → x ≡ slice_index_or xs i x → key x < n → v ≡ slice_index_or next (key x) v → CountedFrom base key n xs (i + 1) (slice_set next (key x) (v + 1))
+counted_more base key n xs i next x v c l at low read =
     record {
       count = length-set next (key x) (v + 1) ∙ c.count;
       each = λ q below.

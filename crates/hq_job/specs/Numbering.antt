@@ -1,5 +1,5 @@
 -- The numbers of packets.
-use Rattle.std.specs.Prelude.{ℕ, ◌+◌, List, map, filter, take, length, slice_index, ◌==◌}
+use Rattle.std.specs.Prelude.{◌≡◌, ℕ, ◌+◌, ◌<◌, List, map, filter, take, length, slice_index, ◌==◌}
 use Rattle.std.specs.List.{flat_map}
 use Rattle.hq_tables.specs.declared.rows.Placed.{Placed}
 use Rattle.hq_model.specs.Journal.{numbers}
@@ -11,6 +11,11 @@ with_key key xs q = filter (λ x. key x == q) xs
 -- those with key 0, then those with key 1, and so on up to n - 1
 abbrev pub grouped : {X : Type 0} → (X → ℕ) → ℕ → List X → List X
 grouped key n xs = flat_map (with_key key xs) (numbers n)
+
+-- how many of a list have each key below n
+pub record CountEach {X : Type 0} (key : X → ℕ) (n : ℕ) (xs : List X) (counts : List ℕ) : Type 0 where
+  pub width : length counts ≡ n
+  pub each : (q : ℕ) → q < n → slice_index counts q ≡ length (with_key key xs q)
 
 -- where the k-th of a list stands among the grouped: behind those of lesser keys, and those of its key ahead of it
 abbrev pub number_of : {X : Type 0} → (X → ℕ) → List X → ℕ → ℕ

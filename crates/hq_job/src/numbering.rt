@@ -1,7 +1,7 @@
 //! Packets by number.
 
 ghost use Rattle.std.specs.Prelude.{◌≡◌, ◌+◌, ◌<◌, ◌≤◌, ◌++◌, length, map, All, AllPairs, IfOk, IsTrue, OnOk};
-ghost use Rattle.hq_job.specs.Numbering.{with_key, by_number, submissions_of};
+ghost use Rattle.hq_job.specs.Numbering.{with_key, by_number, submissions_of, CountEach};
 ghost use Rattle.hq_model.specs.Journal.{numbers};
 
 use hq_model::PACKETS;
@@ -42,28 +42,31 @@ pub fn by_number(
     Ok(packets)
 }
 
-/// How many packets stand in a queue.
-fn count_of(placed: &[Placed], queue: usize) -> usize
-    ensures { result ≡ length (with_key (λ p. p.queue) placed.now queue) }
+/// How many packets stand in each queue.
+fn counts_of(alloc: Global, queues: usize, placed: &[Placed]) -> Result<Vec<usize>, AllocError>
+    requires below { All (λ p. p.queue < queues) placed.now }
+    requires few { length placed.now ≤ PACKETS }
+    ensures { IfOk result (λ counts. CountEach (λ p. p.queue) queues placed.now counts.items) }
 {
-    placed
-        .iter()
-        .filter(|packet| packet.queue as usize == queue)
-        .count()
+    let mut counts = Vec::from_elem(alloc, 0, queues)?;
+    for packet in placed {
+        counts[packet.queue as usize] += 1;
+    }
+    Ok(counts)
 }
 
-#[tactic(auto, using(crate::proofs::Grouped::grouped_next, crate::proofs::Grouped::map_numbers_next))]
 /// The number of the first packet of each queue.
 pub fn firsts_of(alloc: Global, queues: usize, placed: &[Placed]) -> Result<Vec<usize>, AllocError>
-    requires { length placed.now ≤ PACKETS }
+    requires below { All (λ p. p.queue < queues) placed.now }
+    requires few { length placed.now ≤ PACKETS }
     ensures { IfOk result
         (λ firsts. firsts.items ≡ map (λ q. length (by_number q placed.now)) (numbers queues)) }
 {
     let mut firsts = Vec::with_capacity(alloc, queues)?;
     let mut first = 0;
-    for queue in 0..queues {
+    for count in &counts_of(alloc, queues, placed)? {
         firsts.push(first)?;
-        first += count_of(placed, queue);
+        first += *count;
     }
     Ok(firsts)
 }

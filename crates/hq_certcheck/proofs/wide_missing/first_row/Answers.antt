@@ -1,4 +1,4 @@
-use Rattle.std.proofs.Common.{◌≡◌, ◌<◌, ◌-◌, ◌*◌, ℕ, length, ap, subst, sym, ◌∙◌, arith, MatchOption}
+use Rattle.std.proofs.Common.{◌≡◌, ◌<◌, ◌-◌, ℕ, length, ap, subst, sym, ◌∙◌, arith, MatchOption}
 use Rattle.std.specs.List.{range_with_len, AllZip}
 use Rattle.rayon.specs.Lists.{range_start, range_end}
 use Rattle.rayon.specs.Numbers.{nat_range}

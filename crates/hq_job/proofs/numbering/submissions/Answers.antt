@@ -1,5 +1,5 @@
 use Rattle.std.proofs.Common.{rules, ◌≡◌, ◌<◌, ◌++◌, [], ◌∷◌, map, length, sym, ◌∙◌, ap, arith}
-use Rattle.hq_job.specs.Numbering.{number_of}
+use Rattle.hq_job.specs.Numbering.{by_number, number_of}
 use Rattle.hq_model.specs.Journal.{numbers}
 use Rattle.hq_job.proofs.Counted.{counted_none, counted_number, counted_more, number_few, all_here}
 use Rattle.hq_job.proofs.Grouped.{map_numbers_next}
@@ -27,6 +27,6 @@ loop-packet-preserved c =
     let low : c.packet-item.result.queue < c.args.queues = all_here (λ p. p.queue < c.args.queues) c.args.placed.now c.loop-packet.packet-index c.packet-item.result c.requires.below c.loop-packet-test.true c.packet-item.is in
     let is : c.index.result.now ≡ number_of (λ p. p.queue) c.args.placed.now c.loop-packet.packet-index = counted_number (λ p. p.queue) c.args.queues c.args.placed.now c.loop-packet.packet-index c.loop-packet.next.items c.packet-item.result c.index.result.now c.loop-packet.invariant.counted c.loop-packet-test.true c.packet-item.is low c.index.ensures in
     record {
-      counted = counted_more (λ p. p.queue) c.args.queues c.args.placed.now c.loop-packet.packet-index c.loop-packet.next.items c.packet-item.result c.index_mut.result.now c.loop-packet.invariant.counted c.loop-packet-test.true c.packet-item.is low c.index_mut.ensures.value;
+      counted = counted_more (λ q. length (by_number q c.args.placed.now)) (λ p. p.queue) c.args.queues c.args.placed.now c.loop-packet.packet-index c.loop-packet.next.items c.packet-item.result c.index_mut.result.now c.loop-packet.invariant.counted c.loop-packet-test.true c.packet-item.is low c.index_mut.ensures.value;
       numbers = c.in_ok-push.ensures.items ∙ ap (λ ys. ys ++ c.index.result.now ∷ []) c.loop-packet.invariant.numbers ∙ ap (λ v. map (number_of (λ p. p.queue) c.args.placed.now) (numbers c.loop-packet.packet-index) ++ v ∷ []) is ∙ sym (map_numbers_next (number_of (λ p. p.queue) c.args.placed.now) c.loop-packet.packet-index);
     }

@@ -1,4 +1,4 @@
-use Rattle.std.proofs.Common.{◌++◌, ap, sym, subst, ◌∙◌}
+use Rattle.std.proofs.Common.{ap, sym, subst}
 use Rattle.std.specs.Prelude.{map}
 use Rattle.hq_cert.specs.View.{pair_of}
 use Rattle.hq_certcheck.specs.Concluded.{bare}
