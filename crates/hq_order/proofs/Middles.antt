@@ -1,5 +1,5 @@
 -- The packets between two by lower rounds.
-use Rattle.std.proofs.Common.{◌≡◌, ℕ, zero, suc, ◌+◌, ◌-◌, ◌/◌, ◌<◌, ◌≤◌, ◌⊎◌, inl, inr, List, length, subst, arith, Option, Some, None}
+use Rattle.std.proofs.Common.{◌≡◌, ℕ, zero, suc, ◌-◌, ◌/◌, ◌<◌, ◌≤◌, ◌⊎◌, inl, inr, List, length, subst, arith, Option, Some, None}
 use Rattle.std.specs.Prelude.{MatchOption, IfSome}
 use Rattle.std.specs.Global.{Vec}
 use Rattle.std.proofs.lemmas.Bool.{cases_lt}
@@ -68,12 +68,6 @@ pub found_low : (job : Job) (rounds : List (Vec (Vec ℕ))) (k p r : ℕ) (o : O
     → IfSome o (λ m. m < length job.packets)
 found_low job rounds k p r None a l h = tt
 found_low job rounds k p r (Some m) a l h = subst (λ n. m < n) (a.square k l).height (marked_below (matrix rounds k) p m h.first)
-
--- what is there in a round is there in the next
-pub rounds_grow : (job : Job) (rounds : List (Vec (Vec ℕ))) (k p r : ℕ) → AreRounds job rounds → k + 1 < length rounds → Marks (matrix rounds k) p r → Marks (matrix rounds (k + 1)) p r
-rounds_grow job rounds k p r a l m =
-    let low : k < length rounds = omega arith in
-    (a.exact (k + 1) p r l).1 (within_le job (k + 1) k p r (omega arith) ((a.exact k p r low).0 m))
 
 -- ---- numbers that are too large for a table
 

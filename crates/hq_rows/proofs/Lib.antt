@@ -7,3 +7,4 @@ pub mod Crossing
 pub mod Quartets
 pub mod Gathered
 pub mod Growth
+pub mod Exchanging

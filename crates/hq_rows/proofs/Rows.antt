@@ -1,5 +1,5 @@
 -- Rows of a matrix.
-use Rattle.std.proofs.Common.{◌≡◌, ◌↔◌, ℕ, zero, suc, ◌+◌, ◌<◌, ◌≤◌, ◌⊎◌, inl, inr, List, [], ◌∷◌, length, sym, ◌∙◌, ap, subst, arith, IsTrue, Bool, true, false, slice_index_or, map, take, drop, ◌++◌}
+use Rattle.std.proofs.Common.{◌≡◌, ◌↔◌, ℕ, zero, suc, ◌+◌, ◌<◌, ◌≤◌, ◌⊎◌, inl, inr, List, [], ◌∷◌, length, sym, ◌∙◌, ap, subst, arith, true, false, slice_index_or, map, take, drop, ◌++◌}
 use Rattle.std.proofs.lemmas.Grind.{common_steps}
 use Rattle.std.specs.Global.{Vec}
 use Rattle.std.proofs.lemmas.Bool.{cases_eq, cases_lt}
@@ -57,9 +57,6 @@ marked_below rows p m h = elim (cases_lt m (length rows)) [
       let none : row rows m ≡ [] = get_or_past (map (λ v. v.items) rows) m [] (omega (arith, length_plain rows)) in
       absurd (let x : true ≡ false = sym h ∙ ap (λ r. has r p) none ∙ past [] p (omega arith) in cc)
 ]
-
-pub from_none : (new old : Bool) (Q : Type 0) → IsTrue new ↔ (IsTrue old ⊎ Q) → old ≡ false → IsTrue new ↔ Q
-from_none new old Q h z = (λ n. elim (h.0 n) [ inl o ↦ absurd (let x : true ≡ false = sym o ∙ z in cc) | inr q ↦ q ], λ q. h.1 (inr q))
 
 pub no_row : (rows : List (Vec ℕ)) (r : ℕ) → length rows ≤ r → row rows r ≡ []
 no_row rows r l = get_or_past (map (λ v. v.items) rows) r [] (omega (arith, length_plain rows))

@@ -1,3 +1,4 @@
 pub mod Lists
 pub mod Matrix
+pub mod Turning
 pub mod Uniting

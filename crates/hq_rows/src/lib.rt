@@ -13,6 +13,7 @@ mod joining;
 mod reaching;
 mod skipping;
 mod tables;
+mod turning;
 
 pub use columns::{all_turned, between, row_of};
 pub use gathering::{Known, unions_if_many};

@@ -5,6 +5,6 @@ use Rattle.hq_rows.proofs.columns.all_turned.Given as goal
 abbrev pub invariant-loop-k : goal.invariant-loop-k
 invariant-loop-k l = record {
   last : l.last + 1 ≡ length l.rounds;
-  len : length l.tables.items ≡ l._k;
-  each : (k : ℕ) → k < l._k → Turned (matrix l.rounds k) (row l.tables.items k);
+  len : length l.tables.items ≡ l.k;
+  each : (k : ℕ) → k < l.k → Turned (matrix l.rounds k) (row l.tables.items k);
 }

@@ -1,8 +1,9 @@
-use Rattle.std.proofs.Common.{ℕ, ◌*◌, ◌<◌, ◌↔◌, ◌⊎◌, IsTrue, slice_index}
-use Rattle.hq_bits.specs.Bits.{has}
-use Rattle.hq_rows.specs.Matrix.{row}
-use Rattle.hq_rows.proofs.Crossing.{OfWord}
+use Rattle.std.proofs.Common.{◌≡◌, ◌≢◌, ℕ, ◌/◌, ◌<◌}
+use Rattle.hq_rows.specs.Turning.{IsPartTurned, word_of}
 use Rattle.hq_rows.proofs.columns.turn_place.Given as goal
 
-abbrev pub invariant-loop-r : goal.invariant-loop-r
-invariant-loop-r l = (x : ℕ) → IsTrue (has l.table x) ↔ (IsTrue (has l.fn.table x) ⊎ ((r : ℕ) × (r < l.r) × OfWord (slice_index (row l.rows r) l.place) (l.place * 64) r x))
+abbrev pub invariant-loop-part : goal.invariant-loop-part
+invariant-loop-part l = record {
+  done : (part : ℕ) → part < l.part → IsPartTurned l.rows l.place part l.table;
+  others : (p c : ℕ) → c < 16 → p / 64 ≢ l.place → word_of l.table p c ≡ word_of l.fn.table p c;
+}
