@@ -206,6 +206,16 @@ exchanged_still s mask k old new h one u = record {
   left = λ i l above. u.left i l (omega arith);
 }
 
+-- so it is for all numbers of digit 1 that follow each other
+pub exchanged_beyond : (s mask k n : ℕ) (old new : List ℕ) → IsHalf s mask → ((i : ℕ) → i < n → digit s (k + i) ≡ 1) → ExchangedUpto s k old new → ExchangedUpto s (k + n) old new
+exchanged_beyond s mask k zero old new h ones u = subst (λ m. ExchangedUpto s m old new) (omega arith) u
+exchanged_beyond s mask k (suc n) old new h ones u =
+    let next : k + n + 1 ≡ k + suc n = omega arith in
+    subst (λ m. ExchangedUpto s m old new) next (exchanged_still s mask (k + n) old new h (ones n (omega arith)) (exchanged_beyond s mask k n old new h (λ i l. ones i (omega arith)) u))
+
+pub next_group : (group s : ℕ) → group * 2 * s + s + s ≡ (group + 1) * 2 * s
+next_group group s = omega arith
+
 -- ---- digit after digit
 
 -- from the digit worth a step up, words and bits have exchanged all digits of their numbers
@@ -244,37 +254,37 @@ has_lower : (step mask : ℕ) → each_below 64 (λ j. bit_at mask j == 1 - digi
 has_lower step mask e j l = eqb-true (bit_at mask j) (1 - digit step j) (below_passes 64 (λ j. bit_at mask j == 1 - digit step j) e j l)
 
 pub half_32 : IsHalf 32 4294967295
-half_32 = record { some = omega arith; few = omega arith; bits = has_lower 32 4294967295 refl; up = λ j l e. (omega (arith, l, e), omega (arith, l, e)); down = λ j l e. (omega (arith, l, e), omega (arith, l, e)) }
+half_32 = record { some = omega arith; few = omega arith; bits = has_lower 32 4294967295 refl; up = λ j l e. (omega (arith, l, e), omega (arith, l, e)); down = λ j l e. (omega (arith, l, e), omega (arith, l, e)); low = λ g i l m. (omega (arith, l, m), omega (arith, l, m)); high = λ g i l m. omega (arith, l, m); all = omega arith }
 
 turns_32 : Turns 32 64
 turns_32 = record { inside = λ i j l m. omega (arith, l, m); turned = λ i j l m. omega (arith, l, m) }
 
 pub half_16 : IsHalf 16 281470681808895
-half_16 = record { some = omega arith; few = omega arith; bits = has_lower 16 281470681808895 refl; up = λ j l e. (omega (arith, l, e), omega (arith, l, e)); down = λ j l e. (omega (arith, l, e), omega (arith, l, e)) }
+half_16 = record { some = omega arith; few = omega arith; bits = has_lower 16 281470681808895 refl; up = λ j l e. (omega (arith, l, e), omega (arith, l, e)); down = λ j l e. (omega (arith, l, e), omega (arith, l, e)); low = λ g i l m. (omega (arith, l, m), omega (arith, l, m)); high = λ g i l m. omega (arith, l, m); all = omega arith }
 
 turns_16 : Turns 16 32
 turns_16 = record { inside = λ i j l m. omega (arith, l, m); turned = λ i j l m. omega (arith, l, m) }
 
 pub half_8 : IsHalf 8 71777214294589695
-half_8 = record { some = omega arith; few = omega arith; bits = has_lower 8 71777214294589695 refl; up = λ j l e. (omega (arith, l, e), omega (arith, l, e)); down = λ j l e. (omega (arith, l, e), omega (arith, l, e)) }
+half_8 = record { some = omega arith; few = omega arith; bits = has_lower 8 71777214294589695 refl; up = λ j l e. (omega (arith, l, e), omega (arith, l, e)); down = λ j l e. (omega (arith, l, e), omega (arith, l, e)); low = λ g i l m. (omega (arith, l, m), omega (arith, l, m)); high = λ g i l m. omega (arith, l, m); all = omega arith }
 
 turns_8 : Turns 8 16
 turns_8 = record { inside = λ i j l m. omega (arith, l, m); turned = λ i j l m. omega (arith, l, m) }
 
 pub half_4 : IsHalf 4 1085102592571150095
-half_4 = record { some = omega arith; few = omega arith; bits = has_lower 4 1085102592571150095 refl; up = λ j l e. (omega (arith, l, e), omega (arith, l, e)); down = λ j l e. (omega (arith, l, e), omega (arith, l, e)) }
+half_4 = record { some = omega arith; few = omega arith; bits = has_lower 4 1085102592571150095 refl; up = λ j l e. (omega (arith, l, e), omega (arith, l, e)); down = λ j l e. (omega (arith, l, e), omega (arith, l, e)); low = λ g i l m. (omega (arith, l, m), omega (arith, l, m)); high = λ g i l m. omega (arith, l, m); all = omega arith }
 
 turns_4 : Turns 4 8
 turns_4 = record { inside = λ i j l m. omega (arith, l, m); turned = λ i j l m. omega (arith, l, m) }
 
 pub half_2 : IsHalf 2 3689348814741910323
-half_2 = record { some = omega arith; few = omega arith; bits = has_lower 2 3689348814741910323 refl; up = λ j l e. (omega (arith, l, e), omega (arith, l, e)); down = λ j l e. (omega (arith, l, e), omega (arith, l, e)) }
+half_2 = record { some = omega arith; few = omega arith; bits = has_lower 2 3689348814741910323 refl; up = λ j l e. (omega (arith, l, e), omega (arith, l, e)); down = λ j l e. (omega (arith, l, e), omega (arith, l, e)); low = λ g i l m. (omega (arith, l, m), omega (arith, l, m)); high = λ g i l m. omega (arith, l, m); all = omega arith }
 
 turns_2 : Turns 2 4
 turns_2 = record { inside = λ i j l m. omega (arith, l, m); turned = λ i j l m. omega (arith, l, m) }
 
 pub half_1 : IsHalf 1 6148914691236517205
-half_1 = record { some = omega arith; few = omega arith; bits = has_lower 1 6148914691236517205 refl; up = λ j l e. (omega (arith, l, e), omega (arith, l, e)); down = λ j l e. (omega (arith, l, e), omega (arith, l, e)) }
+half_1 = record { some = omega arith; few = omega arith; bits = has_lower 1 6148914691236517205 refl; up = λ j l e. (omega (arith, l, e), omega (arith, l, e)); down = λ j l e. (omega (arith, l, e), omega (arith, l, e)); low = λ g i l m. (omega (arith, l, m), omega (arith, l, m)); high = λ g i l m. omega (arith, l, m); all = omega arith }
 
 turns_1 : Turns 1 2
 turns_1 = record { inside = λ i j l m. omega (arith, l, m); turned = λ i j l m. omega (arith, l, m) }

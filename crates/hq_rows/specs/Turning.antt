@@ -33,13 +33,18 @@ pub record ExchangedAt (step k : ℕ) (old new : List ℕ) : Type 0 where
   pub upper : (j : ℕ) → j < 64 → bit new (k + step) j ≡ bit old (with_digit step (k + step) j) (with_digit step j (k + step))
   pub others : (i : ℕ) → i ≢ k → i ≢ k + step → slice_index new i ≡ slice_index old i
 
--- The mask has the numbers below 64 whose digit is 0; the others are those, one step further.
+-- The mask has the numbers below 64 whose digit is 0; the others are those, one step further. From each second
+-- multiple of the step on as many as the step is have digit 0, and as many behind them 1.
 pub record IsHalf (step mask : ℕ) : Type 0 where
   pub some : 0 < step
   pub few : step < 64
   pub bits : (j : ℕ) → j < 64 → bit_at mask j ≡ 1 - digit step j
   pub up : (j : ℕ) → j < 64 → digit step j ≡ 0 → (j + step < 64) × (digit step (j + step) ≡ 1)
   pub down : (j : ℕ) → j < 64 → digit step j ≡ 1 → (step ≤ j) × (digit step (j - step) ≡ 0)
+  pub low : (group i : ℕ) → group < 32 / step → i < step
+      → (group * 2 * step + step + i < 64) × (digit step (group * 2 * step + i) ≡ 0)
+  pub high : (group i : ℕ) → group < 32 / step → i < step → digit step (group * 2 * step + step + i) ≡ 1
+  pub all : 64 ≤ 32 / step * 2 * step
 
 -- ---- rows and tables, a block at a time
 

@@ -48,8 +48,9 @@ fn exchange(block: &mut [u64; SIDE], step: usize, mask: u64)
     requires { IsHalf step mask }
     ensures { Exchanged step block.old block.new }
 {
-    for k in 0..SIDE {
-        if mask >> k & 1 == 1 {
+    for group in 0..SIDE / 2 / step {
+        let first = group * 2 * step;
+        for k in first..first + step {
             exchange_at(block, k, step, mask);
         }
     }
