@@ -85,9 +85,11 @@ same_look : (job : Job) (a b : State) (p slot : ℕ) → Agree job (packet job p
 same_look job a b p slot g may = record {
   signal = may.signal;
   dependency = may.dependency;
-  barrier = may.barrier;
-  launched = sym (g.phases p refl) ∙ may.launched;
-  fresh = sym (g.slots p slot refl) ∙ may.fresh;
+  unobserved = record {
+    barrier = may.unobserved.barrier;
+    launched = sym (g.phases p refl) ∙ may.unobserved.launched;
+    fresh = sym (g.slots p slot refl) ∙ may.unobserved.fresh;
+  };
 }
 
 pub same_may : (job : Job) (a b : State) (x : Entry) → Agree job (queue_of job x) a b → May job a x → May job b x

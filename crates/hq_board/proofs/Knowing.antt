@@ -20,8 +20,8 @@ use Rattle.hq_job.specs.Access.{AreOfQueue}
 use Rattle.hq_board.specs.declared.entry.View.{View}
 use Rattle.hq_board.specs.Rule.{newcomer}
 use Rattle.hq_board.specs.declared.known.Known.{Known}
-use Rattle.hq_board.specs.History.{after, MayLook}
-use Rattle.hq_board.specs.Known.{AllObserved, OneObserved, Over, BitLets, IsHeld, IsOpen, IsOwn, IsReady, Tied, is_done, log_of, phase_at}
+use Rattle.hq_board.specs.History.{after, IsOpen, MayLook}
+use Rattle.hq_board.specs.Known.{AllObserved, OneObserved, Over, BitLets, IsHeld, IsOwn, IsReady, Tied, is_done, log_of, phase_at}
 
 -- ---- lists of phases of which only the first n may be complete
 
@@ -187,7 +187,7 @@ pub looks_own : (job : Job) (known : Known) (p slot : ℕ) → Tied job known �
 looks_own job known p slot t q may = own_place job known p t may.dependency.is_packet q
 
 pub looks_if : (job : Job) (known : Known) (p slot s : ℕ) → Dependency job p slot s → IsOpen job (after job (log_of known)) p slot → MayLook job (after job (log_of known)) p slot
-looks_if job known p slot s d o = record { signal = s; dependency = d; barrier = o.barrier; launched = o.launched; fresh = o.fresh }
+looks_if job known p slot s d o = record { signal = s; dependency = d; unobserved = o }
 
 -- ---- a queue that has done nothing
 

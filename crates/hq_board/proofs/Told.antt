@@ -91,10 +91,10 @@ module _ (job : Job) (known old : State) (same : SameProgress known old) where
           (
             may.signal,
             may.dependency,
-            may.barrier,
-            ap (λ f. f p) same.phase ∙ may.launched,
+            may.unobserved.barrier,
+            ap (λ f. f p) same.phase ∙ may.unobserved.launched,
             ap (λ f. f may.signal) same.signal ∙ sees may.signal may.dependency,
-            ap (λ f. f p slot) same.observed ∙ may.fresh,
+            ap (λ f. f p slot) same.observed ∙ may.unobserved.fresh,
             refl,
           ),
           refl,

@@ -31,13 +31,17 @@ abbrev pub after : Job → List Entry → State
 after job [] = start job
 after job (x ∷ log) = next job (after job log) x
 
--- p is a launched barrier packet, and has not observed the signal of this slot.
-pub record MayLook (job : Job) (state : State) (p slot : ℕ) : Type 0 where
-  pub signal : ℕ
-  pub dependency : Dependency job p slot signal
+-- p is a launched barrier packet that hasn't observed the slot
+pub record IsOpen (job : Job) (state : State) (p slot : ℕ) : Type 0 where
   pub barrier : IsBarrier job p
   pub launched : state.phase p ≡ Launched
   pub fresh : state.observed p slot ≡ false
+
+-- It is so, and the slot waits for a signal.
+pub record MayLook (job : Job) (state : State) (p slot : ℕ) : Type 0 where
+  pub signal : ℕ
+  pub dependency : Dependency job p slot signal
+  pub unobserved : IsOpen job state p slot
 
 -- The entry may come next, as far as its own queue decides.
 abbrev pub May : Job → State → Entry → Type 0
@@ -68,12 +72,13 @@ abbrev pub part : Job → ℕ → List Entry → List Entry
 part job q [] = []
 part job q (x ∷ log) = if queue_of job x == q then x ∷ part job q log else part job q log
 
--- how much an entry adds to its queue's word
+-- 1 for a completion on no signal, 0 for one on a signal
 abbrev pub without_signal : Option ℕ → ℕ
 without_signal None = 1
 without_signal (Some s) = 0
 
--- 1 for a launch, for an entry, and for a completion on no signal, and else 0
+-- how much an entry adds to its queue's word: 1 for a launch, for an entry, and for a completion on no signal, and
+-- else 0
 abbrev pub own_step : Job → Entry → ℕ
 own_step job (DidLaunch p) = 1
 own_step job (DidObserve p slot) = 0

@@ -86,9 +86,3 @@ abbrev pub Over : Kind → List (Option ℕ) → List Bool → Type 0
 Over Work deps observed = Unit {0}
 Over BarrierAnd deps observed = AllObserved deps observed
 Over BarrierOr deps observed = OneObserved deps observed
-
--- p is a launched barrier packet that hasn't observed the slot
-pub record IsOpen (job : Job) (state : machine.State) (p slot : ℕ) : Type 0 where
-  pub barrier : IsBarrier job p
-  pub launched : state.phase p ≡ machine.Phase.Launched
-  pub fresh : state.observed p slot ≡ false

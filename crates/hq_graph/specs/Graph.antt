@@ -94,7 +94,7 @@ kernel_at kernels (Some place) = slice_get kernels place
 abbrev pub kernel_of : JobValue → ℕ → Option Kernel
 kernel_of job object = kernel_at job.kernels (kernel_place job.kernels object)
 
--- what a packet does: which kernel, which service
+-- what a kernel packet does: which kernel it launches, where the job has it
 abbrev pub work_of_kernel : Option Kernel → Work
 work_of_kernel None = work.Nothing
 work_of_kernel (Some k) = work.Kernel k.name

@@ -40,7 +40,7 @@ pub record HallValue : Type 0 where
   pub out : List Grant
   pub home : TrayValue
 
--- the job as numbers, its run, and the state of the definitions
+-- the job as the definitions have it
 abbrev pub job_of : HallValue → Job
 job_of hall = plan hall.job.job
 

@@ -203,7 +203,7 @@ fn check_read<S: Read, W: Write>(
     }
 }
 
-/// Reads a job and then a certificate, and writes whether the certificate holds for the job, as `check_wide`
+/// Reads a job and then a certificate, and writes whether the certificate holds for the job, as `check_seen_wide`
 /// answers it. A fault of the job is written first. Nothing is written before the last growth of memory. Lines and pair
 /// lines are checked as they come, and not kept.
 pub fn check_engine<R: Read, S: Read, W: Write>(

@@ -48,7 +48,7 @@ fn check_read<S: Read, W: Write>(
 }
 
 /// Reads a job and then a certificate, and writes whether the certificate holds for the job, as `check_engine`
-/// does, but checks it on the caller's thread, by `check`.
+/// does, but checks it on the caller's thread, by `check_seen`.
 pub fn check_alone_engine<R: Read, S: Read, W: Write>(
     alloc: Global,
     reader: &mut R,

@@ -80,14 +80,16 @@ put2_none f p i x j n = elim (cases_eq j i) [
 ]
 
 read_asks : (job : Job) (p : ℕ) (s new : State) (i : ℕ) → Step job s (Read p i) new → MayRead job s p i
-read_asks job p s new i step = record { is_packet = step.0; active = step.1; few = step.2; fresh = step.3 }
+read_asks job p s new i step = record { unread = record { is_packet = step.0; active = step.1; fresh = step.3 }; few = step.2 }
 
 read_back : (job : Job) (p : ℕ) (s mid : State) (i j : ℕ) → Step job s (Read p i) mid → MayRead job mid p j → MayRead job s p j
 read_back job p s mid i j (there, active, few, fresh, is) may = record {
-  is_packet = there;
-  active = active;
+  unread = record {
+    is_packet = there;
+    active = active;
+    fresh = put2_none s.read p i (lane_sees job s p (slice_index (packet job p).reads i)) j (sym (ap (λ (x : State). x.read p j) is) ∙ may.unread.fresh);
+  };
   few = may.few;
-  fresh = put2_none s.read p i (lane_sees job s p (slice_index (packet job p).reads i)) j (sym (ap (λ (x : State). x.read p j) is) ∙ may.fresh);
 }
 
 pub fetch_needs : (job : Job) (v : StateValue) (p : ℕ) → Possible job v (Fetch p) → MayFetch job (state_of job v) p
@@ -109,10 +111,10 @@ same_reads v p row high same q j = elim (cases_eq q p) [
 pub fetched_first : (job : Job) (v : StateValue) (p : ℕ) (row : List (Option ℕ)) → IsStateOf job v → MayFetch job (state_of job v) p → 0 < length (packet job p).reads → length row ≡ length (packet job p).reads → ((j : ℕ) → get_or row j None ≡ None) → FetchedUpTo job v p 0 row
 fetched_first job v p row k may some whole none =
     let first = may 0 some in
-    let there = first.is_packet in
+    let there = first.unread.is_packet in
     let count = k.lengths.reads in
     let high : p < length v.reads = omega arith in
-    let old = nothing_read job v p there k (λ i l. (may i l).fresh) in
+    let old = nothing_read job v p there k (λ i l. (may i l).unread.fresh) in
     let same : (λ (q j : ℕ). get_or (row_of (set v.reads p row) q) j None) ≡ (λ (q j : ℕ). get_or (row_of v.reads q) j None) = λ x q j. same_reads v p row high (λ j. none j ∙ sym (old j)) q j x in
     record {
       is = with_reads_keeps job v p 0 row k first whole;
@@ -125,11 +127,11 @@ pub fetched_more : (job : Job) (v : StateValue) (p n value : ℕ) (row : List (O
     → value ≡ lane_sees job (state_of job v) p (slice_index (packet job p).reads n) → FetchedUpTo job v p (n + 1) (set row n (Some value))
 fetched_more job v p n value row k may f few is =
     let mid = with_reads v p row in
-    let there = (may n few).is_packet in
+    let there = (may n few).unread.is_packet in
     let count = k.lengths.reads in
     let high : p < length v.reads = omega arith in
     let same : row_of mid.reads p ≡ row = get_or-set_same v.reads p row [] high in
-    let can : MayRead job (state_of job mid) p n = record { is_packet = there; active = (may n few).active; few = few; fresh = ap (λ (r : List (Option ℕ)). get_or r n None) same ∙ f.rest n (omega arith) } in
+    let can : MayRead job (state_of job mid) p n = record { unread = record { is_packet = there; active = (may n few).unread.active; fresh = ap (λ (r : List (Option ℕ)). get_or r n None) same ∙ f.rest n (omega arith) }; few = few } in
     let whole = f.whole in
     let next = next_row (row_of mid.reads p) row (length (packet job p).reads) n value whole (λ j. ap (λ (r : List (Option ℕ)). get_or r j None) (sym same)) few in
     let moved : Moved job mid (Read p n) (with_reads v p (set row n (Some value))) =

@@ -36,14 +36,14 @@ with_decrement_keeps job v done k = record {
 pub moved_finish : (job : Job) (v : StateValue) (p : ℕ) → IsStateOf job v → IfSome (packet job p).done (λ s. s < length v.signals) → MayFinish job (state_of job v) p
     → Moved job v (Event.Finish p) (in_phase (with_decrement v (packet job p).done) p machine.Phase.Complete)
 moved_finish job v p k below may =
-    let there = may.is_packet in
+    let there = may.worked.is_packet in
     let mid = with_decrement v (packet job p).done in
     let count = k.lengths.phases in
     let high : p < length v.phases = omega arith in
     let signal : (λ (s : ℕ). slice_index (decremented v.signals (packet job p).done) s) ≡ (λ (s : ℕ). cond (is_signal s (packet job p).done) (slice_index v.signals s - 1) (slice_index v.signals s)) = λ i s. decremented_is v.signals (packet job p).done below s i in
     let e : state_of job (in_phase mid p machine.Phase.Complete) ≡ completed job (state_of job v) p =
     in_phase_is job mid p machine.Phase.Complete high ∙ (λ i. record (completed job (state_of job v) p) { signal = signal i }) in
-    record { is = in_phase_keeps job mid p machine.Phase.Complete (with_decrement_keeps job v (packet job p).done k); step = (there, may.active, may.read, may.stored, may.released, e) }
+    record { is = in_phase_keeps job mid p machine.Phase.Complete (with_decrement_keeps job v (packet job p).done k); step = (there, may.worked.active, may.worked.read, may.worked.stored, may.released, e) }
 
 pub not_finishing : (job : Job) (v : StateValue) (p : ℕ) → (MayFinish job (state_of job v) p → ⊥) → Enabled job v (Event.Finish p) → ⊥
-not_finishing job v p n (new, step) = n (record { is_packet = step.0; active = step.1; read = step.2; stored = step.3; released = step.4 })
+not_finishing job v p n (new, step) = n (record { worked = record { is_packet = step.0; active = step.1; read = step.2; stored = step.3 }; released = step.4 })

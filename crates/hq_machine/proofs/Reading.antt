@@ -16,7 +16,7 @@ use Rattle.hq_machine.specs.View.{IsStateOf, AreStores, state_of, row_of, stores
 nothing_stored : (job : Job) (v : StateValue) (p i : ℕ) → IsStateOf job v → MayRead job (state_of job v) p i → length (stores_of v p).stored ≡ 0
 nothing_stored job v p i k may = elim (cases_lt 0 (length (stores_of v p).stored)) [
   | inr l ↦ omega arith
-  | inl l ↦ absurd (true≢false (sym ((k.stores p may.is_packet).read l i may.few) ∙ ap is_some may.fresh))
+  | inl l ↦ absurd (true≢false (sym ((k.stores p may.unread.is_packet).read l i may.few) ∙ ap is_some may.unread.fresh))
 ]
 
 other_row : (v : StateValue) (p q : ℕ) (row : List (Option ℕ)) → (q ≡ p → ⊥) → row_of (set v.reads p row) q ≡ row_of v.reads q
@@ -55,7 +55,7 @@ with_reads_keeps job v p i row k may whole = record {
     lane_agents = k.lengths.lane_agents;
   };
   read_rows = λ q there. elim (cases_eq q p) [
-    | inl e ↦ inr (ap (λ r. length (row_of (set v.reads p row) r)) e ∙ ap (λ r. length r) (get_or-set_same v.reads p row [] (let c = k.lengths.reads in let t = may.is_packet in omega arith)) ∙ whole ∙ ap (λ r. length (packet job r).reads) (sym e))
+    | inl e ↦ inr (ap (λ r. length (row_of (set v.reads p row) r)) e ∙ ap (λ r. length r) (get_or-set_same v.reads p row [] (let c = k.lengths.reads in let t = may.unread.is_packet in omega arith)) ∙ whole ∙ ap (λ r. length (packet job r).reads) (sym e))
     | inr d ↦ subst (λ (r : List (Option ℕ)). IsRow (length (packet job q).reads) r) (sym (other_row v p q row d)) (k.read_rows q there)
   ];
   stores = kept_stores job v p i row k may;
@@ -64,14 +64,14 @@ with_reads_keeps job v p i row k may whole = record {
 
 pub moved_read : (job : Job) (v : StateValue) (p i byte : ℕ) (row : List (Option ℕ)) → IsStateOf job v → MayRead job (state_of job v) p i → NextRow (row_of v.reads p) (length (packet job p).reads) i byte row → byte ≡ lane_sees job (state_of job v) p (slice_index (packet job p).reads i) → Moved job v (Read p i) (with_reads v p row)
 moved_read job v p i byte row k may next is =
-    let there = may.is_packet in
+    let there = may.unread.is_packet in
     let count = k.lengths.reads in
     let high : p < length v.reads = omega arith in
     let e : (λ (q j : ℕ). get_or (get_or (set v.reads p row) q []) j None) ≡ put2 (λ (q j : ℕ). get_or (get_or v.reads q []) j None) p i (Some byte) = row_put2 (λ (r : List (Option ℕ)) (j : ℕ). get_or r j None) v.reads p i row [] (Some byte) high next.entry in
     let new : state_of job (with_reads v p row) ≡ record (state_of job v) { read = put2 (λ (q j : ℕ). get_or (row_of v.reads q) j None) p i (Some (lane_sees job (state_of job v) p (slice_index (packet job p).reads i))) } =
     (λ j. record (state_of job v) { read = e j }) ∙ ap (λ b. record (state_of job v) { read = put2 (λ (q j : ℕ). get_or (row_of v.reads q) j None) p i (Some b) }) is in
-    record { is = with_reads_keeps job v p i row k may next.whole; step = (there, may.active, may.few, may.fresh, new) }
+    record { is = with_reads_keeps job v p i row k may next.whole; step = (there, may.unread.active, may.few, may.unread.fresh, new) }
 
 pub readable_from : (job : Job) (state : State) (p i : ℕ) (o : Option ℕ) → ReadOpen job state p i → MatchOption o (length (packet job p).reads ≤ i) (λ b. IsEntry job p i b) → MatchOption o (MayRead job state p i → ⊥) (λ b. MayRead job state p i × IsEntry job p i b)
 readable_from job state p i None a h = λ may. let l = may.few in absurd (omega arith)
-readable_from job state p i (Some b) a h = (record { is_packet = a.is_packet; active = a.active; few = h.few; fresh = a.fresh }, h)
+readable_from job state p i (Some b) a h = (record { unread = record { is_packet = a.is_packet; active = a.active; fresh = a.fresh }; few = h.few }, h)

@@ -23,8 +23,8 @@ use Rattle.hq_machine.specs.Pushes.Holders.{Lanes, Agents}
 use Rattle.hq_machine.proofs.CopyMoves.{moved_push_lane, moved_push_agent}
 use Rattle.hq_machine.proofs.Finishing.{moved_finish}
 use Rattle.hq_machine.specs.Changes.{Applied, with_copies, in_phase, with_decrement}
-use Rattle.hq_machine.specs.Enabled.{Possible, MayFinish}
-use Rattle.hq_machine.specs.Pushes.{AllPushed, Within, WrittenBack, IsWorked, LanesOf, AgentsOf, span, pushes_of}
+use Rattle.hq_machine.specs.Enabled.{Possible, IsWorked, MayFinish}
+use Rattle.hq_machine.specs.Pushes.{AllPushed, Within, WrittenBack, LanesOf, AgentsOf, span, pushes_of}
 use Rattle.hq_machine.specs.View.{IsStateOf, DirtyWithin, state_of}
 use Rattle.hq_events.proofs.Jobs.{agent_below}
 use Rattle.hq_machine.proofs.PushLists.{span_none, span_more, can_write_back}
@@ -217,10 +217,7 @@ applied_complete job v p lane lanes agent agents c valid k worked below of on w 
     subst (λ ls. Pushes job (state_of job v) ls (agents_of job p) (state_of job next)) (sym (lanes_are job p lane lanes of))
     (subst (λ as'. Pushes job (state_of job v) (span lane lanes) as' (state_of job next)) (sym (agents_are job p agent agents on)) all.pushes) in
     let may : MayFinish job (state_of job next) p = record {
-      is_packet = worked.is_packet;
-      active = worked.active;
-      read = worked.read;
-      stored = worked.stored;
+      worked = record { is_packet = worked.is_packet; active = worked.active; read = worked.read; stored = worked.stored };
       released = released job p (state_of job v) pushes.0 (state_of job next) all.is.dirty pushes.1 pushes.2;
     } in
     let moved = moved_finish job next p all.is below may in

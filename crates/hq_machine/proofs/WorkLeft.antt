@@ -42,7 +42,7 @@ pub store_left : (job : Job) (v : StateValue) (p i : ℕ) → MayStore job (stat
 store_left job v p i m = (Store p i, refl, refl, (_, (m.is_packet, m.active, m.read, m.few, m.fresh, refl)))
 
 pub finish_left : (job : Job) (v : StateValue) (p : ℕ) → MayFinish job (state_of job v) p → IsLeft job v (event.Finish p)
-finish_left job v p m = (Event.Finish p, refl, refl, (_, (m.is_packet, m.active, m.read, m.stored, m.released, refl)))
+finish_left job v p m = (Event.Finish p, refl, refl, (_, (m.worked.is_packet, m.worked.active, m.worked.read, m.worked.stored, m.released, refl)))
 
 dirty_value : (copy : Option Copy) → is_dirty copy ≡ true → (value : ℕ) × (copy ≡ dirty value)
 dirty_value None e = absurd (true≢false (sym e))

@@ -93,10 +93,8 @@ pub record ReadOpen (job : Job) (state : machine.State) (p i : ℕ) : Type 0 whe
 
 -- what a read asks
 pub record MayRead (job : Job) (state : machine.State) (p i : ℕ) : Type 0 where
-  pub is_packet : IsPacket job p
-  pub active : state.phase p ≡ machine.Phase.Active
+  pub unread : ReadOpen job state p i
   pub few : i < length (packet job p).reads
-  pub fresh : state.read p i ≡ None
 
 -- what a store asks
 pub record MayStore (job : Job) (state : machine.State) (p i : ℕ) : Type 0 where
@@ -106,10 +104,14 @@ pub record MayStore (job : Job) (state : machine.State) (p i : ℕ) : Type 0 whe
   pub few : i < length (packet job p).writes
   pub fresh : state.stored p i ≡ false
 
--- what a completion asks
-pub record MayFinish (job : Job) (state : machine.State) (p : ℕ) : Type 0 where
+-- p is at its completion, but for its release fence
+pub record IsWorked (job : Job) (state : machine.State) (p : ℕ) : Type 0 where
   pub is_packet : IsPacket job p
   pub active : state.phase p ≡ machine.Phase.Active
   pub read : AllRead job state p
   pub stored : machine.AllStored job state p
+
+-- what a completion asks
+pub record MayFinish (job : Job) (state : machine.State) (p : ℕ) : Type 0 where
+  pub worked : IsWorked job state p
   pub released : machine.Released job state p (packet job p).release

@@ -8,8 +8,7 @@ use Rattle.hq_job.specs.Access.{AreOfQueue}
 use Rattle.hq_model.specs.Job.{Job, packet, IsPacket, agent_of}
 use Rattle.hq_packet.specs.Scopes.{reaches}
 use Rattle.hq_model.specs.Journal.{numbers}
-use Rattle.hq_model.specs.Machine as machine
-use Rattle.hq_model.specs.Machine.{Event, is_dirty, listed, AllRead, AllStored}
+use Rattle.hq_model.specs.Machine.{Event, is_dirty, listed}
 use Rattle.hq_model.specs.Machine.Event.{PushLane, PushAgent}
 use Rattle.hq_model.specs.View.{Held, copies_of}
 use Rattle.hq_packet.specs.declared.packet.Scope.TheVariants as scope
@@ -93,13 +92,6 @@ pub record AreCopiesOf (job : Job) (c : CopiesValue) : Type 0 where
   pub lanes : length c.lanes ≡ length job.packets
   pub agents : length c.agents ≡ job.agents
   pub lane_agents : (p : ℕ) → IsPacket job p → slice_index c.lane_agents p ≡ agent_of job p
-
--- p is at its completion, but for its release fence
-pub record IsWorked (job : Job) (state : machine.State) (p : ℕ) : Type 0 where
-  pub is_packet : IsPacket job p
-  pub active : state.phase p ≡ machine.Phase.Active
-  pub read : AllRead job state p
-  pub stored : AllStored job state p
 
 -- the lanes that p's release fence reaches: from start up to stop, or none
 pub record LanesOf (job : Job) (p start stop : ℕ) : Type 0 where

@@ -2,7 +2,7 @@
 
 ghost use Rattle.std.specs.Prelude.{◌≡◌, ◌≤◌, ◌↔◌, IsTrue, length, IfOk, IfErr, OnOk, OnErr};
 ghost use Rattle.hq_job.specs.Plan.{plan};
-ghost use Rattle.hq_machine.specs.Pushes.{AreCopiesOf, Within, Swept, WrittenBack, WroteBack, IsWorked};
+ghost use Rattle.hq_machine.specs.Pushes.{AreCopiesOf, Within, Swept, WrittenBack, WroteBack};
 ghost use Rattle.hq_machine.specs.Pushes.Holders.{Lanes, Agents};
 ghost use Rattle.hq_machine.specs.Changes.{Applied, with_copies};
 ghost use Rattle.hq_machine.specs.Enabled.{NotApplied};
@@ -90,17 +90,6 @@ impl State {
             Ok(()) => Ok(()),
             Err(_fault) => Err(StepFault::Memory),
         }
-    }
-
-    /// Whether the packet is at its completion, but for its release fence.
-    fn is_worked(&self, job: &Job, packet: usize) -> bool
-        requires { IsStateOf (plan job.now) self.now }
-        ensures { IsTrue result ↔ IsWorked (plan job.now) (state_of (plan job.now) self.now) packet }
-    {
-        packet < job.packets().len()
-            && self.is_in(packet, Phase::Active)
-            && self.has_read_all(job, packet)
-            && self.has_stored_all(job, packet)
     }
 
     /// The pushes that a packet's release fence asks for, and its completion: whole or not at all.

@@ -1,7 +1,7 @@
 //! The state of a run.
 
 ghost use Rattle.std.specs.Prelude.{◌≡◌, ◌+◌, ◌^◌, ◌<◌, ◌≤◌, ◌↔◌, ℕ, Some, slice_index, length, IfOk, true, IfErr};
-ghost use Rattle.std.specs.Prelude.{IsTrue, is_some};
+ghost use Rattle.std.specs.Prelude.{◌⊎◌, IsTrue, false, is_some};
 ghost use Rattle.hq_copies.specs.Copies.{IsAgentByte, IsLaneByte};
 ghost use Rattle.hq_job.specs.Plan.{plan};
 ghost use Rattle.hq_model.specs.Job.{Job as JobOfNumbers};
@@ -181,13 +181,22 @@ impl State {
         self.reads[packet].has(first, bytes)
     }
 
+    /// Whether a packet is launched, and isn't in this phase.
+    fn takes_back(&self, packet: usize, phase: Phase) -> bool
+        requires { packet < length self.now.phases }
+        ensures { result ≡ false → (first : machine.Phase)
+            → (is_launched (phases_of first self.now.phases packet) ≡ false) ⊎ (is_launched (named phase) ≡ true) }
+    {
+        self.is_launched(packet) && !phase.is_launched()
+    }
+
     /// Puts a packet in a phase.
     #[tactic(auto, using(crate::proofs::Moves::map_named))]
     pub(crate) fn set_phase(&mut self, packet: usize, phase: Phase)
         requires { packet < length self.old.phases }
         ensures { self.new ≡ in_phase self.old packet (named phase) }
     {
-        if !phase.is_launched() {
+        if self.takes_back(packet, phase) {
             self.launched.clear();
         }
         self.phases[packet] = phase;

@@ -7,7 +7,7 @@ ghost use Rattle.hq_model.specs.Job.{IsPacket, packet as packet_of};
 ghost use Rattle.hq_model.specs.Machine.{AllRead, AllStored, Released};
 ghost use Rattle.hq_model.specs.Machine.{Event};
 ghost use Rattle.hq_machine.specs.Changes.{Moved, with_decrement};
-ghost use Rattle.hq_machine.specs.Enabled.{MayFinish, Refused};
+ghost use Rattle.hq_machine.specs.Enabled.{IsWorked, MayFinish, Refused};
 ghost use Rattle.hq_machine.specs.View.{IsStateOf, row_of, stores_of, state_of};
 
 use crate::state::State;
@@ -66,16 +66,23 @@ impl State {
         self.copies.is_released(numbers, agent, scope)
     }
 
-    /// Whether the packet may complete.
-    pub(crate) fn may_finish(&self, job: &Job, packet: usize) -> bool
+    /// Whether the packet is at its completion, but for its release fence.
+    pub(crate) fn is_worked(&self, job: &Job, packet: usize) -> bool
         requires { IsStateOf (plan job.now) self.now }
-        ensures { IsTrue result ↔ MayFinish (plan job.now) (state_of (plan job.now) self.now) packet }
+        ensures { IsTrue result ↔ IsWorked (plan job.now) (state_of (plan job.now) self.now) packet }
     {
         packet < job.packets().len()
             && self.is_in(packet, Phase::Active)
             && self.has_read_all(job, packet)
             && self.has_stored_all(job, packet)
-            && self.is_released(job, packet)
+    }
+
+    /// Whether the packet may complete.
+    pub(crate) fn may_finish(&self, job: &Job, packet: usize) -> bool
+        requires { IsStateOf (plan job.now) self.now }
+        ensures { IsTrue result ↔ MayFinish (plan job.now) (state_of (plan job.now) self.now) packet }
+    {
+        self.is_worked(job, packet) && self.is_released(job, packet)
     }
 
     /// The signal, if there is one, goes down by 1.

@@ -48,7 +48,7 @@ handles_text handles = joined (map decimal (filter (λ h. not (h == 0)) handles)
 abbrev pub handle_item : Bool → ℕ → List ℕ
 handle_item comma handle = if handle == 0 then [] else ((if comma then codes "," else []) ++ decimal handle)
 
--- what a packet reads and writes, or waits for
+-- what a packet reads and writes
 abbrev pub work_text : Placed → List ℕ
 work_text p = codes "reads " ++ ranges_text p.work.foot.reads ++ codes " writes " ++ ranges_text
     (p.work.foot.write ∷ [])

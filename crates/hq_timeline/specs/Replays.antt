@@ -30,7 +30,7 @@ pub record StopsAt (job : Job) (events : List Event) (place : ℕ) : Type 0 wher
   pub run : Leads job (take place events) state
   pub refused : (new : State) → Happens job state (coarse_of event) new → ⊥
 
--- why there is no memory after all events
+-- why the events have no last state, of which the bytes of memory are told
 abbrev pub NotReplayed : Job → List Event → ReplayFault → Type 0
 NotReplayed job events (fault.NotEnabled place) = StopsAt job events place
 NotReplayed job events fault.Memory = Unit {0}

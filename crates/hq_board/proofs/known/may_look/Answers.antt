@@ -1,7 +1,7 @@
 use Rattle.std.proofs.Common.{◌≡◌, sym, ◌∙◌, subst, Some, None}
 use Rattle.hq_job.specs.Plan.{plan}
-use Rattle.hq_board.specs.History.{after}
-use Rattle.hq_board.specs.Known.{IsOpen, log_of}
+use Rattle.hq_board.specs.History.{after, IsOpen}
+use Rattle.hq_board.specs.Known.{log_of}
 use Rattle.hq_board.proofs.Knowing.{looks_own, looks_if}
 use Rattle.hq_board.proofs.known.may_look.Goals as goal
 
