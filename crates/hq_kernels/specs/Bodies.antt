@@ -8,6 +8,7 @@ use Rattle.hq_footprint.specs.Counts.{reads_of, writes_of}
 use Rattle.hq_footprint.specs.Tasks.{result_of}
 use Rattle.hq_ledger.specs.Pieces.{Part, with_bytes}
 use Rattle.hq_kernels.specs.declared.fault.KernelFault.{KernelFault}
+use Rattle.hq_kernels.specs.declared.fault.KernelFault.TheVariants.{Missing, Refused}
 
 -- A body: its task, the pieces that it holds in the order in which they came, and whether it has run.
 pub record BodyValue : Type 0 where
@@ -74,3 +75,26 @@ HasRun old result new = MatchResult result (λ _. Ran old new) (λ _. Faulted ol
 abbrev pub GaveBack : BodyValue → Option Part → BodyValue → Type 0
 GaveBack old result new = MatchOption result ((old.held ≡ []) × (new ≡ old))
     (λ piece. old ≡ record new { held = piece ∷ new.held })
+
+-- A body took the first of these pieces behind those that it held, and left the others.
+pub record TookSome (old : BodyValue) (pieces : List Part) (new : BodyValue) : Type 0 where
+  pub taken : List Part
+  pub left : List Part
+  pub split : pieces ≡ taken ++ left
+  pub is : new ≡ record old { held = old.held ++ taken }
+
+-- A body took these pieces behind those that it held; or it refused one, once it had taken those before it.
+abbrev pub LoadedAll : BodyValue → List Part → Result (Unit {0}) KernelFault → BodyValue → Type 0
+LoadedAll old pieces result new = MatchResult result (λ _. new ≡ record old { held = old.held ++ pieces })
+    (λ fault. (fault ≡ Refused) × TookSome old pieces new)
+
+-- A body was handed these pieces and didn't do its task, and this is why: it took the first of them behind those that
+-- it held, or all if it lacks one, and what it holds is of the same ranges.
+pub record Failed (old : BodyValue) (pieces : List Part) (fault : KernelFault) (new : BodyValue) : Type 0 where
+  pub taken : List Part
+  pub left : List Part
+  pub split : pieces ≡ taken ++ left
+  pub all : fault ≡ Missing → left ≡ []
+  pub ranges : SameRanges (old.held ++ taken) new.held
+  pub task : new.task ≡ old.task
+  pub ran : new.ran ≡ old.ran

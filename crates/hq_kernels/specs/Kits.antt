@@ -1,5 +1,5 @@
 -- The bodies of a queue's packets, and which suit a job.
-use Rattle.std.specs.Prelude.{◌≡◌, ℕ, ◌<◌, Bool, true, false, List, [], ◌∷◌, length, map, filter, slice_index_or}
+use Rattle.std.specs.Prelude.{◌≡◌, ℕ, ◌<◌, Bool, true, false, List, [], ◌∷◌, length, map, filter, slice_index_or, All}
 use Rattle.std.specs.Prelude.{slice_range}
 use Rattle.std.specs.declared.dyn_box.DynBox.{DynBox}
 use Rattle.std.specs.declared.alloc.Global.{Global}
@@ -30,6 +30,19 @@ abbrev pub seen : {X : Type 0} {Y : X → Type 0} {V : Type 0} {W : V → Type 0
 seen kernel service (Stock stock) = record { sort = ForEither; value = stock }
 seen kernel service (Kernel body) = record { sort = ForKernels; value = kernel body }
 seen kernel service (Service body) = record { sort = ForAgents; value = service body }
+
+-- The body is a stock body.
+abbrev pub IsStock : BodySeen → Type 0
+IsStock body = body.sort ≡ ForEither
+
+-- The body is a stock body that holds no piece.
+pub record IsEmptyStock (body : BodySeen) : Type 0 where
+  pub stock : IsStock body
+  pub empty : body.value.held ≡ []
+
+-- All bodies of these kits are stock bodies that hold no piece.
+abbrev pub AreStockKits : List (List BodySeen) → Type 0
+AreStockKits kits = All (λ bodies. All IsEmptyStock bodies) kits
 
 -- its task, the pieces that it holds, and whether it has run
 abbrev pub value_of : {X : Type 0} {Y : X → Type 0} {V : Type 0} {W : V → Type 0} → (DynBox X Global Y → BodyValue)

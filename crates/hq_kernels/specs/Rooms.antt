@@ -1,11 +1,11 @@
 -- The room of a stock body, and which pieces suit a task.
-use Rattle.std.specs.Prelude.{◌≡◌, List, [], ◌∷◌, length}
+use Rattle.std.specs.Prelude.{◌≡◌, ◌+◌, ◌≤◌, ◌⊎◌, List, [], ◌∷◌, length}
 use Rattle.hq_footprint.specs.declared.task.Task.{Task}
 use Rattle.hq_footprint.specs.Tasks.{SuitsTwo}
 use Rattle.hq_ledger.specs.Pieces.{Part}
 use Rattle.hq_kernels.specs.declared.stock.Room.{Room}
 use Rattle.hq_kernels.specs.declared.stock.Room.TheVariants.{Empty, One, Two, Three}
-use Rattle.hq_kernels.specs.Bodies.{pieces_of}
+use Rattle.hq_kernels.specs.Bodies.{BodyValue, pieces_of}
 
 -- the pieces in it, in the order in which they came
 abbrev pub pieces_in : Room → List Part
@@ -27,3 +27,7 @@ LengthsFit task (first ∷ second ∷ third ∷ other ∷ more) = ⊥
 pub record IsSuited (task : Task) (held : List Part) : Type 0 where
   pub count : length held ≡ pieces_of task
   pub lengths : LengthsFit task held
+
+-- A stock body has room for these pieces: there are none, or with those that it holds they are no more than its task's.
+abbrev pub HasRoom : BodyValue → List Part → Type 0
+HasRoom body pieces = (pieces ≡ []) ⊎ (length body.held + length pieces ≤ pieces_of body.task)

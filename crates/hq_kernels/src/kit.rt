@@ -1,8 +1,9 @@
 //! The bodies of a queue's packets.
 
-ghost use Rattle.std.specs.Prelude.{◌≡◌, ◌↔◌, IsTrue};
-ghost use Rattle.hq_kernels.specs.Bodies.{Loaded, HasRun, GaveBack};
-ghost use Rattle.hq_kernels.specs.Kits.{IsFor, Serves, seen, value_of};
+ghost use Rattle.std.specs.Prelude.{◌≡◌, ◌<◌, ◌↔◌, IsTrue, IsOk, IfErr, length};
+ghost use Rattle.hq_kernels.specs.Bodies.{Loaded, HasRun, GaveBack, pieces_of};
+ghost use Rattle.hq_kernels.specs.Kits.{IsFor, IsStock, Serves, seen, value_of};
+ghost use Rattle.hq_kernels.specs.Rooms.{IsSuited};
 
 use crate::body::{KernelBody, ServiceBody};
 use crate::fault::KernelFault;
@@ -59,8 +60,12 @@ impl Body {
 
     /// Takes a piece behind those that it holds, or hands it back.
     pub(crate) fn load(&mut self, piece: Piece) -> Result<(), Piece>
-        ensures { Loaded (value_of (λ b. kernel b) (λ b. service b) self.old) piece result
+        ensures loaded { Loaded (value_of (λ b. kernel b) (λ b. service b) self.old) piece result
             (value_of (λ b. kernel b) (λ b. service b) self.new) }
+        ensures sort { (seen (λ b. kernel b) (λ b. service b) self.new).sort ≡ (seen (λ b. kernel b)
+            (λ b. service b) self.old).sort }
+        ensures stock { let old = seen (λ b. kernel b) (λ b. service b) self.old in
+            IsStock old → (IsOk result ↔ (length old.value.held < pieces_of old.value.task)) }
     {
         match self {
             Body::Stock(stock) => stock.load(piece),
@@ -71,8 +76,14 @@ impl Body {
 
     /// Does its task with the pieces that it holds.
     pub(crate) fn run(&mut self) -> Result<(), KernelFault>
-        ensures { HasRun (value_of (λ b. kernel b) (λ b. service b) self.old) result
+        ensures run { HasRun (value_of (λ b. kernel b) (λ b. service b) self.old) result
             (value_of (λ b. kernel b) (λ b. service b) self.new) }
+        ensures sort { (seen (λ b. kernel b) (λ b. service b) self.new).sort ≡ (seen (λ b. kernel b)
+            (λ b. service b) self.old).sort }
+        ensures stock { let old = seen (λ b. kernel b) (λ b. service b) self.old in
+            IsStock old → (IsOk result ↔ IsSuited old.value.task old.value.held) }
+        ensures missing { IsStock (seen (λ b. kernel b) (λ b. service b) self.old)
+            → IfErr result (λ fault. fault ≡ KernelFault.Missing) }
     {
         match self {
             Body::Stock(stock) => stock.run(),
@@ -83,8 +94,10 @@ impl Body {
 
     /// Hands out the first piece that it holds.
     pub(crate) fn give_back(&mut self) -> Option<Piece>
-        ensures { GaveBack (value_of (λ b. kernel b) (λ b. service b) self.old) result
+        ensures back { GaveBack (value_of (λ b. kernel b) (λ b. service b) self.old) result
             (value_of (λ b. kernel b) (λ b. service b) self.new) }
+        ensures sort { (seen (λ b. kernel b) (λ b. service b) self.new).sort ≡ (seen (λ b. kernel b)
+            (λ b. service b) self.old).sort }
     {
         match self {
             Body::Stock(stock) => stock.give_back(),

@@ -1,7 +1,7 @@
 //! Whether kits suit a job, and kits of stock bodies.
 
-ghost use Rattle.std.specs.Prelude.{◌<◌, ◌↔◌, IsTrue, IfOk, length, map};
-ghost use Rattle.hq_kernels.specs.Kits.{BodiesFit, KitFits, KitsFit, bodies_of, seen};
+ghost use Rattle.std.specs.Prelude.{◌<◌, ◌↔◌, IsTrue, IfOk, All, length, map};
+ghost use Rattle.hq_kernels.specs.Kits.{AreStockKits, BodiesFit, IsEmptyStock, KitFits, KitsFit, bodies_of, seen};
 
 use crate::kit::{Body, Kit};
 use crate::packets::{is_work, packets_of};
@@ -50,10 +50,12 @@ pub fn kits_fit(job: &Job, kits: &[Kit]) -> bool
     true
 }
 
-/// A stock body for each of these packets that isn't a barrier.
+/// A stock body for each of these packets that isn't a barrier. It holds no piece.
 fn stock_bodies(alloc: Global, packets: &[Placed]) -> Result<Kit, AllocError>
-    ensures { IfOk result
+    ensures fit { IfOk result
         (λ kit. BodiesFit packets.now (map (seen (λ b. kernel b) (λ b. service b)) kit.bodies.items)) }
+    ensures stock { IfOk result
+        (λ kit. All IsEmptyStock (map (seen (λ b. kernel b) (λ b. service b)) kit.bodies.items)) }
 {
     let mut bodies = Vec::new(alloc);
     for placed in packets {
@@ -68,19 +70,22 @@ fn stock_bodies(alloc: Global, packets: &[Placed]) -> Result<Kit, AllocError>
 #[tactic(auto, using(crate::proofs::KitLists::kit_made))]
 fn stock_kit(alloc: Global, job: &Job, queue: usize) -> Result<Kit, AllocError>
     requires { queue < length job.now.queues }
-    ensures { IfOk result
+    ensures fit { IfOk result
         (λ kit. KitFits job.now queue (map (seen (λ b. kernel b) (λ b. service b)) kit.bodies.items)) }
+    ensures stock { IfOk result
+        (λ kit. All IsEmptyStock (map (seen (λ b. kernel b) (λ b. service b)) kit.bodies.items)) }
 {
     stock_bodies(alloc, packets_of(job, queue))
 }
 
-/// A kit of stock bodies for each queue.
+/// A kit of stock bodies for each queue. They hold no piece.
 ///
 /// # Errors
 ///
 /// `AllocError` where there is no memory.
 pub fn stock_kits(alloc: Global, job: &Job) -> Result<Vec<Kit>, AllocError>
-    ensures { IfOk result (λ kits. KitsFit job.now (bodies_of (λ b. kernel b) (λ b. service b) kits.items)) }
+    ensures fit { IfOk result (λ kits. KitsFit job.now (bodies_of (λ b. kernel b) (λ b. service b) kits.items)) }
+    ensures stock { IfOk result (λ kits. AreStockKits (bodies_of (λ b. kernel b) (λ b. service b) kits.items)) }
 {
     let mut kits = Vec::new(alloc);
     for queue in 0..job.queues().len() {

@@ -1,8 +1,10 @@
 //! A packet's pieces go through its body.
 
-ghost use Rattle.std.specs.Prelude.{◌≡◌, ◌+◌, ◌≤◌, ◌<◌, true, [], ◌++◌, length, vec_len, vec_capacity, IfOk, OnOk};
-ghost use Rattle.hq_kernels.specs.Bodies.{Performs, pieces_of};
-ghost use Rattle.hq_kernels.specs.Kits.{value_of};
+ghost use Rattle.std.specs.Prelude.{◌≡◌, ◌+◌, ◌≤◌, ◌<◌, ◌↔◌, true, [], ◌++◌, length, vec_len, vec_capacity};
+ghost use Rattle.std.specs.Prelude.{IsOk, IfOk, OnOk, IfErr};
+ghost use Rattle.hq_kernels.specs.Bodies.{Failed, LoadedAll, Performs, pieces_of};
+ghost use Rattle.hq_kernels.specs.Kits.{IsStock, seen, value_of};
+ghost use Rattle.hq_kernels.specs.Rooms.{HasRoom, IsSuited};
 
 use crate::fault::KernelFault;
 use crate::kit::Body;
@@ -11,11 +13,12 @@ use hq_ledger::Piece;
 impl Body {
     /// Hands the body the pieces, from the first to the last.
     fn load_all(&mut self, pieces: &mut Vec<Piece>) -> Result<(), KernelFault>
-        ensures task { (value_of (λ b. kernel b) (λ b. service b) self.new).task ≡ (value_of (λ b. kernel b)
-            (λ b. service b) self.old).task }
-        ensures held { OnOk result
-            ((value_of (λ b. kernel b) (λ b. service b) self.new).held ≡ (value_of (λ b. kernel b)
-            (λ b. service b) self.old).held ++ pieces.old.items) }
+        ensures loaded { LoadedAll (value_of (λ b. kernel b) (λ b. service b) self.old) pieces.old.items result
+            (value_of (λ b. kernel b) (λ b. service b) self.new) }
+        ensures sort { (seen (λ b. kernel b) (λ b. service b) self.new).sort ≡ (seen (λ b. kernel b)
+            (λ b. service b) self.old).sort }
+        ensures stock { let old = seen (λ b. kernel b) (λ b. service b) self.old in
+            IsStock old → (IsOk result ↔ HasRoom old.value pieces.old.items) }
         ensures left { OnOk result (vec_len pieces.new ≡ 0) }
         ensures room { vec_capacity pieces.new ≡ vec_capacity pieces.old }
     {
@@ -36,6 +39,8 @@ impl Body {
             (λ b. service b) self.old).task }
         ensures ran { (value_of (λ b. kernel b) (λ b. service b) self.new).ran ≡ (value_of (λ b. kernel b)
             (λ b. service b) self.old).ran }
+        ensures sort { (seen (λ b. kernel b) (λ b. service b) self.new).sort ≡ (seen (λ b. kernel b)
+            (λ b. service b) self.old).sort }
         ensures held { pieces.new.items ++ (value_of (λ b. kernel b)
             (λ b. service b) self.new).held ≡ pieces.old.items ++ (value_of (λ b. kernel b)
             (λ b. service b) self.old).held }
@@ -58,6 +63,8 @@ impl Body {
             (λ b. service b) self.old).task }
         ensures ran { (value_of (λ b. kernel b) (λ b. service b) self.new).ran ≡ (value_of (λ b. kernel b)
             (λ b. service b) self.old).ran }
+        ensures sort { (seen (λ b. kernel b) (λ b. service b) self.new).sort ≡ (seen (λ b. kernel b)
+            (λ b. service b) self.old).sort }
         ensures held { pieces.new.items ++ (value_of (λ b. kernel b)
             (λ b. service b) self.new).held ≡ pieces.old.items ++ (value_of (λ b. kernel b)
             (λ b. service b) self.old).held }
@@ -74,15 +81,25 @@ impl Body {
     ///
     /// # Errors
     ///
-    /// `Missing` where pieces are too few or their lengths don't fit, `Refused` where the body refuses.
+    /// `Refused` where the body doesn't take a piece (a stock body that holds none takes all); else what the body says
+    /// when it runs. A stock body says `Missing` then, exactly where the lengths of the pieces don't fit its task.
     pub fn perform(&mut self, mut pieces: Vec<Piece>) -> Result<Vec<Piece>, KernelFault>
         requires { length pieces.items ≡ pieces_of (value_of (λ b. kernel b) (λ b. service b) self.old).task }
         ensures task { (value_of (λ b. kernel b) (λ b. service b) self.new).task ≡ (value_of (λ b. kernel b)
             (λ b. service b) self.old).task }
+        ensures sort { (seen (λ b. kernel b) (λ b. service b) self.new).sort ≡ (seen (λ b. kernel b)
+            (λ b. service b) self.old).sort }
         ensures performs { IfOk result
             (λ back. Performs (value_of (λ b. kernel b) (λ b. service b) self.old).task pieces.items back.items) }
         ensures ran { OnOk result ((value_of (λ b. kernel b) (λ b. service b) self.new).ran ≡ true) }
         ensures held { OnOk result ((value_of (λ b. kernel b) (λ b. service b) self.new).held ≡ []) }
+        ensures failed { IfErr result
+            (λ fault. Failed (value_of (λ b. kernel b) (λ b. service b) self.old) pieces.items fault
+            (value_of (λ b. kernel b) (λ b. service b) self.new)) }
+        ensures stock { let old = seen (λ b. kernel b) (λ b. service b) self.old in
+            IsStock old → (IsOk result ↔ IsSuited old.value.task (old.value.held ++ pieces.items)) }
+        ensures missing { let old = seen (λ b. kernel b) (λ b. service b) self.old in
+            IsStock old → IfErr result (λ fault. (fault ≡ KernelFault.Missing) ↔ HasRoom old.value pieces.items) }
     {
         let count = pieces.len();
         self.load_all(&mut pieces)?;

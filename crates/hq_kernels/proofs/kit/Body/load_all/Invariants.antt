@@ -1,13 +1,17 @@
-use Rattle.std.proofs.Common.{◌≡◌, ◌++◌, vec_len, vec_capacity}
-use Rattle.hq_kernels.specs.Kits.{value_of}
+use Rattle.std.proofs.Common.{◌≡◌, ◌<◌, ◌≤◌, List, ◌++◌, length, vec_len, vec_capacity}
+use Rattle.hq_ledger.specs.Pieces.{Part}
+use Rattle.hq_kernels.specs.Bodies.{pieces_of}
+use Rattle.hq_kernels.specs.Kits.{IsStock, seen}
 use Rattle.hq_kernels.proofs.kit.Body.load_all.Given as goal
 
 abbrev pub invariant-loop-pieces : goal.invariant-loop-pieces
 invariant-loop-pieces g l =
-    let value = value_of (λ b. (goal.KernelBody-dyn g (b.vtable, b.value)).kernel b.value) (λ b. (goal.ServiceBody-dyn g (b.vtable, b.value)).service b.value) in
+    let look = seen (λ b. (goal.KernelBody-dyn g (b.vtable, b.value)).kernel b.value) (λ b. (goal.ServiceBody-dyn g (b.vtable, b.value)).service b.value) in
     record {
-      task : (value l.self).task ≡ (value l.initial.self).task;
-      held : (value l.self).held ++ l.pieces.items ≡ (value l.initial.self).held ++ l.initial.pieces.items;
+      took : (taken : List Part) × (l.initial.pieces.items ≡ taken ++ l.pieces.items)
+          × ((look l.self).value ≡ record (look l.initial.self).value { held = (look l.initial.self).value.held ++ taken })
+          × (IsStock (look l.initial.self) → 0 < length taken → length (look l.self).value.held ≤ pieces_of (look l.self).value.task);
+      sort : (look l.self).sort ≡ (look l.initial.self).sort;
       room : vec_capacity l.pieces ≡ vec_capacity l.initial.pieces;
     }
 
