@@ -36,6 +36,7 @@ fn run_queues<R: Threads + Wait + Sync, G: Gate>(
     run_each(
         rt,
         alloc,
+        shared,
         &|queue: usize, place: Place| -> Ended
             requires { queue < length job.now.queues }
             ensures { Done (λ b. kernel (b.vtable, b.value)) (λ b. service (b.vtable, b.value))
@@ -64,6 +65,7 @@ fn run_rings<R: Threads + Wait + Sync, G: Gate>(
     let (hosted, ended) = run_beside(
         rt,
         alloc,
+        shared,
         &|queue: usize, place: Place| -> Ended
             requires { queue < length job.now.queues }
             ensures { Done (λ b. kernel (b.vtable, b.value)) (λ b. service (b.vtable, b.value))
