@@ -1,9 +1,10 @@
-// Refuses a call of the program that it is loaded into: of the kind that REFUSE names (`memory`, `read` or `write`), the one that TURN
-// numbers from 1, and, where ON is set, each one behind it. Where BYTES is set, no read or write is of more bytes than that. It says
+// Refuses a call of the program that it is loaded into: of the kind that REFUSE names (`memory`, `thread`, `read` or `write`), the one that
+// TURN numbers from 1, and, where ON is set, each one behind it. Where BYTES is set, no read or write is of more bytes than that. It says
 // on standard error that it did. For tests/refuse.
 #define _GNU_SOURCE
 #include <dlfcn.h>
 #include <errno.h>
+#include <pthread.h>
 #include <stdatomic.h>
 #include <stdint.h>
 #include <stdlib.h>
@@ -76,6 +77,14 @@ int posix_memalign(void **memory, size_t alignment, size_t size) {
     }
     *memory = __libc_memalign(alignment, size);
     return *memory ? 0 : ENOMEM;
+}
+
+int pthread_create(pthread_t *thread, const pthread_attr_t *how, void *(*starts)(void *), void *with) {
+    static int (*next)(pthread_t *, const pthread_attr_t *, void *(*)(void *), void *);
+    if (!next) {
+        next = (int (*)(pthread_t *, const pthread_attr_t *, void *(*)(void *), void *))dlsym(RTLD_NEXT, "pthread_create");
+    }
+    return refused("thread") ? EAGAIN : next(thread, how, starts, with);
 }
 
 ssize_t read(int file, void *to, size_t count) {

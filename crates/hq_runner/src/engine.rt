@@ -18,7 +18,8 @@ use std::alloc::Global;
 use std::sync::Wait;
 use std::thread::Threads;
 
-/// Runs the accepted job with these kits, one thread for each queue, and where queues are rings one more for the host.
+/// Runs the accepted job with these kits, one thread for each queue, the caller's for the first, and where queues are
+/// rings one more for the host.
 ///
 /// The journal is a run of the job that completes every packet, in which each processor and the host do their
 /// programs, and that ends with its one rest. The memory is the one that every order of one packet at a time leaves
@@ -26,10 +27,10 @@ use std::thread::Threads;
 ///
 /// # Errors
 ///
-/// `Memory`; `Kernel` where a body refused a piece, faulted, or gave other pieces back: the others are stopped, and
-/// all pieces that came home by being dropped are counted; `Split` where the board, by whose words the processors
-/// wait, tells another run than the hall; `Receipts` and `Unfinished` where what the processors say they did isn't
-/// what was done.
+/// `Memory`, also where a thread can't be made: the others are stopped; `Kernel` where a body refused a piece, faulted,
+/// or gave other pieces back: the others are stopped too, and all pieces that came home by being dropped are counted;
+/// `Split` where the board, by whose words the processors wait, tells another run than the hall; `Receipts` and
+/// `Unfinished` where what the processors say they did isn't what was done.
 #[tactic(auto, using(crate::proofs::Endings::lists_done, crate::proofs::Endings::kits_ran))]
 pub fn run<R: Threads + Wait + Sync, G: Gate>(
     rt: &R,

@@ -23,7 +23,7 @@ pub struct Outcome {
 /// Why a run has no outcome. Of several reasons the first of these is given.
 #[derive(Drop)]
 pub enum RunFault {
-    /// There is no memory.
+    /// There is no memory, or a thread can't be made.
     Memory,
     /// The body of this packet refused a piece, faulted, or gave other pieces back; of several packets it is the
     /// least. `found` is all that came home by being dropped, `home` how many of these pieces are the packet's, and

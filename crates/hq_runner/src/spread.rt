@@ -56,7 +56,7 @@ impl<'a, Y, H: Fn() -> Y> Call<(), Y> for Beside<'a, H> {
     }
 }
 
-/// The call that a thread makes, of which it gives what the call gives.
+/// The call that a thread makes. The thread gives what the call gives.
 #[derive(Drop)]
 struct Started<J, X, C: Call<J, X>> {
     call: Snapshot<C>,
@@ -169,11 +169,12 @@ fn make_beside<
 }
 
 /// Calls f with each job and its place, with the first in this thread and with each other in one of its own, and waits
-/// for all. All calls are made, even where there is no memory for their results.
+/// for all.
 ///
 /// # Errors
 ///
-/// There is no memory, or a thread can't be made. Then some calls aren't made, and the run is ended for the others.
+/// There is no memory for the results, though all calls were made; or a thread can't be made: then the run is ended for
+/// the calls that were begun, and the others aren't made.
 pub fn run_each<R: Threads + Wait, J: Send + Drop, X: Send + Drop, F: Fn(usize, J) -> X + Sync>(
     rt: &R,
     alloc: Global,
