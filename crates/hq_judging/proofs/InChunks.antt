@@ -1,10 +1,11 @@
 -- A certificate that is read and checked in chunks.
-use Rattle.std.proofs.Common.{◌≡◌, ℕ, zero, suc, ◌+◌, ◌<◌, ◌≤◌, ◌⊎◌, inl, inr, List, [], ◌∷◌, ◌++◌, length, map, take, drop, slice_index_or, slice_get, slice_set as set, refl, sym, ap, subst, ◌∙◌, arith, append_assoc, append-nil, Option, None, Some, MatchOption, Result, Ok, Err, OnOk, IfErr}
+use Rattle.std.proofs.Common.{◌≡◌, ℕ, zero, suc, ◌+◌, ◌-◌, ◌<◌, ◌≤◌, ◌⊎◌, inl, inr, List, [], ◌∷◌, ◌++◌, length, map, take, drop, slice_index_or, slice_get, slice_set as set, refl, sym, ap, subst, ◌∙◌, arith, append_assoc, append-nil, Option, None, Some, MatchOption, Result, Ok, Err, OnOk, IfErr}
 use Rattle.std.specs.Prelude.{IfOk, true, false, if◌then◌else◌}
 use Rattle.std.specs.Result.{is_ok, is_err}
-use Rattle.std.proofs.lemmas.List.{drop_more, drop-set-lt, map-append, take-append-drop}
+use Rattle.std.proofs.lemmas.List.{drop_more, drop-set-lt, drop-take, length-drop, length-take-le, map-append, take-append-drop}
+use Rattle.std.proofs.Math.Seq.{take-length}
 use Rattle.std.proofs.lemmas.Option.{slice_get_within}
-use Rattle.hq_text.specs.Intake.{IsWhole, Stays}
+use Rattle.hq_text.specs.Intake.{IsWhole, EndsLine, Stays}
 use Rattle.hq_text.specs.Lines.{lines_of}
 use Rattle.hq_text.proofs.Pieces.{stays_more, whole_lines, whole_both}
 use Rattle.hq_job.specs.Plan.{plan}
@@ -274,6 +275,28 @@ chunk_around lines front first behind text more whole here cut =
 
 in_front : (text lines rest waiting front : List ℕ) → text ≡ front ++ waiting → waiting ≡ lines ++ rest → text ≡ (front ++ lines) ++ rest
 in_front text lines rest waiting front e f = e ∙ ap (λ t. front ++ t) f ∙ sym (append_assoc front lines rest)
+
+-- whole lines of what stands behind a text, with that text
+pub whole_behind : (text : List ℕ) (from more : ℕ) → 0 < more → from ≤ length text → more ≤ length (take (length text - from) (drop from text)) → IsWhole (take more (take (length text - from) (drop from text))) → IsWhole (take (from + more) text)
+whole_behind text from more some low few is = subst (λ (t : List ℕ). IsWhole t) joined (elim whole [
+  | inl e ↦ let none : length (take more (drop from text)) ≡ 0 = ap (λ t. length t) e in absurd (omega (arith, none, some, length-take-le more (drop from text) within))
+  | inr e ↦ inr (record { front = front ++ e.front; is = ap (λ t. front ++ t) e.is ∙ sym (append_assoc front e.front (10 ∷ [])) })
+])
+  where
+    rest : take (length text - from) (drop from text) ≡ drop from text
+    rest = ap (λ n. take n (drop from text)) (sym (length-drop from text)) ∙ take-length (drop from text)
+
+    within : more ≤ length (drop from text)
+    within = subst (λ (t : List ℕ). more ≤ length t) rest few
+
+    whole : IsWhole (take more (drop from text))
+    whole = subst (λ (t : List ℕ). IsWhole (take more t)) rest is
+
+    front : List ℕ
+    front = take from (take (from + more) text)
+
+    joined : front ++ take more (drop from text) ≡ take (from + more) text
+    joined = ap (λ t. front ++ t) (sym (drop-take from more text)) ∙ take-append-drop from (take (from + more) text)
 
 -- a text of which more whole lines were taken in, and behind which more came
 pub waits_later : (from : Checking) (text given lines rest : List ℕ) (old new : Chunks) (h : HasWaiting from text old) → IsWhole lines → old.waiting.items ≡ lines ++ rest → new.waiting.items ≡ rest ++ given

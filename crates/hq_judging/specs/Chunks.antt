@@ -1,11 +1,12 @@
 -- Chunks of a certificate's text, which several threads read ahead, and whose pair lines they check.
-use Rattle.std.specs.Prelude.{◌≡◌, ℕ, ◌≤◌, ◌⊎◌, List, [], ◌∷◌, ◌++◌, length, map, take, drop}
+use Rattle.std.specs.Prelude.{◌≡◌, ℕ, ◌≤◌, ◌⊎◌, List, [], ◌∷◌, ◌++◌, length, map, take, drop, Result, IfErr, OnOk}
 use Rattle.hq_text.specs.Intake.{IsWhole, Stays}
 use Rattle.hq_text.specs.Lines.{lines_of}
 use Rattle.hq_model.specs.Job.{Job}
 use Rattle.hq_model.specs.Certificate as model
 use Rattle.hq_certread.specs.Ahead.{IsAhead, pairs_ahead}
 use Rattle.hq_certread.specs.SoFar.{HasFault, IsClosed}
+use Rattle.hq_certread.specs.declared.fault.CertFault.{CertFault}
 use Rattle.hq_certcheck.specs.Concluded.{bare, conclusion_of}
 use Rattle.hq_certcheck.specs.Listed.{BadLineOf, BadPairIs}
 use Rattle.hq_judging.specs.Checking.{AreHeld, HasCheckedBut, block_of}
@@ -47,6 +48,13 @@ pub record HasWaiting (from : Checking) (text : List ℕ) (p : Chunks) : Type 0 
   pub whole : IsWhole front
   pub cut : text ≡ front ++ p.waiting.items
   pub checked : HasCheckedBut from p.chunks.items (lines_of front) p.checking
+
+-- This was given too, behind all that was read before: what it is made of is known of both together. Or the text had this
+-- fault before, whatever follows it.
+abbrev pub ReadsOn : Chunks → List ℕ → Result (Unit {0}) CertFault → Chunks → Type 0
+ReadsOn old given result new = OnOk result ((from : Checking) (text : List ℕ) → HasWaiting from text old
+    → HasWaiting from (text ++ given) new) × IfErr result (λ f. (from : Checking) (text : List ℕ) → HasWaiting from text old
+    → Stays (λ lines. HasFault lines f) text)
 
 -- Behind the first, this text was read: its whole lines were taken in but for what waits, or it has this fault,
 -- whatever follows it.

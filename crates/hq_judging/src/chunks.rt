@@ -2,7 +2,7 @@
 
 ghost use Rattle.std.specs.Prelude.{◌≡◌, ℕ, ◌≤◌, ◌<◌, [], ◌∷◌, ◌++◌, List, length, map, take, IfOk, IfErr, OnOk};
 ghost use Rattle.hq_job.specs.Plan.{plan};
-ghost use Rattle.hq_text.specs.Intake.{IsWhole, Stays};
+ghost use Rattle.hq_text.specs.Intake.{IsWhole};
 ghost use Rattle.hq_text.specs.Lines.{lines_of};
 ghost use Rattle.hq_text.specs.Turns.{ComesTo};
 ghost use Rattle.hq_certread.specs.SoFar.{HasFault};
@@ -11,7 +11,7 @@ ghost use Rattle.hq_certcheck.specs.Concluded.{conclusion_of};
 ghost use Rattle.hq_certcheck.specs.Listed.{BadLineOf};
 ghost use Rattle.hq_model.specs.Certificate as model;
 ghost use Rattle.hq_judging.specs.Checking.{FinishedOf, HasChecked, HasCheckedBut, IsHeld, StaysSaid, block_of};
-ghost use Rattle.hq_judging.specs.Chunks.{AreLookedAt, IsLookedAt, HasWaiting, WereJudged};
+ghost use Rattle.hq_judging.specs.Chunks.{AreLookedAt, IsLookedAt, HasWaiting, ReadsOn, WereJudged};
 
 use crate::checking::{Checking, ReadCertificate};
 use crate::chunk::Chunk;
@@ -187,6 +187,8 @@ impl Checking {
 pub struct Chunks {
     checking: Checking,
     waiting: Vec<u8>,
+    /// How many bytes at the front of what waits have no line feed, as far as that was looked at.
+    searched: usize,
     chunks: Vec<Chunk>,
     next: Vec<u8>,
 }
@@ -205,8 +207,33 @@ impl Chunks {
         Chunks {
             checking,
             waiting: Vec::new(alloc),
+            searched: 0,
             chunks,
             next: Vec::new(alloc),
+        }
+    }
+
+    /// How many bytes of what waits are whole lines. What was looked at and has no line feed isn't looked at again, so
+    /// that a line that doesn't end takes no longer than others.
+    fn whole_waiting(&self) -> usize
+        ensures within { result ≤ length self.now.waiting.items }
+        ensures whole { IsWhole (take result self.now.waiting.items) }
+    {
+        let searched = self.searched.min(self.waiting.len());
+        let more = whole_lines(&self.waiting[searched..]);
+        if more > 0 { searched + more } else { 0 }
+    }
+
+    /// Reads on in so many turns, and takes nothing in.
+    fn wait_on<S: Source>(&mut self, source: &mut S, turns: u32) -> (Came, Result<(), CertFault>)
+        ensures { (given : List ℕ) × ComesTo S S.Turned turns source.old given source.new result.0
+            × ReadsOn self.old given result.1 self.new }
+    {
+        self.searched = self.waiting.len();
+        let (came, kept) = read_on(source, turns, &mut self.waiting);
+        match kept {
+            Ok(()) => (came, Ok(())),
+            Err(_) => (came, Err(Checking::no_memory())),
         }
     }
 
@@ -224,12 +251,14 @@ impl Chunks {
         turns: u32,
     ) -> (Came, Result<(), CertFault>)
         ensures { (given : List ℕ) × ComesTo S S.Turned turns source.old given source.new result.0
-            × OnOk result.1 ((from : Checking) (text : List ℕ) → HasWaiting from text self.old
-            → HasWaiting from (text ++ given) self.new)
-            × IfErr result.1 (λ f. (from : Checking) (text : List ℕ) → HasWaiting from text self.old
-            → Stays (λ lines. HasFault lines f) text) }
+            × ReadsOn self.old given result.1 self.new }
     {
-        let (lines, rest) = self.waiting.split_at(whole_lines(&self.waiting));
+        let whole = self.whole_waiting();
+        if whole == 0 {
+            return self.wait_on(source, turns);
+        }
+        let (lines, rest) = self.waiting.split_at(whole);
+        self.searched = rest.len();
         self.next.clear();
         let held = self.next.extend_from_slice(rest);
         let next = &mut self.next;

@@ -15,7 +15,7 @@ use Rattle.hq_judging.proofs.chunks.Chunks.step.Goals as goal
 pub returns-then-is_err : goal.returns-then-is_err
 returns-then-is_err g c =
     let read = c.take_meanwhile-taken.ensures.done.met.1 in
-    (read.0, (search rules), tt, λ from text h more. c.no_memory.ensures (lines_of (text ++ more)))
+    (read.0, (search rules), (tt, λ from text h more. c.no_memory.ensures (lines_of (text ++ more))))
 
 pub returns : goal.returns
 returns g c =
@@ -24,10 +24,10 @@ returns g c =
     let old = c.args.self.now in
     let lines = c.split_at.result.0.now in
     let rest = c.split_at.result.1.now in
-    let n = c.whole_lines.result in
-    let new : Chunks = record { checking = c.take_meanwhile-taken.new.self; waiting = c.swap.new.x; chunks = with_items old.chunks c.take_meanwhile-taken.new.chunks; next = c.swap.new.y } in
+    let n = c.whole_waiting-whole.result in
+    let new : Chunks = record { checking = c.take_meanwhile-taken.new.self; waiting = c.swap.new.x; searched = length rest; chunks = with_items old.chunks c.take_meanwhile-taken.new.chunks; next = c.swap.new.y } in
     let cut : old.waiting.items ≡ lines ++ rest = sym c.deref.ensures.value ∙ cut_in_two c.deref.result.now lines rest n c.split_at.ensures.front c.split_at.ensures.back in
-    let whole : IsWhole lines = subst (λ (t : List ℕ). IsWhole t) (ap (take n) (c.deref-2.ensures.value ∙ sym c.deref.ensures.value) ∙ sym c.split_at.ensures.front) c.whole_lines.ensures.whole in
+    let whole : IsWhole lines = subst (λ (t : List ℕ). IsWhole t) (ap (take n) (sym c.deref.ensures.value) ∙ sym c.split_at.ensures.front) c.whole_waiting-whole.ensures.whole in
     let extended = was_held c.extend_from_slice-held.result _ _ _ (sym c.is_err.ensures.value ∙ c.if-is_err.false) c.extend_from_slice-held.ensures.items ∙ ap (λ t. t ++ rest) c.clear.ensures.items in
     let kept = none_lost all.0.1 _ (sym c.is_err-else-is_err.ensures.value ∙ c.if-is_err-2.false) read.2 in
     let many : length c.take_meanwhile-taken.new.chunks ≡ old.chunks.len = c.take_meanwhile-taken.auto.chunks ∙ ap length c.deref_mut.ensures.value ∙ sym old.chunks.ok.0 in
@@ -36,10 +36,12 @@ returns g c =
     let now : c.swap.new.x.items ≡ rest ++ read.0 = ap (λ v. v.items) c.swap.ensures.x_after ∙ kept ∙ ap (λ t. t ++ read.0) extended in (
       read.0,
       (search rules),
-      on_ok all.1 c.take_meanwhile-taken.ensures.took
-          (λ took from text h. waits_later from text read.0 lines rest old new h whole cut now
-          (subst (λ (cs : List Chunk). HasCheckedBut from cs (lines_of h.front ++ lines_of lines) c.take_meanwhile-taken.new.self) (sym (with_items_is old.chunks c.take_meanwhile-taken.new.chunks many))
-          (took from (lines_of h.front) (held from text h)))),
-      on_err all.1 c.take_meanwhile-taken.ensures.fault
-          (λ f fault from text h. waits_faulty from text lines rest old f h whole cut (λ more. fault from (lines_of h.front) more (held from text h))),
+      (
+        on_ok all.1 c.take_meanwhile-taken.ensures.took
+            (λ took from text h. waits_later from text read.0 lines rest old new h whole cut now
+            (subst (λ (cs : List Chunk). HasCheckedBut from cs (lines_of h.front ++ lines_of lines) c.take_meanwhile-taken.new.self) (sym (with_items_is old.chunks c.take_meanwhile-taken.new.chunks many))
+            (took from (lines_of h.front) (held from text h)))),
+        on_err all.1 c.take_meanwhile-taken.ensures.fault
+            (λ f fault from text h. waits_faulty from text lines rest old f h whole cut (λ more. fault from (lines_of h.front) more (held from text h))),
+      ),
     )
