@@ -52,7 +52,7 @@ fn same_event(first: Event, second: Event) -> bool
 
 /// Whether the list has just the events that are the owner's in the journal, in their order.
 pub fn is_receipt(job: &Job, owner: Owner, journal: &[Event], list: &[Event]) -> bool
-    ensures { IsTrue result → filter (owned (plan job.now) owner) journal.now ≡ list.now }
+    ensures { IsTrue result ↔ (filter (owned (plan job.now) owner) journal.now ≡ list.now) }
 {
     let mut next = 0;
     for event in journal {
@@ -84,7 +84,7 @@ fn is_asked(event: Event) -> bool
 
 /// Whether each event is one that a processor or the host asks for.
 pub fn are_asked(journal: &[Event]) -> bool
-    ensures { IsTrue result → All (λ event. IsTrue (is_asked event)) journal.now }
+    ensures { IsTrue result ↔ All (λ event. IsTrue (is_asked event)) journal.now }
 {
     for event in journal {
         if !is_asked(*event) {
