@@ -1,6 +1,7 @@
 -- From what was compared to what a run leaves.
-use Rattle.std.proofs.Common.{◌≡◌, ℕ, zero, suc, ◌<◌, List, [], ◌∷◌, length, map, refl, sym, ◌∙◌, ap, ap₂, subst, arith, All, IsTrue, None, Result, Ok, Err, IfOk, OnOk}
+use Rattle.std.proofs.Common.{◌≡◌, ℕ, zero, suc, ◌<◌, List, [], ◌∷◌, length, map, refl, sym, ◌∙◌, ap, ap₂, subst, arith, All, IsTrue, None, Result, Ok, Err, IfOk, IfErr, OnOk, inl, inr}
 use Rattle.std.specs.Prelude.{slice_index, slice_index_or}
+use Rattle.std.proofs.lemmas.Bool.{cases_lt}
 use Rattle.std.proofs.lemmas.List.{length-map}
 use Rattle.std.specs.declared.dyn_box.DynBox.{DynBox}
 use Rattle.std.specs.declared.alloc.Global.{Global}
@@ -22,13 +23,15 @@ use Rattle.hq_model.specs.Machine.Phase.{Complete}
 use Rattle.hq_model.specs.Theorems.{Valid}
 use Rattle.hq_model.proofs.Rested.{rest_ends}
 use Rattle.hq_runner.specs.declared.host.Hosted.{Hosted}
+use Rattle.hq_runner.specs.declared.outcome.RunFault.{RunFault}
+use Rattle.hq_runner.specs.declared.outcome.RunFault.TheVariants as fault
 use Rattle.hq_runner.specs.declared.queue.Ended.{Ended}
 use Rattle.hq_runner.specs.Ended.{AllDone, Done}
 use Rattle.hq_runner.specs.Hosted.{HostDone}
 use Rattle.hq_runner.specs.Journals.{ArePrograms, IsOneByOne, IsWhole, host_events, is_asked}
 use Rattle.hq_runner.specs.Kits.{AllRan, tasks_of}
 use Rattle.hq_runner.specs.Spread.{Gives}
-use Rattle.hq_runner.specs.Outcomes.{AreReceipts, KitsRan, ListsDone, NoFault, kits_in}
+use Rattle.hq_runner.specs.Outcomes.{AreReceipts, IsFirstWrong, KitsRan, ListsDone, NoFault, OnReceipts, kits_in}
 
 -- a list has an entry in each of its places
 at_some : {X : Type 0} (xs : List X) (i : ℕ) → i < length xs → (x : X) × (x ≡ slice_index_or xs i x)
@@ -87,6 +90,29 @@ as_one_by_one job old new memory valid ordered same adds first complete is = λ 
     ap (λ m. slice_index m b) is
     ∙ (rest_ends (plan job) list (map coarse_of old.events) (state_of (plan job) old.state) (state_of (plan job) new.state) valid ordered extends before.run
     (completed job old same complete) (rested job old new same adds)).memory b byte
+
+-- ---- lists that differ
+
+-- Where all lists are the journal's, none is the first that isn't.
+pub none_wrong : {X : Type 0} {Y : X → Type 0} {V : Type 0} {W : V → Type 0} (job : Job) (events host : List Event) (all : List (Ended X V Y W)) (q : ℕ)
+    → AreReceipts job events all → host_events events ≡ host → IsFirstWrong job events host all q → ⊥
+none_wrong job events host all q receipts same wrong = elim (cases_lt q (length all)) [
+  | inl low ↦ (let (ended, at) = at_some all q low in wrong.of_queue ended low at (receipts.each q ended low at))
+  | inr high ↦ wrong.of_host (omega (arith, high, wrong.place)) same
+]
+
+-- A fault that tells of no list.
+pub tells_none : (f : RunFault) (P : ℕ → Type 0) → OnReceipts f (λ _. ⊥) → OnReceipts f P
+tells_none fault.Memory P none = tt
+tells_none (fault.Kernel packet home lost found) P none = tt
+tells_none fault.Split P none = tt
+tells_none (fault.Receipts q) P none = absurd none
+tells_none fault.Unfinished P none = tt
+
+-- The same of an answer that only want of memory is in the way of.
+pub memory_alone : {T : Type 0} (result : Result T RunFault) (P : ℕ → Type 0) → IfErr result (λ e. e ≡ fault.Memory) → IfErr result (λ e. OnReceipts e P)
+memory_alone (Ok x) P is = tt
+memory_alone (Err e) P is = subst (λ f. OnReceipts f P) (sym is) tt
 
 -- ---- kits
 

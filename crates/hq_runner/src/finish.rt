@@ -1,16 +1,17 @@
 //! The end of a run: what the processors did is compared with the journal.
 
-ghost use Rattle.std.specs.Prelude.{◌≡◌, ℕ, ◌<◌, ◌^◌, List, None, IfOk, IfErr, IfNone, OnOk, length};
+ghost use Rattle.std.specs.Prelude.{◌≡◌, ℕ, ◌<◌, ◌^◌, ◌↔◌, List, None, length};
+ghost use Rattle.std.specs.Prelude.{IsNone, IsOk, IfOk, IfErr, IfNone, IfSome, OnOk};
 ghost use Rattle.hq_hall.specs.View.{AddsAlone};
 ghost use Rattle.hq_job.specs.Plan.{plan};
-ghost use Rattle.hq_tables.specs.declared.rows.Placed.{Placed};
 ghost use Rattle.hq_events.specs.declared.event.Event.TheVariants as event;
 ghost use Rattle.hq_machine.specs.View.{state_of};
 ghost use Rattle.hq_model.specs.Job.{IsPacket};
 ghost use Rattle.hq_model.specs.Machine.{Phase as phase};
 ghost use Rattle.hq_runner.specs.Hosted.{HostDone};
 ghost use Rattle.hq_runner.specs.Journals.{ArePrograms, IsOneByOne, IsWhole, host_events};
-ghost use Rattle.hq_runner.specs.Outcomes.{AreReceipts, IsCounted, ListsDone, NoFault, kits_in};
+ghost use Rattle.hq_runner.specs.Outcomes.{Agrees, AreReceipts, IsCounted, IsFirstWrong};
+ghost use Rattle.hq_runner.specs.Outcomes.{ListsDone, NoFault, OnReceipts, kits_in};
 
 use crate::fault::Fault;
 use crate::host::Hosted;
@@ -48,6 +49,7 @@ fn worse(first: Fault, second: Fault) -> Fault {
 fn first_fault(all: &[Ended], host: Option<Fault>) -> Option<Fault>
     ensures all { IfNone result (NoFault all.now) }
     ensures host { IfNone result (host ≡ None) }
+    ensures none { NoFault all.now → host ≡ None → IsNone result }
 {
     let mut told = host;
     for ended in all {
@@ -66,6 +68,7 @@ fn wrong_receipt(job: &Job, journal: &[Event], host: &[Event], all: &[Ended]) ->
     requires { length all.now < 2 ^ 16 }
     ensures all { IfNone result (AreReceipts (plan job.now) journal.now all.now) }
     ensures host { IfNone result (host_events journal.now ≡ host.now) }
+    ensures wrong { IfSome result (IsFirstWrong (plan job.now) journal.now host.now all.now) }
 {
     let mut q = 0;
     while q < all.len() {
@@ -96,12 +99,15 @@ fn kits_of(alloc: Global, mut all: Vec<Ended>) -> Result<Vec<Kit>, AllocError>
     Ok(kits)
 }
 
-/// Compares what was done with the journal, once no fault was met.
+/// Compares what was done with the journal, once no fault was met. Of lists that differ the first is told of.
 fn check(job: &Job, hall: &Hall, host: &Hosted, all: &[Ended]) -> Result<(), RunFault>
     requires lists { ListsDone (plan job.now) all.now }
     requires host { HostDone (plan job.now) host.now }
     requires none { NoFault all.now }
     requires none_of_host { host.now.fault ≡ None }
+    ensures ok { IsOk result ↔ Agrees job.now hall.now host.now.events.items all.now }
+    ensures receipts { IfErr result
+        (λ e. OnReceipts e (IsFirstWrong (plan job.now) hall.now.events host.now.events.items all.now)) }
     ensures same { OnOk result (hall.now.job.job ≡ job.now) }
     ensures complete { OnOk result
         ((p : ℕ) → IsPacket (plan hall.now.job.job) p
@@ -125,15 +131,18 @@ fn check(job: &Job, hall: &Hall, host: &Hosted, all: &[Ended]) -> Result<(), Run
     }
 }
 
-/// Makes the rest happen.
+/// Makes the rest happen, which always can.
 fn rest(hall: &mut Hall) -> Result<(), RunFault>
     ensures rests { OnOk result (AddsAlone hall.old event.Rest hall.new) }
-    ensures counted { IfErr result (λ e. (packets : List Placed) → IsCounted packets e) }
+    ensures err { IfErr result (λ e. e ≡ RunFault.Memory) }
 {
+    hall.run_so_far();
+    hall.job().valid();
     match hall.rest() {
         Ok(()) => Ok(()),
         Err(HallFault::Memory) => Err(RunFault::Memory),
-        Err(_) => Err(RunFault::Unfinished),
+        Err(HallFault::NotEnabled) => unreachable!(),
+        Err(HallFault::WrongPieces) => unreachable!(),
     }
 }
 
@@ -141,7 +150,7 @@ fn rest(hall: &mut Hall) -> Result<(), RunFault>
 fn rested(alloc: Global, hall: &mut Hall) -> Result<Vec<u8>, RunFault>
     ensures rests { OnOk result (AddsAlone hall.old event.Rest hall.new) }
     ensures memory { IfOk result (λ memory. memory.items ≡ hall.new.state.copies.memory) }
-    ensures counted { IfErr result (λ e. (packets : List Placed) → IsCounted packets e) }
+    ensures err { IfErr result (λ e. e ≡ RunFault.Memory) }
 {
     rest(hall)?;
     match hall.memory().to_vec(alloc) {
@@ -164,7 +173,7 @@ fn close(
     ensures whole { IfOk result (λ o. IsWhole (plan accepted.now.job) o.journal o.memory.items) }
     ensures one_by_one { IfOk result (λ o. IsOneByOne (plan accepted.now.job) o.memory.items) }
     ensures kits { IfOk result (λ o. o.kits.items ≡ kits.items) }
-    ensures counted { IfErr result (λ e. IsCounted accepted.now.job.packets e) }
+    ensures err { IfErr result (λ e. e ≡ RunFault.Memory) }
 {
     accepted.ordered();
     hall.run_so_far();
@@ -184,7 +193,8 @@ fn close(
 
 /// What is told of a run in which this fault was met.
 fn run_fault(job: &Job, hall: &mut Hall, fault: Fault) -> RunFault
-    ensures { IsCounted job.now.packets result }
+    ensures counted { IsCounted job.now.packets result }
+    ensures receipts { OnReceipts result (λ _. ⊥) }
 {
     match fault {
         Fault::Memory => RunFault::Memory,
@@ -208,7 +218,7 @@ fn leave(
     ensures whole { IfOk result (λ o. IsWhole (plan accepted.now.job) o.journal o.memory.items) }
     ensures one_by_one { IfOk result (λ o. IsOneByOne (plan accepted.now.job) o.memory.items) }
     ensures kits { IfOk result (λ o. o.kits.items ≡ kits_in all.items) }
-    ensures counted { IfErr result (λ e. IsCounted accepted.now.job.packets e) }
+    ensures err { IfErr result (λ e. e ≡ RunFault.Memory) }
 {
     match kits_of(alloc, all) {
         Ok(kits) => close(alloc, accepted, hall, kits),
@@ -216,7 +226,7 @@ fn leave(
     }
 }
 
-/// What a run leaves in which no fault was met.
+/// What a run leaves in which no fault was met. Where the journal is what was done, want of memory alone is told.
 fn compare(
     alloc: Global,
     accepted: &Accepted,
@@ -231,6 +241,11 @@ fn compare(
     ensures whole { IfOk result (λ o. IsWhole (plan accepted.now.job) o.journal o.memory.items) }
     ensures one_by_one { IfOk result (λ o. IsOneByOne (plan accepted.now.job) o.memory.items) }
     ensures kits { IfOk result (λ o. o.kits.items ≡ kits_in all.items) }
+    ensures ok { OnOk result (Agrees accepted.now.job hall.entry host.now.events.items all.items) }
+    ensures agrees { Agrees accepted.now.job hall.entry host.now.events.items all.items
+        → IfErr result (λ e. e ≡ RunFault.Memory) }
+    ensures receipts { IfErr result
+        (λ e. OnReceipts e (IsFirstWrong (plan accepted.now.job) hall.entry.events host.now.events.items all.items)) }
     ensures counted { IfErr result (λ e. IsCounted accepted.now.job.packets e) }
 {
     match check(accepted.job(), &hall, host, &all) {
@@ -253,6 +268,11 @@ pub fn finish(
     ensures one_by_one { IfOk result (λ o. IsOneByOne (plan accepted.now.job) o.memory.items) }
     ensures kits { IfOk result (λ o. o.kits.items ≡ kits_in all.items) }
     ensures none { OnOk result (NoFault all.items) }
+    ensures ok { OnOk result (Agrees accepted.now.job hall.entry host.events.items all.items) }
+    ensures agrees { NoFault all.items → host.fault ≡ None → Agrees accepted.now.job hall.entry host.events.items all.items
+        → IfErr result (λ e. e ≡ RunFault.Memory) }
+    ensures receipts { IfErr result
+        (λ e. OnReceipts e (IsFirstWrong (plan accepted.now.job) hall.entry.events host.events.items all.items)) }
     ensures counted { IfErr result (λ e. IsCounted accepted.now.job.packets e) }
 {
     match first_fault(&all, host.fault) {

@@ -1,7 +1,7 @@
 //! How a run ends.
 
 ghost use Rattle.std.specs.Prelude.{◌≡◌, ◌==◌, count_by};
-ghost use Rattle.hq_runner.specs.Outcomes.{IsCounted};
+ghost use Rattle.hq_runner.specs.Outcomes.{IsCounted, OnReceipts};
 
 use hq_hall::Hall;
 use hq_job::Job;
@@ -52,7 +52,8 @@ fn count_of(found: &[Home], packet: u16) -> usize
 
 /// The fault of a packet's body, with all that came home.
 pub fn kernel_fault(job: &Job, hall: &mut Hall, packet: u16) -> RunFault
-    ensures { IsCounted job.now.packets result }
+    ensures counted { IsCounted job.now.packets result }
+    ensures receipts { OnReceipts result (λ _. ⊥) }
 {
     let Ok(found) = hall.gather() else {
         return RunFault::Memory;

@@ -10,6 +10,3 @@ pub returns-in-Ok-clause-one_by_one : goal.returns-in-Ok-clause-one_by_one
 returns-in-Ok-clause-one_by_one g c =
     as_one_by_one c.args.accepted.now.job c.args.hall c.rested.new.hall _ c.ordered.ensures.valid c.ordered.ensures.ordered c.requires.same c.in-Ok.ensures.rests
     c.run_so_far.ensures.run c.requires.complete c.in-Ok.ensures.memory
-
-pub returns-in-Err-clause-counted : goal.returns-in-Err-clause-counted
-returns-in-Err-clause-counted g c = c.in-Err.ensures.counted c.args.accepted.now.job.packets
