@@ -1,5 +1,6 @@
 -- What `fix` and `trim` write.
-use Rattle.std.specs.Prelude.{◌≡◌, ℕ, List}
+use Rattle.std.specs.Prelude.{◌≡◌, ◌≢◌, ℕ, List, Option, MatchOption}
+use Rattle.std.specs.Io.KnownBytes.{Appends}
 use Rattle.hq_model.specs.Job.{Job}
 use Rattle.hq_model.specs.Settings.{highest}
 use Rattle.hq_text.specs.Lines.{lines_of}
@@ -39,6 +40,20 @@ pub record TellsChange (aim : Aim) (job : JobValue) (it : Changed) : Type 0 wher
   pub changed : IsChanged aim (plan job) (plan it.job)
   pub heads : it.heads.items ≡ heads_of job
 
+-- What was written behind what the writer held is the text with other heads, which is that of the job that is
+-- answered: the job as the aim has it, with the heads that there were.
+pub record TellsWritten (aim : Aim) (text : List ℕ) (job : JobValue) (old new : Option (List ℕ))
+    (it : Changed) : Type 0 where
+  pub written : List ℕ
+  pub appended : Appends old new written
+  pub reads : JobText (lines_of written) it.job
+  pub rewritten : TextRewritten (heads_of it.job) job text written
+  pub told : TellsChange aim job it
+
 -- so it is of the job that a text is
-abbrev pub TellsText : Aim → Changed → List ℕ → Type 0
-TellsText aim it text = (job : JobValue) × JobText (lines_of text) job × TellsChange aim job it
+abbrev pub TellsText : Aim → Option (List ℕ) → Option (List ℕ) → Changed → List ℕ → Type 0
+TellsText aim old new it text = (job : JobValue) × JobText (lines_of text) job × TellsWritten aim text job old new it
+
+-- A changed job is answered exactly where the status is `Done`, and then the fact holds of it.
+abbrev pub TellsIfDone : Status → Option Changed → (Changed → Type 0) → Type 0
+TellsIfDone status answered Tells = MatchOption answered (status ≢ Done) (λ it. (status ≡ Done) × Tells it)

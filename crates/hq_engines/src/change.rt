@@ -1,6 +1,6 @@
 //! `hsaq fix` and `hsaq trim`: a job's text with other heads on its packets.
 
-ghost use Rattle.std.specs.Prelude.{◌≡◌, IfErr, IfOk, IfSome, length};
+ghost use Rattle.std.specs.Prelude.{◌≡◌, IfErr, IfOk, length};
 ghost use Rattle.hq_text.specs.Lines.{lines_of};
 ghost use Rattle.hq_jobtext.specs.JobText.{JobText};
 ghost use Rattle.hq_job.specs.Plan.{plan};
@@ -8,8 +8,8 @@ ghost use Rattle.hq_jobtext.specs.Rewritten.{TextRewritten};
 ghost use Rattle.hq_job.specs.Heads.{heads_of, job_with_heads};
 ghost use Rattle.hq_audit.specs.Refused.{IsRefused};
 ghost use Rattle.hq_audit.specs.declared.fault.AuditNo.TheVariants.{Memory};
-ghost use Rattle.hq_engines.specs.Change.{ChangeReport, IsChanged, TellsChange, TellsText, judged_job};
-ghost use Rattle.hq_status.specs.Reports.{JobTextReport, OfReader, ReaderReport, Reported};
+ghost use Rattle.hq_engines.specs.Change.{ChangeReport, IsChanged, TellsIfDone, TellsText, TellsWritten, judged_job};
+ghost use Rattle.hq_status.specs.Reports.{JobTextReport, OfReader, ReaderReport, Reported, Said};
 
 use hq_audit::AuditNo;
 use hq_change::{Watch, fix, trim};
@@ -34,6 +34,11 @@ pub enum Aim {
 pub struct Changed {
     pub job: Job,
     pub heads: Vec<Head>,
+}
+
+impl Changed {
+    /// Drops it. In a proof this call is one step.
+    fn let_go(self) {}
 }
 
 /// The job as the aim has it.
@@ -111,7 +116,21 @@ fn text_changed(
     with_text(alloc, text, job, changed)
 }
 
-/// Writes the text of a job as the aim has it, or why there is none.
+/// Writes the text of a job whose heads were changed. Answers the status and, where all of it was written, that job.
+fn say_changed<W: Write>(writer: &mut W, text: &[u8], changed: Changed) -> (Status, Option<Changed>)
+    ensures said { Said (W.contents writer.old) (W.contents writer.new) text.now Status.Done result.0 }
+    ensures told { TellsIfDone result.0 result.1 (λ it. it ≡ changed) }
+{
+    match say_text(writer, text) {
+        Status::Done => (Status::Done, Some(changed)),
+        failed => {
+            changed.let_go();
+            (failed, None)
+        }
+    }
+}
+
+/// Writes the text of a job as the aim has it, and answers that job beside the status; or writes why there is none.
 fn change_found<W: Write>(
     alloc: Global,
     writer: &mut W,
@@ -123,20 +142,21 @@ fn change_found<W: Write>(
     requires { JobText (lines_of text.now) job.now }
     ensures report { Reported (ChangeReport aim text.now job.now) (W.contents writer.old)
         (W.contents writer.new) result.0 }
-    ensures told { IfSome result.1 (λ it. TellsChange aim job.now it) }
+    ensures told { TellsIfDone result.0 result.1
+        (TellsWritten aim text.now job.now (W.contents writer.old) (W.contents writer.new)) }
 {
     job.valid();
     stuck_exactly();
     match text_changed(alloc, text, job, aim, watch) {
-        Ok((new, changed)) => (say_text(writer, &new), Some(changed)),
+        Ok((new, changed)) => say_changed(writer, &new, changed),
         Err(no) => (say_no_certificate(writer, no), None),
     }
 }
 
 /// Reads a job, and writes its text with other heads: with what it lacks, or without what it doesn't need. Nothing
-/// else of the text is other. Answers the status and, where that text was written, the job that it is and the heads
-/// that the packets had. Nothing is written before the last growth of memory. The watch hears how far the change
-/// has come.
+/// else of the text is other. Answers the status and, exactly where that text was written, the job that it is and the
+/// heads that the packets had. Nothing is written before the last growth of memory. The watch hears how far the
+/// change has come.
 pub fn change_engine<R: Read, W: Write>(
     alloc: Global,
     reader: &mut R,
@@ -147,7 +167,9 @@ pub fn change_engine<R: Read, W: Write>(
     ensures report { Reported
         (ReaderReport R R.remaining reader.old reader.new (λ text. JobTextReport (ChangeReport aim text) text))
         (W.contents writer.old) (W.contents writer.new) result.0 }
-    ensures told { IfSome result.1 (λ it. OfReader R R.remaining reader.old reader.new (TellsText aim it)) }
+    ensures told { TellsIfDone result.0 result.1
+        (λ it. OfReader R R.remaining reader.old reader.new
+        (TellsText aim (W.contents writer.old) (W.contents writer.new) it)) }
 {
     match take_job_text(alloc, reader, writer) {
         Ok((text, job)) => {
