@@ -116,16 +116,17 @@ fn text_changed(
     with_text(alloc, text, job, changed)
 }
 
-/// Writes the text of a job whose heads were changed. Answers the status and, where all of it was written, that job.
+/// Writes the text of a job whose heads were changed, and holds nothing of it back. Answers the status and, where all
+/// of that went, the job.
 fn say_changed<W: Write>(writer: &mut W, text: &[u8], changed: Changed) -> (Status, Option<Changed>)
     ensures said { Said (W.contents writer.old) (W.contents writer.new) text.now Status.Done result.0 }
     ensures told { TellsIfDone result.0 result.1 (λ it. it ≡ changed) }
 {
-    match say_text(writer, text) {
-        Status::Done => (Status::Done, Some(changed)),
-        failed => {
+    match (say_text(writer, text), writer.flush()) {
+        (Status::Done, Ok(())) => (Status::Done, Some(changed)),
+        _ => {
             changed.let_go();
-            (failed, None)
+            (Status::File, None)
         }
     }
 }
