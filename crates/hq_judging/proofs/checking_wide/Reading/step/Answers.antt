@@ -11,5 +11,5 @@ returns-in_default g c =
 pub returns-in-Err : goal.returns-in-Err
 returns-in-Err g c =
     let read = c.step-came.ensures in
-    let fault = err_told c.step-came.result.1 c.in-Err.fault _ c.in-Err.is read.3 in
+    let fault = err_told c.step-came.result.1 c.in-Err.fault _ c.in-Err.is read.2.1 in
     (read.0, read.1, λ from text h. stays_more (λ lines. HasFault lines c.in-Err.fault) text read.0 (fault from text (was_taking from text c.args.self.now c.in-Taking.chunks c.in-Taking.is h)))
