@@ -11,11 +11,10 @@ use Rattle.hq_model.specs.Order.{OrderList}
 use Rattle.hq_model.specs.Fence.{Conflict, Conflicts, Ordered}
 use Rattle.hq_model.specs.Fence.Conflict.{WriteRead, WriteWrite, ReadWrite}
 use Rattle.hq_model.specs.Certificate as model
-use Rattle.hq_model.specs.Certificate.{Certificate, CertHolds, HasPairs}
+use Rattle.hq_model.specs.Certificate.{Certificate, CertHolds, LinesHold, HasPairs}
 use Rattle.hq_audit.specs.declared.fault.AuditNo.{AuditNo}
 use Rattle.hq_audit.specs.declared.fault.AuditNo.TheVariants as audit
 use Rattle.hq_audit.specs.declared.directed.Unshown.{Unshown}
-use Rattle.hq_derive.specs.Gathered.{AllFollow}
 use Rattle.hq_audit.specs.declared.audited.Audited.{Audited}
 use Rattle.hq_audit.specs.declared.draft.Draft.{Draft}
 use Rattle.hq_audit.specs.Audited.{order_in, lines_in, drafts_in, IsAudited}
@@ -29,17 +28,17 @@ use Rattle.hq_audit.specs.Lawful.{OrderedIsNotRefused}
 abbrev pub parts : List ℕ → List model.Line → List model.Pair → Certificate
 parts order lines pairs = record { order = order; lines = lines; pairs = pairs }
 
-has_one : (job : Job) (order : List ℕ) (lines : List model.Line) (drafts : List Draft) (pairs : List model.Pair) (p r : ℕ) → ArePairsOf job lines drafts pairs → HasAll job drafts p r ⊎ HasAll job drafts r p
-    → HasPairs job (parts order lines pairs) p r ⊎ HasPairs job (parts order lines pairs) r p
-has_one job order lines drafts pairs p r are (inl h) = inl (λ kind c. has_pair job order lines drafts pairs p r kind are (h kind c))
-has_one job order lines drafts pairs p r are (inr h) = inr (λ kind c. has_pair job order lines drafts pairs r p kind are (h kind c))
+has_one : (job : Job) (lines : List model.Line) (drafts : List Draft) (pairs : List model.Pair) (p r : ℕ) → ArePairsOf job lines drafts pairs → HasAll job drafts p r ⊎ HasAll job drafts r p
+    → HasPairs job pairs p r ⊎ HasPairs job pairs r p
+has_one job lines drafts pairs p r are (inl h) = inl (λ kind c. has_pair job lines drafts pairs p r kind are (h kind c))
+has_one job lines drafts pairs p r are (inr h) = inr (λ kind c. has_pair job lines drafts pairs r p kind are (h kind c))
 
-pub cert_holds : (job : Job) (order : List ℕ) (lines : List model.Line) (drafts : List Draft) (pairs : List model.Pair) → OrderList job order → AllFollow job lines → ArePairsOf job lines drafts pairs → AllPaired job drafts
+pub cert_holds : (job : Job) (order : List ℕ) (lines : List model.Line) (drafts : List Draft) (pairs : List model.Pair) → OrderList job order → LinesHold job lines → ArePairsOf job lines drafts pairs → AllPaired job drafts
     → CertHolds job (parts order lines pairs)
 cert_holds job order lines drafts pairs o f are a = record {
   order = o;
   lines = λ k line e. f k line e;
-  conflicts = λ p r kind low is c. has_one job order lines drafts pairs p r are (a p r low is);
+  conflicts = λ p r kind low is c. has_one job lines drafts pairs p r are (a p r low is);
   pairs = all_hold job lines drafts pairs are;
 }
 

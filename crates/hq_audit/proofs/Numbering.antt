@@ -12,11 +12,11 @@ use Rattle.hq_derive.proofs.Branching.{zip_push}
 use Rattle.hq_model.specs.Job.{Job, IsPacket}
 use Rattle.hq_model.specs.Fence.{Conflict}
 use Rattle.hq_model.specs.Certificate as model
-use Rattle.hq_model.specs.Certificate.{FencesHold, HasPair}
+use Rattle.hq_model.specs.Certificate.{FencesHold, PairHolds, HasPair}
 use Rattle.hq_audit.specs.declared.draft.Draft.{Draft}
 use Rattle.hq_audit.specs.declared.packed.Packed.{Packed}
 use Rattle.hq_audit.specs.Packed.{unpacked}
-use Rattle.hq_audit.specs.Paired.{pairs_of, AllHold, HasDraft, IsPairOf, ArePairsOf, PairsGo}
+use Rattle.hq_audit.specs.Paired.{pairs_of, HasDraft, IsPairOf, ArePairsOf, PairsGo}
 
 some_and : {X : Type 0} (o : Option X) (P : X → Type 0) → IsSomeAnd o P → (x : X) × (o ≡ Some x) × P x
 some_and None P h = absurd h
@@ -35,30 +35,28 @@ draft_at job lines drafts pairs k pair h e =
     some_and (slice_get drafts k) (λ x. IsPairOf job lines x pair)
     (subst (λ o. MatchOption o (Unit {0}) (λ y. IsSomeAnd (slice_get drafts k) (λ x. IsPairOf job lines x y))) e (AllZip-right (IsPairOf job lines) drafts pairs h k))
 
-hold_of : (job : Job) (lines : List model.Line) (draft : Draft) (pair : model.Pair) → IsPairOf job lines draft pair → IsPacket job pair.p × IsPacket job pair.r × FencesHold job lines pair.p pair.r pair.fences
+hold_of : (job : Job) (lines : List model.Line) (draft : Draft) (pair : model.Pair) → IsPairOf job lines draft pair → PairHolds job lines pair
 hold_of job lines draft pair i = (
   subst (IsPacket job) (sym i.first) i.p_is,
   subst (IsPacket job) (sym i.second) i.r_is,
   subst (λ p. FencesHold job lines p pair.r pair.fences) (sym i.first) (subst (λ r. FencesHold job lines draft.p r pair.fences) (sym i.second) i.holds.hold),
 )
 
-pub all_hold : (job : Job) (lines : List model.Line) (drafts : List Draft) (pairs : List model.Pair) → ArePairsOf job lines drafts pairs → AllHold job lines pairs
+pub all_hold : (job : Job) (lines : List model.Line) (drafts : List Draft) (pairs : List model.Pair) → ArePairsOf job lines drafts pairs → All (PairHolds job lines) pairs
 all_hold job lines drafts pairs h = λ k d low.
     let pair = slice_index_or pairs k d in
     let f = draft_at job lines drafts pairs k pair h (slice_get-get_or pairs k d low) in
     hold_of job lines f.0 pair f.2
 
-pub has_pair : (job : Job) (order : List ℕ) (lines : List model.Line) (drafts : List Draft) (pairs : List model.Pair) (p r : ℕ) (kind : Conflict) → ArePairsOf job lines drafts pairs
-    → HasDraft drafts p r kind → HasPair (record { order = order; lines = lines; pairs = pairs }) p r kind
-has_pair job order lines drafts pairs p r kind h d =
+pub has_pair : (job : Job) (lines : List model.Line) (drafts : List Draft) (pairs : List model.Pair) (p r : ℕ) (kind : Conflict) → ArePairsOf job lines drafts pairs
+    → HasDraft drafts p r kind → HasPair pairs p r kind
+has_pair job lines drafts pairs p r kind h d =
     let f = pair_at job lines drafts pairs d.k d.draft h d.there in
     record {
       k = d.k;
       pair = f.0;
       there = f.1;
-      first = f.2.first ∙ d.first;
-      second = f.2.second ∙ d.second;
-      kind_is = f.2.holds.kind_is ∙ d.kind_is;
+      is_for = record { first = f.2.first ∙ d.first; second = f.2.second ∙ d.second; kind_is = f.2.holds.kind_is ∙ d.kind_is };
     }
 
 -- ---- one more

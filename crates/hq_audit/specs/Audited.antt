@@ -12,13 +12,15 @@ use Rattle.hq_audit.specs.declared.packed.Packed.{Packed}
 use Rattle.hq_audit.specs.Drafted.{AllDrafts, seen, listed, any_chained}
 use Rattle.hq_audit.specs.Paired.{AllPaired, IsPairOf, IsPlain}
 
--- the order list, the lines, and the lists of drafts of pair lines
+-- the order list
 abbrev pub order_in : Audited → List ℕ
 order_in a = a.order.items
 
+-- the lines
 abbrev pub lines_in : Audited → List model.Line
 lines_in a = lines_of a.lines
 
+-- the lists of drafts
 abbrev pub lists_in : Audited → List (Vec Packed)
 lists_in a = a.lists.items
 

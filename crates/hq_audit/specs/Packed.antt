@@ -15,10 +15,12 @@ abbrev pub IsSmallRelease : Release → Type 0
 IsSmallRelease (release.Alone x) = x < PACKETS
 IsSmallRelease (release.Chained x x2) = (x < PACKETS) × (x2 < PACKETS)
 
+-- so do those of an acquire
 abbrev pub IsSmallAcquire : Acquire → Type 0
 IsSmallAcquire (acquire.Alone y) = y < PACKETS
 IsSmallAcquire (acquire.Chained y2 y) = (y2 < PACKETS) × (y < PACKETS)
 
+-- so do those of all fences
 abbrev pub AreSmall : Means → Type 0
 AreSmall ReadWrite = Unit {0}
 AreSmall (WriteWrite release) = IsSmallRelease release

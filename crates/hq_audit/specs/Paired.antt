@@ -66,11 +66,6 @@ pub record AcquireCited (job : Job) (lines : List model.Line) (p r : ℕ) (acqui
 abbrev pub pairs_of : Vec Pair → List model.Pair
 pairs_of v = map pair_of v.items
 
--- Each pair line holds.
-abbrev pub AllHold : Job → List model.Line → List model.Pair → Type 0
-AllHold job lines pairs = All
-    (λ pair. IsPacket job pair.p × IsPacket job pair.r × FencesHold job lines pair.p pair.r pair.fences) pairs
-
 -- These fences, with what they cite, hold for p and r, and are for the kind of conflict that the draft is for.
 pub record HoldFor (job : Job) (lines : List model.Line) (p r : ℕ) (means : Means)
     (fences : model.Fences) : Type 0 where

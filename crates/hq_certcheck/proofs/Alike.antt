@@ -3,13 +3,13 @@ use Rattle.std.proofs.Common.{◌≡◌, ℕ, zero, suc, ◌<◌, List, [], ◌�
 use Rattle.std.specs.List.{AllZip}
 use Rattle.std.proofs.lemmas.List.{length-map}
 use Rattle.hq_model.specs.Job.{Job, Decrements, packet}
-use Rattle.hq_model.specs.Certificate.{Line, Rule, Fences, Pair, Says, Cites, Follows, ReleaseHolds, AcquireHolds, FencesHold, signals}
+use Rattle.hq_model.specs.Certificate.{Line, Rule, Fences, Pair, Says, Cites, Follows, ReleaseHolds, AcquireHolds, FencesHold, signals, PairHolds}
 use Rattle.hq_model.specs.Certificate.Rule.{Bit, Queue, And, Or, Through}
 use Rattle.hq_model.specs.Certificate.Fences.{ForReadWrite, ForWriteWrite, ForWriteRead, ForWriteWriteChained, ForWriteReadChained}
 use Rattle.hq_certcheck.specs.declared.conclusion.Conclusion.{Conclusion}
 use Rattle.hq_certcheck.specs.Concluded.{conclusion_of, bare}
 use Rattle.hq_ordercheck.proofs.Options.{some_same}
-use Rattle.hq_certcheck.specs.Listed.{PairFollows, FirstBadPair}
+use Rattle.hq_certcheck.specs.Listed.{FirstBadPair}
 
 -- ---- what is concluded, and lines that conclude it
 
@@ -110,14 +110,14 @@ module _ (lines others : List Line) (alike : map conclusion_of lines ≡ map con
   fences_alike job p r (ForWriteReadChained x x2 y2 y from link between link2 to) h =
       (h.0, released job p r x x2 link h.1, acquired job p r y2 y link2 h.2, cited from p x h.3, said between x2 y2 h.4, cited to y r h.5)
 
-  pub pair_alike : (job : Job) (pair : Pair) → PairFollows job lines pair → PairFollows job others pair
+  pub pair_alike : (job : Job) (pair : Pair) → PairHolds job lines pair → PairHolds job others pair
   pair_alike job pair h = (h.0, h.1, fences_alike job pair.p pair.r pair.fences h.2)
 
 -- ---- the first pair line that doesn't hold
 
 -- it is the same by lines that conclude the same
-pub bad_pair_alike : (job : Job) (lines others : List Line) (pairs : List Pair) (found : Option (ℕ × ℕ)) → map conclusion_of lines ≡ map conclusion_of others → MatchOption found (All (PairFollows job lines) pairs) (λ f. FirstBadPair job lines pairs f.0 f.1)
-    → MatchOption found (All (PairFollows job others) pairs) (λ f. FirstBadPair job others pairs f.0 f.1)
+pub bad_pair_alike : (job : Job) (lines others : List Line) (pairs : List Pair) (found : Option (ℕ × ℕ)) → map conclusion_of lines ≡ map conclusion_of others → MatchOption found (All (PairHolds job lines) pairs) (λ f. FirstBadPair job lines pairs f.0 f.1)
+    → MatchOption found (All (PairHolds job others) pairs) (λ f. FirstBadPair job others pairs f.0 f.1)
 bad_pair_alike job lines others pairs None e h = λ i d l. pair_alike lines others e job (slice_index_or pairs i d) (h i d l)
 bad_pair_alike job lines others pairs (Some f) e h = record {
   k = h.k;

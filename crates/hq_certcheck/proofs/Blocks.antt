@@ -5,8 +5,8 @@ use Rattle.std.proofs.lemmas.Option.{slice_get_within}
 use Rattle.hq_cert.specs.declared.certificate.Line.{Line as CertLine}
 use Rattle.hq_cert.specs.View.{line_of}
 use Rattle.hq_model.specs.Job.{Job}
-use Rattle.hq_model.specs.Certificate.{Line}
-use Rattle.hq_certcheck.specs.Listed.{Block, BadLineBut, BadLineIs, BadLineOf, IsBad, IsLeft, IsUpTo, IsWithin, LineFollows, StandAt}
+use Rattle.hq_model.specs.Certificate.{Line, LineHolds}
+use Rattle.hq_certcheck.specs.Listed.{Block, BadLineBut, BadLineIs, BadLineOf, IsBad, IsLeft, IsUpTo, IsWithin, StandAt}
 use Rattle.hq_certcheck.proofs.Alike.{Agree, follows_agreed}
 use Rattle.hq_certcheck.proofs.Saying.{meant_at}
 use Rattle.hq_certcheck.proofs.Behind.{got_left, got_right}
@@ -21,11 +21,11 @@ shorter_agree : (lines more : List Line) (limit : ℕ) → limit ≤ length line
 shorter_agree lines more limit few k line low there = record { other = line; there = sym (got_left lines more k (omega (arith, low, few))) ∙ there; same = refl }
 
 module _ (job : Job) (lines more : List Line) (k : ℕ) (low : k < length lines) where
-  pub follows_longer : LineFollows job lines k → LineFollows job (lines ++ more) k
+  pub follows_longer : LineHolds job lines k → LineHolds job (lines ++ more) k
   follows_longer h line there =
       follows_agreed lines (lines ++ more) k (longer_agree lines more k (omega (arith, low))) job line.p line.r line.rule (h line (sym (got_left lines more k low) ∙ there))
 
-  pub follows_shorter : LineFollows job (lines ++ more) k → LineFollows job lines k
+  pub follows_shorter : LineHolds job (lines ++ more) k → LineHolds job lines k
   follows_shorter h line there =
       follows_agreed (lines ++ more) lines k (shorter_agree lines more k (omega (arith, low))) job line.p line.r line.rule (h line (got_left lines more k low ∙ there))
 
@@ -62,8 +62,8 @@ but_more job lines more left count found e h = record {
   ];
 }
   where
-    by : (k : ℕ) → k < length lines → IsLeft left k ⊎ (LineFollows job lines k ⊎ IsUpTo found k)
-        → IsLeft (left ++ record { from = length lines; count = count } ∷ []) k ⊎ (LineFollows job (lines ++ more) k ⊎ IsUpTo found k)
+    by : (k : ℕ) → k < length lines → IsLeft left k ⊎ (LineHolds job lines k ⊎ IsUpTo found k)
+        → IsLeft (left ++ record { from = length lines; count = count } ∷ []) k ⊎ (LineHolds job (lines ++ more) k ⊎ IsUpTo found k)
     by k low (inl h) = inl (left_front left (record { from = length lines; count = count } ∷ []) k h)
     by k low (inr (inl h)) = inr (inl (follows_longer job lines more k low h))
     by k low (inr (inr h)) = inr (inr h)
@@ -76,11 +76,11 @@ but_noted job lines front behind block old bad new either was is h b = record {
   others = λ k l. by k (h.others k l);
 }
   where
-    found : (k : ℕ) → LineFollows job lines k ⊎ IsUpTo bad k → IsLeft (front ++ behind) k ⊎ (LineFollows job lines k ⊎ IsUpTo new k)
+    found : (k : ℕ) → LineHolds job lines k ⊎ IsUpTo bad k → IsLeft (front ++ behind) k ⊎ (LineHolds job lines k ⊎ IsUpTo new k)
     found k (inl h) = inr (inl h)
     found k (inr h) = inr (inr (is k h))
 
-    by : (k : ℕ) → IsLeft (front ++ block ∷ behind) k ⊎ (LineFollows job lines k ⊎ IsUpTo old k) → IsLeft (front ++ behind) k ⊎ (LineFollows job lines k ⊎ IsUpTo new k)
+    by : (k : ℕ) → IsLeft (front ++ block ∷ behind) k ⊎ (LineHolds job lines k ⊎ IsUpTo old k) → IsLeft (front ++ behind) k ⊎ (LineHolds job lines k ⊎ IsUpTo new k)
     by k (inl h) = elim (left_or front behind block k h) [ inl here ↦ found k (b.others k here) | inr there ↦ inl there ]
     by k (inr (inl h)) = inr (inl h)
     by k (inr (inr h)) = inr (inr (was k h))
@@ -88,7 +88,7 @@ but_noted job lines front behind block old bad new either was is h b = record {
 -- nothing is left: it is the least line that doesn't hold
 pub but_none : (job : Job) (lines : List Line) (found : Option ℕ) → BadLineBut job lines [] found → BadLineIs job lines found
 but_none job lines None h = λ k line there. by k (h.others k (slice_get_within lines k line there)) line there where
-  by : (k : ℕ) → ⊥ ⊎ (LineFollows job lines k ⊎ ⊥) → LineFollows job lines k
+  by : (k : ℕ) → ⊥ ⊎ (LineHolds job lines k ⊎ ⊥) → LineHolds job lines k
   by k (inl never) = absurd never
   by k (inr (inl h)) = h
   by k (inr (inr never)) = absurd never
@@ -98,7 +98,7 @@ but_none job lines (Some b) h = record {
   first = λ j l. by j l (h.others j (omega (arith, l, h.bad.0)));
 }
   where
-    by : (j : ℕ) → j < b → ⊥ ⊎ (LineFollows job lines j ⊎ (b ≤ j)) → LineFollows job lines j
+    by : (j : ℕ) → j < b → ⊥ ⊎ (LineHolds job lines j ⊎ (b ≤ j)) → LineHolds job lines j
     by j l (inl never) = absurd never
     by j l (inr (inl h)) = h
     by j l (inr (inr high)) = absurd (omega (arith, l, high))

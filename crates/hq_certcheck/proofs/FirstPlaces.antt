@@ -2,11 +2,11 @@
 use Rattle.std.proofs.Common.{◌≡◌, ℕ, List, refl, sym, ◌∙◌, subst, Option, Some, None, is_some, IsTrue, false, slice_get, All, MatchOption}
 use Rattle.std.proofs.lemmas.Option.{slice_get-get_or}
 use Rattle.hq_model.specs.Job.{Job}
-use Rattle.hq_model.specs.Certificate.{Line, Pair}
-use Rattle.hq_certcheck.specs.Listed.{PairFollows, PairFollowsAt, FirstBadPlace, FirstBadPair}
+use Rattle.hq_model.specs.Certificate.{Line, Pair, PairHolds}
+use Rattle.hq_certcheck.specs.Listed.{PairHoldsAt, FirstBadPlace, FirstBadPair}
 use Rattle.hq_ordercheck.proofs.Options.{some_same}
 
-pub all_follow : (job : Job) (lines : List Line) (pairs : List Pair) → ((k : ℕ) → PairFollowsAt job lines pairs k) → All (PairFollows job lines) pairs
+pub all_follow : (job : Job) (lines : List Line) (pairs : List Pair) → ((k : ℕ) → PairHoldsAt job lines pairs k) → All (PairHolds job lines) pairs
 all_follow job lines pairs h = λ k d l. h k _ (slice_get-get_or pairs k d l)
 
 pub first_named : (job : Job) (lines : List Line) (pairs : List Pair) (k : ℕ) (pair : Pair) → FirstBadPlace job lines pairs k → slice_get pairs k ≡ Some pair → FirstBadPair job lines pairs pair.p pair.r
@@ -16,7 +16,7 @@ first_named job lines pairs k pair f there = record {
   there = there;
   first_is = refl;
   second_is = refl;
-  bad = λ h. f.bad (λ other e. subst (PairFollows job lines) (some_same pair other (sym there ∙ e)) h);
+  bad = λ h. f.bad (λ other e. subst (PairHolds job lines) (some_same pair other (sym there ∙ e)) h);
   first = λ j other l e. f.first j l other e;
 }
 

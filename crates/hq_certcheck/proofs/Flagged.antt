@@ -12,8 +12,8 @@ use Rattle.hq_job.specs.Conflicts.{HasConflicts}
 use Rattle.hq_model.specs.Job.{Job, IsPacket}
 use Rattle.hq_model.specs.Fence.{Conflict, Conflicts}
 use Rattle.hq_model.specs.Fence.Conflict.{WriteRead, WriteWrite, ReadWrite}
-use Rattle.hq_model.specs.Certificate.{Certificate, Pair, kind_of, HasPair, HasPairs}
-use Rattle.hq_certcheck.specs.Covering.{Covered, NoneMissing, FirstMissing, has_kind, has_flag, row_of, IsFor, AreListed, IsListed, IsMarked, AreFlagged, IsFlagged, AllFlagged, RowFlagged, FirstUnflagged}
+use Rattle.hq_model.specs.Certificate.{Pair, kind_of, IsFor, HasPair, HasPairs}
+use Rattle.hq_certcheck.specs.Covering.{Covered, NoneMissing, FirstMissing, has_kind, has_flag, row_of, AreListed, IsMarked, AreFlagged, IsFlagged, AllFlagged, RowFlagged, FirstUnflagged}
 use Rattle.std.proofs.lemmas.Option.{slice_get_within}
 use Rattle.hq_ordercheck.proofs.Options.{some_same}
 use Rattle.hq_certcheck.proofs.Behind.{got_left, got_right}
@@ -61,7 +61,7 @@ no_flag words n = elim (cases_lt (n / 64) words) [
 -- the same flags in other rows
 pub listed_as : (pairs : List Pair) (count : ℕ) (old new : List ℕ) → ((n : ℕ) → has new n ≡ has old n) → AreListed pairs count old → AreListed pairs count new
 listed_as pairs count old new alike h p r l m kind =
-    subst (λ b. IsTrue b ↔ IsListed pairs p r kind) (sym (alike ((p * 3 + row_of kind) * 1024 + r))) (h p r l m kind)
+    subst (λ b. IsTrue b ↔ HasPair pairs p r kind) (sym (alike ((p * 3 + row_of kind) * 1024 + r))) (h p r l m kind)
 
 -- ---- flags set
 
@@ -137,29 +137,23 @@ flagged_one_more job flags p r h here s above below = elim (cases_eq s r) [
 
 -- ---- flags as pair lines
 
-module _ (job : Job) (c : Certificate) (flags : List ℕ) (listed : AreListed c.pairs (length job.packets) flags) where
-  pair_of_flag : (p r : ℕ) → IsPacket job p → IsPacket job r → (kind : Conflict) → IsTrue (has_flag kind flags p r) ↔ HasPair c p r kind
-  pair_of_flag p r p_is r_is kind = (
-    λ t. let x = (listed p r p_is r_is kind).0 t in record { k = x.k; pair = x.pair; there = x.there; first = x.is_for.first; second = x.is_for.second; kind_is = x.is_for.kind_is },
-    λ x. (listed p r p_is r_is kind).1 (record { k = x.k; pair = x.pair; there = x.there; is_for = record { first = x.first; second = x.second; kind_is = x.kind_is } }),
-  )
-
-  pairs_of : (p r : ℕ) → IsPacket job p → IsPacket job r → AreFlagged job flags p r ↔ HasPairs job c p r
+module _ (job : Job) (pairs : List Pair) (flags : List ℕ) (listed : AreListed pairs (length job.packets) flags) where
+  pairs_of : (p r : ℕ) → IsPacket job p → IsPacket job r → AreFlagged job flags p r ↔ HasPairs job pairs p r
   pairs_of p r p_is r_is = (
-    λ f kind conflict. (pair_of_flag p r p_is r_is kind).0 (f kind conflict),
-    λ f kind conflict. (pair_of_flag p r p_is r_is kind).1 (f kind conflict),
+    λ f kind conflict. (listed p r p_is r_is kind).0 (f kind conflict),
+    λ f kind conflict. (listed p r p_is r_is kind).1 (f kind conflict),
   )
 
-  pub covered_of : (p r : ℕ) → IsPacket job p → IsPacket job r → IsFlagged job flags p r ↔ Covered job c p r
+  pub covered_of : (p r : ℕ) → IsPacket job p → IsPacket job r → IsFlagged job flags p r ↔ Covered job pairs p r
   covered_of p r p_is r_is = (
     λ f kind conflict. elim (f kind conflict) [ inl x ↦ inl ((pairs_of p r p_is r_is).0 x) | inr x ↦ inr ((pairs_of r p r_is p_is).0 x) ],
     λ f kind conflict. elim (f kind conflict) [ inl x ↦ inl ((pairs_of p r p_is r_is).1 x) | inr x ↦ inr ((pairs_of r p r_is p_is).1 x) ],
   )
 
-  pub none_missing : ((p : ℕ) → p < length job.packets → RowFlagged job flags p) → NoneMissing job c
+  pub none_missing : ((p : ℕ) → p < length job.packets → RowFlagged job flags p) → NoneMissing job pairs
   none_missing h p r ahead is = let p_is : IsPacket job p = omega (arith, ahead, is) in (covered_of p r p_is is).0 (h p p_is r ahead is)
 
-  pub first_missing : (p r : ℕ) → FirstUnflagged job flags p r → FirstMissing job c p r
+  pub first_missing : (p r : ℕ) → FirstUnflagged job flags p r → FirstMissing job pairs p r
   first_missing p r f =
       let p_is : IsPacket job p = omega (arith, f.after.ahead, f.after.is_packet) in record {
         ahead = f.after.ahead;

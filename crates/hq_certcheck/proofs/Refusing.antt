@@ -21,7 +21,7 @@ only_memory job c BadOrder h ban = absurd (ban h.order)
 only_memory job c (BadLine k) h (order, x) = absurd (x.bad (h.lines k))
 only_memory job c (PairMissing p r) h (order, lines, x) = absurd (x.missing (λ kind conflict. h.conflicts p r kind x.ahead x.is_packet conflict))
 only_memory job c (BadPair p r) h (order, lines, none, x) =
-    absurd (x.bad (subst (PairHolds job c) (get_or_from_slice_get c.pairs x.k x.pair x.pair x.there) (h.pairs x.k x.pair (slice_get_within c.pairs x.k x.pair x.there))))
+    absurd (x.bad (subst (PairHolds job c.lines) (get_or_from_slice_get c.pairs x.k x.pair x.pair x.there) (h.pairs x.k x.pair (slice_get_within c.pairs x.k x.pair x.there))))
 only_memory job c Memory h u = refl
 
 -- ---- what a check answers

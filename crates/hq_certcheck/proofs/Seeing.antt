@@ -6,10 +6,10 @@ use Rattle.std.proofs.lemmas.List.{take_more, map-append}
 use Rattle.std.proofs.lemmas.List.Elements.{All-append}
 use Rattle.std.proofs.lemmas.Option.{slice_get_within, get_or_from_slice_get}
 use Rattle.hq_model.specs.Job.{Job}
-use Rattle.hq_model.specs.Certificate.{Line, Pair}
+use Rattle.hq_model.specs.Certificate.{Line, Pair, PairHolds}
 use Rattle.hq_certcheck.specs.Concluded.{bare, conclusion_of}
 use Rattle.hq_certcheck.specs.Covering.{AreListed}
-use Rattle.hq_certcheck.specs.Listed.{Block, BadLineOf, BadPairIs, IsUpTo, PairFollows, FirstBadPair}
+use Rattle.hq_certcheck.specs.Listed.{Block, BadLineOf, BadPairIs, IsUpTo, FirstBadPair}
 use Rattle.hq_certcheck.specs.Seen.{SeenValue, HasSeen}
 use Rattle.hq_certcheck.proofs.Alike.{bare_concludes, bad_pair_alike}
 use Rattle.hq_certcheck.proofs.Behind.{got_left, got_right}
@@ -34,11 +34,11 @@ with_next before found i x e =
 -- ---- the first pair line that doesn't hold
 
 module _ (job : Job) (lines : List Line) (pairs more : List Pair) where
-  all_follow : All (PairFollows job lines) pairs → (k : ℕ) (x : Pair) → slice_get pairs k ≡ Some x → PairFollows job lines x
-  all_follow h k x e = subst (PairFollows job lines) (get_or_from_slice_get pairs k x x e) (h k x (slice_get_within pairs k x e))
+  all_follow : All (PairHolds job lines) pairs → (k : ℕ) (x : Pair) → slice_get pairs k ≡ Some x → PairHolds job lines x
+  all_follow h k x e = subst (PairHolds job lines) (get_or_from_slice_get pairs k x x e) (h k x (slice_get_within pairs k x e))
 
-  none_more : All (PairFollows job lines) pairs → All (PairFollows job lines) more → All (PairFollows job lines) (pairs ++ more)
-  none_more front back = All-append (PairFollows job lines) pairs more front back
+  none_more : All (PairHolds job lines) pairs → All (PairHolds job lines) more → All (PairHolds job lines) (pairs ++ more)
+  none_more front back = All-append (PairHolds job lines) pairs more front back
 
   first_before : (p r : ℕ) → FirstBadPair job lines pairs p r → FirstBadPair job lines (pairs ++ more) p r
   first_before p r f =
@@ -52,7 +52,7 @@ module _ (job : Job) (lines : List Line) (pairs more : List Pair) where
         first = λ j other l e. f.first j other l (sym (got_left pairs more j (omega (arith, l, low))) ∙ e);
       }
 
-  first_behind : All (PairFollows job lines) pairs → (p r : ℕ) → FirstBadPair job lines more p r → FirstBadPair job lines (pairs ++ more) p r
+  first_behind : All (PairHolds job lines) pairs → (p r : ℕ) → FirstBadPair job lines more p r → FirstBadPair job lines (pairs ++ more) p r
   first_behind all p r f = record {
     k = length pairs + f.k;
     pair = f.pair;
@@ -60,14 +60,14 @@ module _ (job : Job) (lines : List Line) (pairs more : List Pair) where
     first_is = f.first_is;
     second_is = f.second_is;
     bad = f.bad;
-    first = λ j other l e. each_in (PairFollows job lines) pairs more j other e
+    first = λ j other l e. each_in (PairHolds job lines) pairs more j other e
         (λ low there. all_follow all j other there)
         (λ i at there. f.first i other (omega (arith, l, at)) there);
   }
 
   -- where none of the first ones fails, it is what is found behind them
-  pub bad_behind : (found : Option (ℕ × ℕ)) → All (PairFollows job lines) pairs → MatchOption found (All (PairFollows job lines) more) (λ f. FirstBadPair job lines more f.0 f.1)
-      → MatchOption found (All (PairFollows job lines) (pairs ++ more)) (λ f. FirstBadPair job lines (pairs ++ more) f.0 f.1)
+  pub bad_behind : (found : Option (ℕ × ℕ)) → All (PairHolds job lines) pairs → MatchOption found (All (PairHolds job lines) more) (λ f. FirstBadPair job lines more f.0 f.1)
+      → MatchOption found (All (PairHolds job lines) (pairs ++ more)) (λ f. FirstBadPair job lines (pairs ++ more) f.0 f.1)
   bad_behind None all h = none_more all h
   bad_behind (Some f) all h = first_behind all f.0 f.1 h
 

@@ -1,6 +1,6 @@
 -- Which conflicts have pair lines.
 use Rattle.std.specs.Prelude.{◌≡◌, ℕ, ◌+◌, ◌*◌, ◌<◌, ◌⊎◌, ◌↔◌, IsTrue, Bool, false, List, [], length}
-use Rattle.std.specs.Prelude.{Option, Some, MatchOption, slice_get}
+use Rattle.std.specs.Prelude.{Option, MatchOption}
 use Rattle.hq_bits.specs.Bits.{has}
 use Rattle.hq_bits.specs.declared.TheConstants.{WIDTH}
 use Rattle.hq_footprint.specs.declared.conflicts.Kinds.{Kinds}
@@ -8,32 +8,32 @@ use Rattle.hq_parts.specs.Parts.{AreParts}
 use Rattle.hq_model.specs.Job.{Job, IsPacket, packet}
 use Rattle.hq_model.specs.Fence.{Conflict, Conflicts}
 use Rattle.hq_model.specs.Fence.Conflict.{WriteRead, WriteWrite, ReadWrite}
-use Rattle.hq_model.specs.Certificate.{Certificate, Pair, kind_of, HasPairs}
+use Rattle.hq_model.specs.Certificate.{Pair, IsFor, HasPair, HasPairs}
 use Rattle.hq_certcheck.specs.declared.flags.TheConstants.{KINDS, PACKET_WORDS}
 use Rattle.hq_certcheck.specs.declared.possible.Possible.{Possible}
 
 -- Each conflict of p with r has its pair line, those of one direction all of theirs.
-abbrev pub Covered : Job → Certificate → ℕ → ℕ → Type 0
-Covered job c p r = (kind : Conflict) → Conflicts job kind p r → HasPairs job c p r ⊎ HasPairs job c r p
+abbrev pub Covered : Job → List Pair → ℕ → ℕ → Type 0
+Covered job pairs p r = (kind : Conflict) → Conflicts job kind p r → HasPairs job pairs p r ⊎ HasPairs job pairs r p
 
 -- q and s stand before p and r in number order: by the first number, then by the second.
 abbrev pub ComesSooner : ℕ → ℕ → ℕ → ℕ → Type 0
 ComesSooner q s p r = (q < p) ⊎ ((q ≡ p) × (s < r))
 
 -- All are.
-abbrev pub NoneMissing : Job → Certificate → Type 0
-NoneMissing job c = (p r : ℕ) → p < r → IsPacket job r → Covered job c p r
+abbrev pub NoneMissing : Job → List Pair → Type 0
+NoneMissing job pairs = (p r : ℕ) → p < r → IsPacket job r → Covered job pairs p r
 
 -- p < r are the first packets in number order that aren't covered.
-pub record FirstMissing (job : Job) (c : Certificate) (p r : ℕ) : Type 0 where
+pub record FirstMissing (job : Job) (pairs : List Pair) (p r : ℕ) : Type 0 where
   pub ahead : p < r
   pub is_packet : IsPacket job r
-  pub missing : ¬ Covered job c p r
-  pub first : (q s : ℕ) → q < s → IsPacket job s → ComesSooner q s p r → Covered job c q s
+  pub missing : ¬ Covered job pairs p r
+  pub first : (q s : ℕ) → q < s → IsPacket job s → ComesSooner q s p r → Covered job pairs q s
 
 -- The first packets that aren't covered are these, or all are.
-abbrev pub MissingIs : Job → Certificate → Option (ℕ × ℕ) → Type 0
-MissingIs job c found = MatchOption found (NoneMissing job c) (λ pair. FirstMissing job c pair.0 pair.1)
+abbrev pub MissingIs : Job → List Pair → Option (ℕ × ℕ) → Type 0
+MissingIs job pairs found = MatchOption found (NoneMissing job pairs) (λ pair. FirstMissing job pairs pair.0 pair.1)
 
 -- ---- by a table of bits: for each packet a row for each kind of conflict
 
@@ -53,27 +53,14 @@ row_of ReadWrite = 2
 abbrev pub has_flag : Conflict → List ℕ → ℕ → ℕ → Bool
 has_flag kind flags p r = has flags ((p * KINDS + row_of kind) * WIDTH + r)
 
--- The pair line is one for this kind of conflict of p with r.
-pub record IsFor (pair : Pair) (p r : ℕ) (kind : Conflict) : Type 0 where
-  pub first : pair.p ≡ p
-  pub second : pair.r ≡ r
-  pub kind_is : kind_of pair.fences ≡ kind
-
 -- There are the rows of so many packets; or none at all, where there is no flag.
 abbrev pub HasRows : ℕ → List ℕ → Type 0
 HasRows count flags = (flags ≡ []) ⊎ (length flags ≡ count * PACKET_WORDS)
 
--- One of the pair lines is for this kind of conflict of p with r.
-pub record IsListed (pairs : List Pair) (p r : ℕ) (kind : Conflict) : Type 0 where
-  pub k : ℕ
-  pub pair : Pair
-  pub there : slice_get pairs k ≡ Some pair
-  pub is_for : IsFor pair p r kind
-
 -- Two of so many packets have a flag exactly where one of the pair lines is for it.
 abbrev pub AreListed : List Pair → ℕ → List ℕ → Type 0
 AreListed pairs count flags = (p r : ℕ) → p < count → r < count → (kind : Conflict)
-    → IsTrue (has_flag kind flags p r) ↔ IsListed pairs p r kind
+    → IsTrue (has_flag kind flags p r) ↔ HasPair pairs p r kind
 
 -- The flags are those that there were and that of the pair line.
 abbrev pub IsMarked : Pair → ℕ → List ℕ → List ℕ → Type 0

@@ -5,7 +5,7 @@ ghost use Rattle.hq_job.specs.Plan.{plan};
 ghost use Rattle.hq_model.specs.Job.{Job as JobOf};
 ghost use Rattle.hq_model.specs.Order.{OrderList};
 ghost use Rattle.hq_model.specs.Certificate as model;
-ghost use Rattle.hq_model.specs.Certificate.{LineHolds, CertHolds};
+ghost use Rattle.hq_model.specs.Certificate.{LinesHold, CertHolds};
 ghost use Rattle.hq_certcheck.specs.Covering.{MissingIs};
 ghost use Rattle.hq_certcheck.specs.Listed.{BadPairIs};
 ghost use Rattle.hq_certcheck.specs.Refusals.{IsRefused};
@@ -42,11 +42,11 @@ fn order_of(alloc: Global, job: &Job, order: &[u32]) -> Result<Vec<u16>, CheckNo
 /// order and lines hold.
 fn check_pairs(missing: Option<(u16, u16)>, bad_pair: Option<(u32, u32)>) -> Result<(), CheckNo>
     ensures ok { OnOk result
-        ((job : JobOf) (c : model.Certificate) → MissingIs job c missing → BadPairIs job c.lines c.pairs bad_pair
-        → OrderList job c.order → ((k : ℕ) → LineHolds job c k) → CertHolds job c) }
+        ((job : JobOf) (c : model.Certificate) → MissingIs job c.pairs missing → BadPairIs job c.lines c.pairs bad_pair
+        → OrderList job c.order → LinesHold job c.lines → CertHolds job c) }
     ensures refused { IfErr result
-        (λ no. (job : JobOf) (c : model.Certificate) → MissingIs job c missing → BadPairIs job c.lines c.pairs bad_pair
-        → OrderList job c.order → ((k : ℕ) → LineHolds job c k) → IsRefused job c no) }
+        (λ no. (job : JobOf) (c : model.Certificate) → MissingIs job c.pairs missing → BadPairIs job c.lines c.pairs bad_pair
+        → OrderList job c.order → LinesHold job c.lines → IsRefused job c no) }
 {
     if let Some((p, r)) = missing {
         return Err(CheckNo::PairMissing(p, r));
@@ -67,7 +67,7 @@ fn examine(
     missing: Result<Option<(u16, u16)>, AllocError>,
 ) -> Result<Vec<u16>, CheckNo>
     requires { IfOk missing
-        (λ found. (c : model.Certificate) → IsSeen (plan job.now) c seen.now → MissingIs (plan job.now) c found) }
+        (λ found. (c : model.Certificate) → IsSeen (plan job.now) c seen.now → MissingIs (plan job.now) c.pairs found) }
     ensures ok { IfOk result
         (λ list. (c : model.Certificate) → c.order ≡ order.now → IsSeen (plan job.now) c seen.now
         → CertHolds (plan job.now) c × (list.items ≡ c.order)) }
@@ -94,7 +94,7 @@ pub fn answer(
 ) -> Result<Accepted, (CheckNo, Job)>
     requires seen { (c : model.Certificate) × (c.order ≡ order.now) × IsSeen (plan job) c seen.now }
     requires missing { IfOk missing
-        (λ found. (c : model.Certificate) → IsSeen (plan job) c seen.now → MissingIs (plan job) c found) }
+        (λ found. (c : model.Certificate) → IsSeen (plan job) c seen.now → MissingIs (plan job) c.pairs found) }
     ensures { (c : model.Certificate) → c.order ≡ order.now → IsSeen (plan job) c seen.now → IsChecked job c result }
 {
     job.valid();

@@ -5,11 +5,11 @@ ghost use Rattle.std.specs.List.{AllZip};
 ghost use Rattle.hq_cert.specs.View.{line_of, rule_of, cited};
 ghost use Rattle.hq_job.specs.Plan.{plan};
 ghost use Rattle.hq_model.specs.Certificate as model;
-ghost use Rattle.hq_model.specs.Certificate.{Follows, signals};
+ghost use Rattle.hq_model.specs.Certificate.{Follows, signals, LineHolds};
 ghost use Rattle.hq_model.specs.Certificate.Rule.{Or as OrRule};
 ghost use Rattle.hq_model.specs.Order.{ByAnd, ByBit, ByQueue};
 ghost use Rattle.hq_certcheck.specs.Concluded.{bare, conclusion_of};
-ghost use Rattle.hq_certcheck.specs.Listed.{HoldsFor, LineFollows, StandAt, BadLineOf};
+ghost use Rattle.hq_certcheck.specs.Listed.{HoldsFor, StandAt, BadLineOf};
 
 use crate::citing::{follower, says};
 use crate::conclusion::Conclusion;
@@ -143,7 +143,7 @@ fn follows(job: &Job, lines: &[Conclusion], limit: usize, line: &Line) -> bool
 /// Whether line k, which is this, holds: it follows by its rule from lines of lower number, by what they conclude.
 pub fn line_holds(job: &Job, lines: &[Conclusion], k: usize, line: &Line) -> bool
     ensures { (all : List model.Line) → map conclusion_of all ≡ lines.now → slice_get all k ≡ Some (line_of line.now)
-        → IsTrue result ↔ LineFollows (plan job.now) all k }
+        → IsTrue result ↔ LineHolds (plan job.now) all k }
 {
     follows(job, lines, k, line)
 }

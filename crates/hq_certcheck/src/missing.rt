@@ -108,7 +108,7 @@ fn missing_by(job: &Job, possible: &Possible, flags: &[u64]) -> Option<(u16, u16
     requires possible { IsPossible (plan job.now) possible.now }
     requires rows { HasRows (length job.now.packets) flags.now }
     ensures { (c : model.Certificate) → AreListed c.pairs (length job.now.packets) flags.now
-        → MissingIs (plan job.now) c result }
+        → MissingIs (plan job.now) c.pairs result }
 {
     first_unflagged(job, possible, flags)
 }
@@ -121,7 +121,7 @@ pub fn first_missing(
 ) -> Result<Option<(u16, u16)>, AllocError>
     requires count { seen.now.count ≡ length job.now.packets }
     ensures { IfOk result
-        (λ found. (c : model.Certificate) → IsSeen (plan job.now) c seen.now → MissingIs (plan job.now) c found) }
+        (λ found. (c : model.Certificate) → IsSeen (plan job.now) c seen.now → MissingIs (plan job.now) c.pairs found) }
 {
     job.valid();
     let possible = Possible::of(alloc, job)?;

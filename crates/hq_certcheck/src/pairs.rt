@@ -5,11 +5,11 @@ ghost use Rattle.hq_cert.specs.View.{pair_of, fences_of, cited};
 ghost use Rattle.hq_job.specs.Plan.{plan};
 ghost use Rattle.hq_model.specs.Job.{packet, IsPacket};
 ghost use Rattle.hq_model.specs.Fence.{FenceReaches, Forwards};
-ghost use Rattle.hq_model.specs.Certificate.{ReleaseHolds, AcquireHolds, FencesHold};
+ghost use Rattle.hq_model.specs.Certificate.{ReleaseHolds, AcquireHolds, FencesHold, PairHolds};
 ghost use Rattle.hq_model.specs.Certificate.Fences.{ForWriteWrite, ForWriteRead, ForWriteWriteChained};
 ghost use Rattle.hq_model.specs.Certificate.Fences.{ForWriteReadChained};
 ghost use Rattle.hq_certcheck.specs.Concluded.{bare};
-ghost use Rattle.hq_certcheck.specs.Listed.{PairFollows, PairFollowsAt, BadPairIs, NeedsSystem};
+ghost use Rattle.hq_certcheck.specs.Listed.{PairHoldsAt, BadPairIs, NeedsSystem};
 
 use crate::citing::{cites, says};
 use crate::conclusion::Conclusion;
@@ -268,7 +268,7 @@ fn fences_hold(job: &Job, lines: &[Conclusion], p: usize, r: usize, fences: &Fen
 
 /// Whether the pair line holds: what it cites concludes what its kind asks.
 fn pair_holds(job: &Job, lines: &[Conclusion], pair: &Pair) -> bool
-    ensures { IsTrue result ↔ PairFollows (plan job.now) (map bare lines.now) (pair_of pair.now) }
+    ensures { IsTrue result ↔ PairHolds (plan job.now) (map bare lines.now) (pair_of pair.now) }
 {
     let p = pair.p as usize;
     let r = pair.r as usize;
@@ -278,7 +278,7 @@ fn pair_holds(job: &Job, lines: &[Conclusion], pair: &Pair) -> bool
 /// Whether pair line k holds.
 pub fn pair_line_holds(job: &Job, lines: &[Conclusion], pairs: &[Pair], k: usize) -> bool
     requires { k < length pairs.now }
-    ensures { IsTrue result ↔ PairFollowsAt (plan job.now) (map bare lines.now) (map pair_of pairs.now) k }
+    ensures { IsTrue result ↔ PairHoldsAt (plan job.now) (map bare lines.now) (map pair_of pairs.now) k }
 {
     pair_holds(job, lines, &pairs[k])
 }

@@ -4,8 +4,9 @@ ghost use Rattle.std.specs.Prelude.{◌≡◌, ◌<◌, IfOk, IsTrue, false, map
 ghost use Rattle.hq_cert.specs.View.{line_of};
 ghost use Rattle.hq_job.specs.Plan.{plan};
 ghost use Rattle.hq_model.specs.Certificate as model;
+ghost use Rattle.hq_model.specs.Certificate.{LineHolds};
 ghost use Rattle.hq_certcheck.specs.Concluded.{conclusion_of};
-ghost use Rattle.hq_certcheck.specs.Listed.{LineFollows, BadLineIs};
+ghost use Rattle.hq_certcheck.specs.Listed.{BadLineIs};
 ghost use Rattle.hq_certcheck.specs.Seen.{IsChecked, IsSeen};
 
 use crate::accepted::Accepted;
@@ -29,8 +30,8 @@ const LEAST_LINES: usize = 8192;
 fn is_bad(job: &Job, lines: &[Conclusion], found: &[Line], k: usize) -> bool
     requires low { k < length found.now }
     requires all { map conclusion_of (map line_of found.now) ≡ lines.now }
-    ensures { (result ≡ false → LineFollows (plan job.now) (map line_of found.now) k)
-        × (IsTrue result → ¬ LineFollows (plan job.now) (map line_of found.now) k) }
+    ensures { (result ≡ false → LineHolds (plan job.now) (map line_of found.now) k)
+        × (IsTrue result → ¬ LineHolds (plan job.now) (map line_of found.now) k) }
 {
     !line_holds(job, lines, k, &found[k])
 }
@@ -50,8 +51,8 @@ fn first_bad_line(
         rt,
         |k: usize| -> bool
             requires { (k < length found.now) × (map conclusion_of (map line_of found.now) ≡ lines.now) }
-            ensures { (result ≡ false → LineFollows (plan job.entry.now) (map line_of found.entry.now) k)
-                × (IsTrue result → ¬ LineFollows (plan job.entry.now) (map line_of found.entry.now) k) }
+            ensures { (result ≡ false → LineHolds (plan job.entry.now) (map line_of found.entry.now) k)
+                × (IsTrue result → ¬ LineHolds (plan job.entry.now) (map line_of found.entry.now) k) }
         { is_bad(job, lines, found, k) },
     )
 }

@@ -4,7 +4,7 @@ ghost use Rattle.std.specs.Prelude.{◌≡◌, ℕ, ◌<◌, IsTrue, MatchOption
 ghost use Rattle.hq_cert.specs.View.{pair_of};
 ghost use Rattle.hq_job.specs.Plan.{plan};
 ghost use Rattle.hq_certcheck.specs.Concluded.{bare};
-ghost use Rattle.hq_certcheck.specs.Listed.{PairFollowsAt, FirstBadPlace, BadPairIs};
+ghost use Rattle.hq_certcheck.specs.Listed.{PairHoldsAt, FirstBadPlace, BadPairIs};
 
 use crate::conclusion::Conclusion;
 use crate::pairs::pair_line_holds;
@@ -19,8 +19,8 @@ const LEAST_PAIRS: usize = 8192;
 /// Whether pair line k doesn't hold.
 fn is_bad(job: &Job, lines: &[Conclusion], pairs: &[Pair], k: usize) -> bool
     requires { k < length pairs.now }
-    ensures { (result ≡ false → PairFollowsAt (plan job.now) (map bare lines.now) (map pair_of pairs.now) k)
-        × (IsTrue result → ¬ PairFollowsAt (plan job.now) (map bare lines.now) (map pair_of pairs.now) k) }
+    ensures { (result ≡ false → PairHoldsAt (plan job.now) (map bare lines.now) (map pair_of pairs.now) k)
+        × (IsTrue result → ¬ PairHoldsAt (plan job.now) (map bare lines.now) (map pair_of pairs.now) k) }
 {
     !pair_line_holds(job, lines, pairs, k)
 }
@@ -33,7 +33,7 @@ fn first_bad_place(
     pairs: &[Pair],
 ) -> Option<usize>
     ensures { MatchOption result
-        ((k : ℕ) → PairFollowsAt (plan job.now) (map bare lines.now) (map pair_of pairs.now) k)
+        ((k : ℕ) → PairHoldsAt (plan job.now) (map bare lines.now) (map pair_of pairs.now) k)
         (FirstBadPlace (plan job.now) (map bare lines.now) (map pair_of pairs.now)) }
 {
     let places = (0..pairs.len()).into_par_iter().with_min_len(LEAST_PAIRS);
@@ -42,9 +42,9 @@ fn first_bad_place(
         |k: usize| -> bool
             requires { k < length pairs.now }
             ensures { (result ≡ false
-                → PairFollowsAt (plan job.entry.now) (map bare lines.entry.now) (map pair_of pairs.entry.now) k)
+                → PairHoldsAt (plan job.entry.now) (map bare lines.entry.now) (map pair_of pairs.entry.now) k)
                 × (IsTrue result
-                → ¬ PairFollowsAt (plan job.entry.now) (map bare lines.entry.now) (map pair_of pairs.entry.now) k) }
+                → ¬ PairHoldsAt (plan job.entry.now) (map bare lines.entry.now) (map pair_of pairs.entry.now) k) }
         { is_bad(job, lines, pairs, k) },
     )
 }

@@ -7,7 +7,7 @@ use Rattle.std.proofs.lemmas.Map.Steps.{length-le_from_distinct_below}
 use Rattle.hq_model.specs.Job.{Job, packet, IsPacket, Decrements}
 use Rattle.hq_model.specs.Order.{EachOnce}
 use Rattle.hq_model.specs.Theorems.{Valid}
-use Rattle.hq_model.specs.Certificate.{Certificate, Line, Pair, Rule, Fences, Says, Cites, signals, Follows, LineHolds, ReleaseHolds, AcquireHolds, FencesHold, PairHolds, CertHolds}
+use Rattle.hq_model.specs.Certificate.{Certificate, Line, Pair, Rule, Fences, Says, Cites, signals, Follows, LinesHold, ReleaseHolds, AcquireHolds, FencesHold, PairHolds, CertHolds}
 use Rattle.hq_model.specs.Certificate.Rule.{Bit, Queue, And, Or, Through}
 use Rattle.hq_model.specs.Certificate.Fences.{ForReadWrite, ForWriteWrite, ForWriteRead, ForWriteWriteChained, ForWriteReadChained}
 use Rattle.hq_model.proofs.Orders.{bit_packet, earlier_packet}
@@ -79,7 +79,7 @@ follows_packets job lines limit valid h p r (Or branches) (there, k, all) =
     (cited_packet job lines limit h p found.0 t branch found.1 found.2, there)
 follows_packets job lines limit valid h p r (Through first second) (m, f, g) = ((h first p m f).0, (h second m r g).1)
 
-says_packets : (job : Job) (c : Certificate) → Valid job → ((k : ℕ) → LineHolds job c k) → (n k p r : ℕ) → Says c.lines n k p r → IsPacket job p × IsPacket job r
+says_packets : (job : Job) (c : Certificate) → Valid job → LinesHold job c.lines → (n k p r : ℕ) → Says c.lines n k p r → IsPacket job p × IsPacket job r
 says_packets job c valid lines zero k p r s = absurd (omega (arith, s.lower))
 says_packets job c valid lines (suc n) k p r s =
     let both = follows_packets job c.lines k valid
@@ -137,7 +137,7 @@ lines_fit [] k h = tt
 lines_fit (line ∷ ls) k h =
     (subst (λ (n : ℕ). LineFits n line) (let e : k + 0 ≡ k = omega arith in e) (h 0 line refl), lines_fit ls (k + 1) (λ i l e. subst (λ (n : ℕ). LineFits n l) (let f : k + suc i ≡ k + 1 + i = omega arith in f) (h (suc i) l e)))
 
-line_fits : (job : Job) (c : Certificate) → Valid job → Limited job → ((k : ℕ) → LineHolds job c k) → length c.lines ≤ 2 ^ 32 → (k : ℕ) (line : Line) → slice_get c.lines k ≡ Some line → LineFits (0 + k) line
+line_fits : (job : Job) (c : Certificate) → Valid job → Limited job → LinesHold job c.lines → length c.lines ≤ 2 ^ 32 → (k : ℕ) (line : Line) → slice_get c.lines k ≡ Some line → LineFits (0 + k) line
 line_fits job c valid limits lines few k line there =
     let l = within c.lines k line there in
     let both = says_packets job c valid lines (suc k) k line.p line.r (record { lower = omega arith; line = line; there = there; first = refl; second = refl }) in
@@ -181,7 +181,7 @@ chain_there (p ∷ ps) (suc k) d l e = by (is_chain p.fences) (chain_there ps k 
   by true h = refl
   by false h = h
 
-pair_fits : (job : Job) (c : Certificate) → Limited job → length c.lines ≤ 2 ^ 32 → All (PairHolds job c) c.pairs → (k : ℕ) (d : Pair) → k < length c.pairs → PairFits (has_chain c) (length c.lines) (get_or c.pairs k d)
+pair_fits : (job : Job) (c : Certificate) → Limited job → length c.lines ≤ 2 ^ 32 → All (PairHolds job c.lines) c.pairs → (k : ℕ) (d : Pair) → k < length c.pairs → PairFits (has_chain c) (length c.lines) (get_or c.pairs k d)
 pair_fits job c limits few holds k d l =
     let pair = get_or c.pairs k d in
     let h = holds k d l in

@@ -9,9 +9,8 @@ pub fn read_back()
     ensures { ReadBack }
 {}
 
-/// `parse` of `hq_certread` makes of what `print` wrote the same certificate, or memory runs out: wherever the
-/// certificate holds for some job within the limits of the job text, and has at most 2^32 lines. For `print` writes
-/// this text, and `parse` ensures that a text of a certificate gives that one, or that there is no memory.
+/// What `print` writes of a certificate is a text of it, wherever the certificate holds for some job within the limits
+/// of the job text, and has at most 2^32 lines: whoever reads the texts of certificates makes of it the same one.
 pub fn printed_is_read()
     ensures { PrintedIsRead }
 {}

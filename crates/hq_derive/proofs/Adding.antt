@@ -7,9 +7,9 @@ use Rattle.hq_cert.specs.declared.certificate.Rule.{Rule}
 use Rattle.hq_cert.specs.View.{rule_of}
 use Rattle.hq_model.specs.Job.{Job, IsPacket}
 use Rattle.hq_model.specs.Certificate as model
-use Rattle.hq_model.specs.Certificate.{Says, Follows}
+use Rattle.hq_model.specs.Certificate.{Says, Follows, LinesHold}
 use Rattle.hq_derive.specs.declared.lines.Lines.{Lines}
-use Rattle.hq_derive.specs.Gathered.{lines_of, AllFollow, AreSound, Grown, Goes, AddsLine, Numbered}
+use Rattle.hq_derive.specs.Gathered.{lines_of, AreSound, Grown, Goes, AddsLine, Numbered}
 use Rattle.hq_derive.proofs.Growing.{grown_same, grown_more, grown_by, follows_more}
 
 pub goes_same : (job : Job) (l : Lines) → AreSound job l → Goes job l l
@@ -21,7 +21,7 @@ goes_more job a b c g h = record { kept = h.kept; grown = grown_more (lines_of a
 pub last_there : (lines : List model.Line) (x : model.Line) → slice_get (lines ++ x ∷ []) (length lines) ≡ Some x
 last_there lines x = let e : length lines ≡ length lines + 0 = omega arith in ap (slice_get (lines ++ x ∷ [])) e ∙ get_after lines (x ∷ []) 0
 
-pub follow_more : (job : Job) (lines : List model.Line) (x : model.Line) → AllFollow job lines → Follows job lines (length lines) x.p x.r x.rule → AllFollow job (lines ++ x ∷ [])
+pub follow_more : (job : Job) (lines : List model.Line) (x : model.Line) → LinesHold job lines → Follows job lines (length lines) x.p x.r x.rule → LinesHold job (lines ++ x ∷ [])
 follow_more job lines x all f k line e =
     let low : k < length (lines ++ x ∷ []) = slice_get_within (lines ++ x ∷ []) k line e in
     let long : length (lines ++ x ∷ []) ≡ length lines + 1 = length-append lines (x ∷ []) in
@@ -60,7 +60,7 @@ pub kept_added : (job : Job) (old new : Lines) (p r : ℕ) (rule : Rule) → Are
     → lines_of new ≡ lines_of old ++ line_by p r rule ∷ [] → AreSound job new
 kept_added job old new p r rule kept f added = record {
   few = kept.few;
-  follow = subst (AllFollow job) (sym added) (follow_more job (lines_of old) (line_by p r rule) kept.follow f);
+  follow = subst (LinesHold job) (sym added) (follow_more job (lines_of old) (line_by p r rule) kept.follow f);
 }
 
 pub numbered_added : (job : Job) (old new : Lines) (p r : ℕ) (rule : Rule) (k : ℕ) → AreSound job old → IsPacket job p → IsPacket job r

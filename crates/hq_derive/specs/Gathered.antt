@@ -7,7 +7,7 @@ use Rattle.hq_cert.specs.View.{cited, rule_of}
 use Rattle.hq_model.specs.Job.{Job, Decrements}
 use Rattle.hq_model.specs.declared.limits.TheConstants.{PACKETS}
 use Rattle.hq_model.specs.Certificate as model
-use Rattle.hq_model.specs.Certificate.{Says, Cites, Follows, signals}
+use Rattle.hq_model.specs.Certificate.{Says, Cites, Follows, LinesHold, signals}
 use Rattle.hq_derive.specs.declared.lines.Lines.{Lines}
 use Rattle.hq_derive.specs.declared.ranks.Place.{Place}
 use Rattle.hq_derive.specs.declared.ranks.Ranks.{Ranks}
@@ -17,15 +17,10 @@ use Rattle.hq_derive.specs.Needed.{HasLine, WordThere}
 abbrev pub lines_of : Lines → List model.Line
 lines_of l = l.lines
 
--- Each line follows by its rule from lines of lower number.
-abbrev pub AllFollow : Job → List model.Line → Type 0
-AllFollow job lines = (k : ℕ) (line : model.Line) → slice_get lines k ≡ Some line
-    → Follows job lines k line.p line.r line.rule
-
--- Each line follows from lines of lower number, and there are as few packets as a job may have.
+-- All lines hold, and there are as few packets as a job may have.
 pub record AreSound (job : Job) (l : Lines) : Type 0 where
   pub few : length job.packets ≤ PACKETS
-  pub follow : AllFollow job (lines_of l)
+  pub follow : LinesHold job (lines_of l)
 
 -- No line was lost.
 pub record Grown (old new : List model.Line) : Type 0 where

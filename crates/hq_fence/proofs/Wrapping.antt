@@ -40,7 +40,7 @@ pub none_in_queue :
     → ((k : ℕ) → k < n → Good (number_at circuit k) → ⊥)
     → (x : ℕ) → IsPacket job x → (packet job x).queue ≡ (packet job p).queue → Good x → ⊥
 none_in_queue job p queue circuit Good n q s start end l none x is same good =
-    let w = q.packets x is same in
+    let w = q.are.within x is same in
     let above : circuit.start ≤ x = omega (arith, w.0) in
     let below : x < circuit.end = omega (arith, w.1) in
     none_within circuit Good n s l none x above below good
@@ -53,6 +53,5 @@ queue_circuit job p queue start stop is few same of =
     let last : IsPacket job (stop - 1) = (of.of_queue (stop - 1) (omega arith) (omega arith)).0 in
     record {
       is_circuit = record { above = above; below = omega arith; few = omega (arith, last, few) };
-      packets = λ x x_is e. of.within x x_is (e ∙ same);
-      only = λ x a b. let q = of.of_queue x a b in (q.0, q.1 ∙ sym same);
+      are = subst (λ k. AreOfQueue job k start stop) (sym same) of;
     }

@@ -1,7 +1,8 @@
 -- Runs of numbers that are gone through from one within on.
-use Rattle.std.specs.Prelude.{◌≡◌, ℕ, ◌+◌, ◌-◌, ◌<◌, ◌≤◌, if◌then◌else◌, nat_lt}
+use Rattle.std.specs.Prelude.{ℕ, ◌+◌, ◌-◌, ◌≤◌, if◌then◌else◌, nat_lt}
 use Rattle.hq_fence.specs.declared.circuit.Circuit.{Circuit}
-use Rattle.hq_model.specs.Job.{Job, packet, IsPacket}
+use Rattle.hq_job.specs.Access.{AreOfQueue}
+use Rattle.hq_model.specs.Job.{Job, packet}
 use Rattle.hq_model.specs.declared.limits.TheConstants.{PACKETS}
 
 -- It begins within, and its numbers are those of packets.
@@ -18,7 +19,4 @@ number_at circuit turn = if nat_lt (circuit.first + turn) circuit.end then circu
 -- The numbers are those of the packets of p's queue.
 pub record IsQueueOf (job : Job) (p : ℕ) (circuit : Circuit) : Type 0 where
   pub is_circuit : IsCircuit circuit
-  pub packets : (x : ℕ) → IsPacket job x → (packet job x).queue ≡ (packet job p).queue
-      → (circuit.start ≤ x) × (x < circuit.end)
-  pub only : (x : ℕ) → circuit.start ≤ x → x < circuit.end
-      → IsPacket job x × ((packet job x).queue ≡ (packet job p).queue)
+  pub are : AreOfQueue job (packet job p).queue circuit.start circuit.end

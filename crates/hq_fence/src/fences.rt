@@ -19,7 +19,7 @@ pub fn need(before: &Before, p: usize, r: usize) -> Scope
 
 /// Whether p is r or comes before it.
 #[inline(always)]
-fn is_same_or_before(before: &Before, p: usize, r: usize) -> bool
+pub fn is_same_or_before(before: &Before, p: usize, r: usize) -> bool
     ensures { IsTrue result ↔ SameOrBefore before.now p r }
 {
     p == r || before.holds(p, r)

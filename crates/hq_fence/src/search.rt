@@ -1,8 +1,7 @@
 //! The search for fences that order two packets.
 
-ghost use Rattle.std.specs.Prelude.{◌≡◌, ◌<◌, ◌↔◌, ◌⊎◌, ℕ, IsTrue, IfSome, MatchOption};
+ghost use Rattle.std.specs.Prelude.{◌≡◌, ◌<◌, ◌↔◌, ℕ, IsTrue, IfSome, MatchOption};
 ghost use Rattle.hq_model.specs.Job.{IsPacket, packet};
-ghost use Rattle.hq_model.specs.Order as order;
 ghost use Rattle.hq_model.specs.Fence.{Releases};
 ghost use Rattle.hq_packet.specs.declared.packet.Scope.TheVariants as scope;
 ghost use Rattle.hq_fence.specs.Asking.{IsAsked, FenceAfter, Follows, Ends, Finds};
@@ -16,7 +15,9 @@ ghost use Rattle.hq_fence.specs.declared.shown.Release as released;
 ghost use Rattle.hq_fence.specs.declared.shown.Release.TheVariants as release;
 
 use crate::circuit::Circuit;
-use crate::fences::{acquires, forwards_acquire, forwards_release, need, releases};
+use crate::fences::{
+    acquires, forwards_acquire, forwards_release, is_same_or_before, need, releases,
+};
 use crate::shown::{Acquire, Release};
 use hq_model::PACKETS;
 use hq_order::Before;
@@ -203,13 +204,6 @@ impl<'b, 'a> Search<'b, 'a> {
         }
     }
 
-    /// Whether x2 is x, or comes after it and so can go on with its release.
-    fn can_follow(&self, x: usize, x2: usize) -> bool
-        ensures { IsTrue result ↔ ((x ≡ x2) ⊎ order.Before self.now.before.now x x2) }
-    {
-        x == x2 || self.before.holds(x, x2)
-    }
-
     /// The release that begins with x and ends with x2, and what is asked for after that. At x alone x2 is x.
     fn release_at(&self, x: usize, x2: usize) -> Option<(Release, Ending)>
         requires asked { IsAsked self.now }
@@ -221,7 +215,7 @@ impl<'b, 'a> Search<'b, 'a> {
             ((fences : released.Release) (end : search.Ending) → begin_of fences ≡ x → end_of fences ≡ x2
             → ¬ Finds self.now self.now.form fences end) (λ a. Finds self.now self.now.form a.0 a.1) }
     {
-        if !forwards_release(self.before, self.p, x2) || !self.can_follow(x, x2) {
+        if !forwards_release(self.before, self.p, x2) || !is_same_or_before(self.before, x, x2) {
             return None;
         }
         let Some(end) = self.ending(x2) else {

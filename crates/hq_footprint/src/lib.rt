@@ -17,4 +17,4 @@ pub use evaluating::{evaluate, evaluate_ranges};
 pub use fault::FootFault;
 pub use footprint::{Footprint, Range, Work};
 pub use task::{Code, Task};
-pub use work::{of_kernel, of_service};
+pub use work::{nothing, of_kernel, of_service};

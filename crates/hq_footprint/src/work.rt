@@ -115,7 +115,7 @@ pub fn of_kernel(code: Code, items: u64, args: &[u8]) -> Result<Work, FootFault>
 }
 
 /// Work that reads and writes nothing.
-fn nothing() -> Work
+pub fn nothing() -> Work
     ensures { result ≡ no_work }
 {
     work_of([NOWHERE, NOWHERE], NOWHERE, Task::Nop)

@@ -8,7 +8,7 @@ use Rattle.hq_model.specs.Order.Before.{by_queue, by_and, by_or, through}
 use Rattle.hq_model.specs.Order.Branch.{after}
 use Rattle.hq_model.specs.Fence.{Ordered, Shown, Conflict, Conflicts, Release, Acquire}
 use Rattle.hq_model.specs.Fence.Conflict.{WriteRead, WriteWrite, ReadWrite}
-use Rattle.hq_model.specs.Certificate.{Certificate, Line, Follows, LineHolds, HasPairs, PairHolds, CertHolds}
+use Rattle.hq_model.specs.Certificate.{Certificate, Line, Follows, LineHolds, LinesHold, HasPairs, PairHolds, CertHolds}
 use Rattle.hq_model.specs.Certificate.Rule.{Bit, Queue, And, Or, Through}
 use Rattle.hq_model.specs.Certificate.Fences.{ForWriteRead}
 use Rattle.hq_model.specs.Examples.{fill_copy, fill_copy_certificate, either, either_certificate, free_branch}
@@ -109,10 +109,10 @@ either_ordered = record {
 
 -- ---- certificates
 
-by_line : (job : Job) (c : Certificate) (k : ℕ) (line : Line) → slice_get c.lines k ≡ Some line → Follows job c.lines k line.p line.r line.rule → LineHolds job c k
+by_line : (job : Job) (c : Certificate) (k : ℕ) (line : Line) → slice_get c.lines k ≡ Some line → Follows job c.lines k line.p line.r line.rule → LineHolds job c.lines k
 by_line job c k line e f other is = subst (λ x. Follows job c.lines k x.p x.r x.rule) (some_same line other (sym e ∙ is)) f
 
-either_lines : (k : ℕ) → LineHolds either either_certificate k
+either_lines : LinesHold either either_certificate.lines
 either_lines zero = by_line either either_certificate 0 (record { p = 0; r = 1; rule = And 0 }) refl (0, record { kind = refl; dependency = record { is_packet = omega arith; signal = refl }; decrements = record { is_packet = omega arith; signal = refl } })
 either_lines (suc zero) = by_line either either_certificate 1 (record { p = 0; r = 2; rule = And 0 }) refl (0, record { kind = refl; dependency = record { is_packet = omega arith; signal = refl }; decrements = record { is_packet = omega arith; signal = refl } })
 either_lines (suc (suc zero)) = by_line either either_certificate 2 (record { p = 3; r = 4; rule = Queue }) refl (record { earlier = record { ahead = omega arith; is_packet = omega arith; same_queue = refl }; barrier = or≢work BarrierOr refl })
@@ -135,8 +135,8 @@ pub either_certified : CertHolds either either_certificate
 either_certified = record {
   order = either_order;
   lines = either_lines;
-  conflicts = λ p r kind l there c. inl (touching (HasPairs either either_certificate) has p r kind l there c);
-  pairs = All-cons (PairHolds either either_certificate) (record { p = 0; r = 4; fences = ForWriteRead 0 4 None 4 None }) [] (
+  conflicts = λ p r kind l there c. inl (touching (HasPairs either either_certificate.pairs) has p r kind l there c);
+  pairs = All-cons (PairHolds either either_certificate.lines) (record { p = 0; r = 4; fences = ForWriteRead 0 4 None 4 None }) [] (
     omega arith,
     omega arith,
     (
@@ -146,11 +146,11 @@ either_certified = record {
       record { lower = omega arith; line = record { p = 0; r = 4; rule = Through 3 2 }; there = refl; first = refl; second = refl },
       refl,
     ),
-  ) (All-nil (PairHolds either either_certificate));
+  ) (All-nil (PairHolds either either_certificate.lines));
 }
   where
-    has : HasPairs either either_certificate 0 4
-    has WriteRead c = record { k = 0; pair = record { p = 0; r = 4; fences = ForWriteRead 0 4 None 4 None }; there = refl; first = refl; second = refl; kind_is = refl }
+    has : HasPairs either either_certificate.pairs 0 4
+    has WriteRead c = record { k = 0; pair = record { p = 0; r = 4; fences = ForWriteRead 0 4 None 4 None }; there = refl; is_for = record { first = refl; second = refl; kind_is = refl } }
     has WriteWrite (b, i, j) = absurd (apart b i j)
     has ReadWrite (b, i, j) = absurd (none_in b i)
 
@@ -159,7 +159,7 @@ fill_copy_certified = record {
   order = order_by_test fill_copy (0 ∷ 1 ∷ []) refl (each_once_by_test fill_copy (0 ∷ 1 ∷ []) refl refl refl) refl refl refl;
   lines = lines;
   conflicts = λ p r kind l there c. inl (conflicts p r l there);
-  pairs = All-cons (PairHolds fill_copy fill_copy_certificate) (record { p = 0; r = 1; fences = ForWriteRead 0 1 None 0 None }) [] (
+  pairs = All-cons (PairHolds fill_copy fill_copy_certificate.lines) (record { p = 0; r = 1; fences = ForWriteRead 0 1 None 0 None }) [] (
     omega arith,
     omega arith,
     (
@@ -169,19 +169,19 @@ fill_copy_certified = record {
       record { lower = omega arith; line = record { p = 0; r = 1; rule = Bit 1 }; there = refl; first = refl; second = refl },
       refl,
     ),
-  ) (All-nil (PairHolds fill_copy fill_copy_certificate));
+  ) (All-nil (PairHolds fill_copy fill_copy_certificate.lines));
 }
   where
-    lines : (k : ℕ) → LineHolds fill_copy fill_copy_certificate k
+    lines : LinesHold fill_copy fill_copy_certificate.lines
     lines zero = by_line fill_copy fill_copy_certificate 0 (record { p = 0; r = 1; rule = Bit 1 }) refl (record { earlier = record { ahead = omega arith; is_packet = omega arith; same_queue = refl }; bit = refl; upto = inl refl })
     lines (suc k) = λ line e. absurd (none_some line e)
 
-    has : HasPairs fill_copy fill_copy_certificate 0 1
-    has WriteRead c = record { k = 0; pair = record { p = 0; r = 1; fences = ForWriteRead 0 1 None 0 None }; there = refl; first = refl; second = refl; kind_is = refl }
+    has : HasPairs fill_copy fill_copy_certificate.pairs 0 1
+    has WriteRead c = record { k = 0; pair = record { p = 0; r = 1; fences = ForWriteRead 0 1 None 0 None }; there = refl; is_for = record { first = refl; second = refl; kind_is = refl } }
     has WriteWrite (b, i, j) = absurd (apart b i j)
     has ReadWrite (b, i, j) = absurd (none_in b i)
 
-    conflicts : (p r : ℕ) → p < r → IsPacket fill_copy r → HasPairs fill_copy fill_copy_certificate p r
+    conflicts : (p r : ℕ) → p < r → IsPacket fill_copy r → HasPairs fill_copy fill_copy_certificate.pairs p r
     conflicts zero (suc zero) l there = has
     conflicts p zero l there = absurd (omega arith)
     conflicts (suc p) (suc zero) l there = absurd (omega arith)

@@ -12,17 +12,15 @@ use Rattle.hq_rows.specs.Matrix.{AreTurned}
 abbrev pub order_of : Inside → Job
 order_of b = plan b.job.now
 
--- its rounds are all that there are, and its columns are those but the last turned round
-pub record IsOrder (b : Inside) : Type 0 where
-  pub rounds : AreRounds (order_of b) b.rounds.items
-  pub closed : IsClosed (order_of b) b.rounds.items
-  pub turned : AreTurned b.rounds.items b.columns.items
-
--- the same of rounds apart from a job
+-- the rounds are all that a job has, and the columns are those but the last turned round
 pub record AreOf (job : Job) (r : Rounds) : Type 0 where
   pub rounds : AreRounds job r.rounds.items
   pub closed : IsClosed job r.rounds.items
   pub turned : AreTurned r.rounds.items r.columns.items
+
+-- its rounds are those of its job
+abbrev pub IsOrder : Inside → Type 0
+IsOrder b = AreOf (order_of b) b.found
 
 -- The jobs differ in nothing but the scopes of fences.
 pub record SameButScopes (j k : Job) : Type 0 where

@@ -214,11 +214,7 @@ fn all_rounds(
 #[derive(Drop)]
 pub struct Before<'a> {
     job: &'a Job,
-    rounds: Vec<Vec<Vec<u64>>>,
-    /// For each round but the last the rows turned round: what a packet is before.
-    columns: Vec<Vec<u64>>,
-    /// For each signal the packets that complete on it. Nothing rests on these: they tell where to look first.
-    completing: Vec<Vec<u64>>,
+    found: Rounds,
 }
 
 /// The rounds by which a job's order was worked out, apart from the job. They are those of each job that differs
@@ -226,7 +222,9 @@ pub struct Before<'a> {
 #[derive(Drop)]
 pub struct Rounds {
     rounds: Vec<Vec<Vec<u64>>>,
+    /// For each round but the last the rows turned round: what a packet is before.
     columns: Vec<Vec<u64>>,
+    /// For each signal the packets that complete on it. Nothing rests on these: they tell where to look first.
     completing: Vec<Vec<u64>>,
 }
 
@@ -236,12 +234,7 @@ impl Rounds {
         requires { AreOf (plan job.now) self }
         ensures { result ≡ plan job.now }
     {
-        Before {
-            job,
-            rounds: self.rounds,
-            columns: self.columns,
-            completing: self.completing,
-        }
+        Before { job, found: self }
     }
 }
 
@@ -270,19 +263,19 @@ impl<'a> Before<'a> {
         let completing = completing(alloc, job, words_of(job))?;
         let rounds = all_rounds(alloc, job, &completing)?;
         let columns = all_turned(alloc, &rounds)?;
-        Ok(Before {
-            job,
+        let found = Rounds {
             rounds,
             columns,
             completing,
-        })
+        };
+        Ok(Before { job, found })
     }
 
     /// Whether p is complete before r becomes active, in every run; false where there is no such packet.
     pub fn holds(&self, p: usize, r: usize) -> bool
         ensures { IsTrue result ↔ order.Before self.now p r }
     {
-        let last = &self.rounds[self.rounds.len() - 1];
+        let last = &self.found.rounds[self.found.rounds.len() - 1];
         marks(last, p, r)
     }
 
@@ -292,7 +285,7 @@ impl<'a> Before<'a> {
         ensures has { (p : ℕ) → IsTrue (has result.now p) ↔ order.Before self.now p r }
         ensures len { length result.now ≡ words_for (length self.now.packets) }
     {
-        row_of(&self.rounds[self.rounds.len() - 1], r)
+        row_of(&self.found.rounds[self.found.rounds.len() - 1], r)
     }
 
     /// The earliest round in which that comes: 0 where a rule gives it alone, else one more than the latest of the
@@ -300,14 +293,14 @@ impl<'a> Before<'a> {
     pub fn round(&self, p: usize, r: usize) -> Option<usize>
         ensures { MatchOption result (order.Before self.now p r → ⊥) (λ k. IsFirstWithin self.now k p r) }
     {
-        let rounds = &self.rounds;
+        let rounds = &self.found.rounds;
         if p >= WIDTH {
             return None;
         }
         if r >= WIDTH {
             return None;
         }
-        first_turned(rounds, &self.columns, p, r)
+        first_turned(rounds, &self.found.columns, p, r)
     }
 
     /// That round, where it is known that p is before r.
@@ -328,7 +321,12 @@ impl<'a> Before<'a> {
         if round == 0 {
             return None;
         }
-        between(&self.rounds[round - 1], &self.columns[round - 1], p, r)
+        between(
+            &self.found.rounds[round - 1],
+            &self.found.columns[round - 1],
+            p,
+            r,
+        )
     }
 
     /// The least packet that p is before, and that is before r, both by rounds below this one.
@@ -338,16 +336,16 @@ impl<'a> Before<'a> {
         ensures between { IfSome result (Between self.now round p r) }
     {
         self.job.valid();
-        if round == 0 || round >= self.rounds.len() {
+        if round == 0 || round >= self.found.rounds.len() {
             return None;
         }
         let below = round - 1;
-        between(&self.rounds[below], &self.columns[below], p, r)
+        between(&self.found.rounds[below], &self.found.columns[below], p, r)
     }
 
     /// How many rounds there are.
     pub fn rounds(&self) -> usize {
-        self.rounds.len()
+        self.found.rounds.len()
     }
 
     /// Which packets of a word p comes before in this round and in none below it, as bits. In the last round those are
@@ -356,10 +354,10 @@ impl<'a> Before<'a> {
     pub fn fresh(&self, round: usize, p: usize, place: usize) -> u64 {
         let at = p.wrapping_mul(WORDS).wrapping_add(place);
         let earlier = match round.checked_sub(1) {
-            Some(earlier) => hq_bits::word_at(row_of(&self.columns, earlier), at),
+            Some(earlier) => hq_bits::word_at(row_of(&self.found.columns, earlier), at),
             None => 0,
         };
-        match self.columns.get(round) {
+        match self.found.columns.get(round) {
             Some(table) => hq_bits::less(hq_bits::word_at(table, at), earlier),
             None => !earlier,
         }
@@ -368,8 +366,8 @@ impl<'a> Before<'a> {
     /// The least packet that completes on the signal and that p comes before by rounds below this one, where such a one
     /// is found at once.
     pub fn completer(&self, round: usize, p: usize, signal: u16) -> Option<usize> {
-        let table = self.columns.get(round.checked_sub(1)?)?;
-        let completing = self.completing.get(signal as usize)?;
+        let table = self.found.columns.get(round.checked_sub(1)?)?;
+        let completing = self.found.completing.get(signal as usize)?;
         for (place, word) in completing.iter().enumerate() {
             let at = p.wrapping_mul(WORDS).wrapping_add(place);
             let both = *word & hq_bits::word_at(table, at);
@@ -384,11 +382,8 @@ impl<'a> Before<'a> {
     pub fn into_rounds(self) -> Rounds
         ensures { AreOf self.entry result }
     {
-        Rounds {
-            rounds: self.rounds,
-            columns: self.columns,
-            completing: self.completing,
-        }
+        let Before { found, .. } = self;
+        found
     }
 
     /// The job.

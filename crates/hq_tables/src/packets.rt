@@ -3,7 +3,6 @@
 ghost use Rattle.std.specs.Prelude.{◌≡◌, ◌+◌, ◌^◌, ◌<◌, ◌≤◌, ◌↔◌, ◌⊎◌, ◌==◌, ◌∷◌, false, map, count_by};
 ghost use Rattle.std.specs.Prelude.{slice_index, All, AllPairs, Any, IfOk, IsNone, IsTrue};
 ghost use Rattle.hq_footprint.specs.Bytes.{Fits, IsOutside, ranges_of};
-ghost use Rattle.hq_footprint.specs.Table.{no_work};
 ghost use Rattle.hq_lines.specs.Meaning as says;
 ghost use Rattle.hq_packet.specs.Parts.{completion_of};
 ghost use Rattle.hq_signals.specs.Table.{IsOpen, changed_at, noted, with_wait};
@@ -22,7 +21,7 @@ use crate::finding::kernel_at;
 use crate::limits::ITEMS;
 use crate::rows::Placed;
 use crate::tables::Tables;
-use hq_footprint::{FootFault, Footprint, Range, Task, Work, inside, of_kernel, of_service};
+use hq_footprint::{FootFault, Footprint, Range, Work, inside, nothing, of_kernel, of_service};
 use hq_model::PACKETS;
 use hq_packet::{Kernel, Packet};
 use hq_signals::SignalTable;
@@ -78,20 +77,6 @@ fn has_many_items(packet: &Packet) -> bool
     match packet {
         Packet::Kernel(kernel) => items_of(kernel) > ITEMS,
         _ => false,
-    }
-}
-
-/// Work that reads and writes nothing.
-fn nothing() -> Work
-    ensures { result ≡ no_work }
-{
-    let nowhere = Range::new(0, 0);
-    Work {
-        foot: Footprint {
-            reads: [nowhere, nowhere],
-            write: nowhere,
-        },
-        task: Task::Nop,
     }
 }
 

@@ -5,7 +5,7 @@ use Rattle.std.proofs.lemmas.Option.{slice_get_within, slice_get-get_or}
 use Rattle.hq_cert.specs.View.{line_of}
 use Rattle.hq_job.specs.Plan.{plan}
 use Rattle.hq_model.specs.Certificate as model
-use Rattle.hq_certcheck.specs.Listed.{LineFollows}
+use Rattle.hq_model.specs.Certificate.{LineHolds}
 use Rattle.hq_certcheck.specs.Concluded.{conclusion_of}
 use Rattle.hq_certcheck.proofs.Blocks.{stands_here, within_here}
 use Rattle.hq_certcheck.proofs.lines.first_bad_line.Goals as goal
@@ -33,7 +33,7 @@ loop-k-preserved c all same stand j high low =
       | inl less ↦ c.loop-k.invariant all same stand j high less
       | inr least ↦
           let e : k ≡ j = omega (arith, low, least) in
-          subst (LineFollows (plan c.args.job.now) all) e ((c.line_holds.ensures all same there).0 c.if-not-line_holds.false)
+          subst (LineHolds (plan c.args.job.now) all) e ((c.line_holds.ensures all same there).0 c.if-not-line_holds.false)
     ]
 
 pub returns : goal.returns

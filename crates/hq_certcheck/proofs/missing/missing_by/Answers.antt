@@ -12,8 +12,8 @@ returns c cert given =
     let n = sym (packets_count c.args.job.now) in
     let listed : AreListed cert.pairs (length job.packets) flags = subst (λ k. AreListed cert.pairs k flags) n given in
     let found = subst (λ k. MatchOption c.first_unflagged.result ((p : ℕ) → p < k → RowFlagged job flags p) (λ f. FirstUnflagged job flags f.0 f.1)) n c.first_unflagged.ensures in
-    match_change c.first_unflagged.result ((p : ℕ) → p < length job.packets → RowFlagged job flags p) (NoneMissing job cert)
-    (λ f. FirstUnflagged job flags f.0 f.1) (λ f. FirstMissing job cert f.0 f.1)
-    (none_missing job cert flags listed)
-    (λ f h. first_missing job cert flags listed f.0 f.1 h)
+    match_change c.first_unflagged.result ((p : ℕ) → p < length job.packets → RowFlagged job flags p) (NoneMissing job cert.pairs)
+    (λ f. FirstUnflagged job flags f.0 f.1) (λ f. FirstMissing job cert.pairs f.0 f.1)
+    (none_missing job cert.pairs flags listed)
+    (λ f h. first_missing job cert.pairs flags listed f.0 f.1 h)
     found

@@ -6,8 +6,9 @@ use Rattle.rayon.specs.Numbers.{nat_range}
 use Rattle.rayon.proofs.ToStd.{nat_range-All}
 use Rattle.hq_cert.specs.View.{line_of}
 use Rattle.hq_job.specs.Plan.{plan}
+use Rattle.hq_model.specs.Certificate.{LineHolds}
 use Rattle.hq_certcheck.specs.Concluded.{conclusion_of}
-use Rattle.hq_certcheck.specs.Listed.{LineFollows, FirstBadLine}
+use Rattle.hq_certcheck.specs.Listed.{FirstBadLine}
 use Rattle.hq_certcheck.proofs.Saying.{meant_within}
 use Rattle.hq_certcheck.proofs.Flagged.{match_change}
 use Rattle.hq_certcheck.proofs.Leasts.{Tells, IsLeastOf, least_told}
@@ -25,7 +26,7 @@ returns g c =
     let ends = c.into_par_iter.ensures in
     let n = length c.args.found.now in
     let lines = map line_of c.args.found.now in
-    let P = LineFollows (plan c.args.job.now) lines in
+    let P = LineHolds (plan c.args.job.now) lines in
     let whole : n - 0 ≡ n = omega arith in
     let base = c.with_min_len-places.ensures.base in
     let places = done.2 ∙ (λ i. nat_range (range_start (base i)) (range_end (base i))) ∙ (λ i. nat_range (ends.0 i) (ends.1 i)) ∙ ap (range_with_len 0) whole in

@@ -6,7 +6,7 @@ use Rattle.rayon.specs.Numbers.{nat_range}
 use Rattle.rayon.proofs.ToStd.{nat_range-All}
 use Rattle.hq_cert.specs.View.{pair_of}
 use Rattle.hq_job.specs.Plan.{plan}
-use Rattle.hq_certcheck.specs.Listed.{PairFollowsAt, FirstBadPlace}
+use Rattle.hq_certcheck.specs.Listed.{PairHoldsAt, FirstBadPlace}
 use Rattle.hq_certcheck.proofs.Saying.{meant_within}
 use Rattle.hq_certcheck.proofs.Flagged.{match_change}
 use Rattle.hq_certcheck.proofs.Leasts.{Tells, IsLeastOf, least_told}
@@ -26,7 +26,7 @@ returns g c =
     let job = plan c.args.job.now in
     let lines = map bare c.args.lines.now in
     let pairs = map pair_of c.args.pairs.now in
-    let P = PairFollowsAt job lines pairs in
+    let P = PairHoldsAt job lines pairs in
     let whole : n - 0 ≡ n = omega arith in
     let base = c.with_min_len-places.ensures.base in
     let places = done.2 ∙ (λ i. nat_range (range_start (base i)) (range_end (base i))) ∙ (λ i. nat_range (ends.0 i) (ends.1 i)) ∙ ap (range_with_len 0) whole in

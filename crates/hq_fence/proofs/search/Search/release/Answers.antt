@@ -28,4 +28,4 @@ returns-in_default-ending c = λ fences end a.
     c.in_default-ending.ensures end (ends_from_first self.before.now self.p self.r self.form self.goal fences end a)
 
 pub release_from-requires-in-loop-turn-clause-x_is : goal.release_from-requires-in-loop-turn-clause-x_is
-release_from-requires-in-loop-turn-clause-x_is c = (c.requires.queue_of_p.only c.at.result c.at.ensures.above c.at.ensures.below).0
+release_from-requires-in-loop-turn-clause-x_is c = (c.requires.queue_of_p.are.of_queue c.at.result c.at.ensures.above c.at.ensures.below).0

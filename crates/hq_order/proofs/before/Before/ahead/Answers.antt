@@ -10,8 +10,8 @@ use Rattle.hq_order.proofs.before.Before.ahead.Goals as goal
 
 pub returns-clause-has : goal.returns-clause-has
 returns-clause-has c = λ p.
-    let rounds = c.self.inside.rounds.items in
-    let is = last_is rounds c.len.result c.index.result.now c.self.invariant.rounds.some (c.len.ensures ∙ c.self.inside.rounds.ok.0) c.index.ensures in
+    let rounds = c.self.inside.found.rounds.items in
+    let is = last_is rounds c.len.result c.index.result.now c.self.invariant.rounds.some (c.len.ensures ∙ c.self.inside.found.rounds.ok.0) c.index.ensures in
     let exact = last_exact (order_of c.self.inside) rounds c.self.invariant.rounds c.self.invariant.closed p c.args.r in
     let view : order_of c.self.inside ≡ c.args.self.now = cc c.self.view_is in
     let rows = c.deref.ensures.value ∙ sym is in
@@ -21,8 +21,8 @@ returns-clause-has c = λ p.
 
 pub returns-clause-len : goal.returns-clause-len
 returns-clause-len c =
-    let rounds = c.self.inside.rounds.items in
-    let is = last_is rounds c.len.result c.index.result.now c.self.invariant.rounds.some (c.len.ensures ∙ c.self.inside.rounds.ok.0) c.index.ensures in
+    let rounds = c.self.inside.found.rounds.items in
+    let is = last_is rounds c.len.result c.index.result.now c.self.invariant.rounds.some (c.len.ensures ∙ c.self.inside.found.rounds.ok.0) c.index.ensures in
     let view : order_of c.self.inside ≡ c.args.self.now = cc c.self.view_is in
     let some = c.self.invariant.rounds.some in
     let low : c.args.r < length (order_of c.self.inside).packets = subst (λ (job : Job). c.args.r < length job.packets) (sym view) c.requires in

@@ -8,8 +8,8 @@ use Rattle.hq_order.proofs.before.Before.holds.Goals as goal
 
 pub returns : goal.returns
 returns c =
-    let rounds = c.self.inside.rounds.items in
-    let is = last_is rounds c.len.result c.index-last.result.now c.self.invariant.rounds.some (c.len.ensures ∙ c.self.inside.rounds.ok.0) c.index-last.ensures in
+    let rounds = c.self.inside.found.rounds.items in
+    let is = last_is rounds c.len.result c.index-last.result.now c.self.invariant.rounds.some (c.len.ensures ∙ c.self.inside.found.rounds.ok.0) c.index-last.ensures in
     let exact = last_exact (order_of c.self.inside) rounds c.self.invariant.rounds c.self.invariant.closed c.args.p c.args.r in
     let view : order_of c.self.inside ≡ c.args.self.now = cc c.self.view_is in
     let marks = subst (λ rows. IsTrue c.marks.result ↔ Marks rows c.args.p c.args.r) (c.deref.ensures.value ∙ sym is) c.marks.ensures in

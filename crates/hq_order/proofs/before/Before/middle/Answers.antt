@@ -12,41 +12,41 @@ use Rattle.hq_order.proofs.before.Before.middle.Goals as goal
 pub index-requires : goal.index-requires
 index-requires c =
     let view : order_of c.self.inside ≡ c.args.self.now = cc c.self.view_is in
-    let low : c.args.round < length c.self.inside.rounds.items = first_low (order_of c.self.inside) c.self.inside.rounds.items c.args.round c.args.p c.args.r c.self.invariant.rounds c.self.invariant.closed (subst (λ job. IsFirstWithin job c.args.round c.args.p c.args.r) (sym view) c.requires.first) in
-    omega (arith, c.self.inside.rounds.ok.0)
+    let low : c.args.round < length c.self.inside.found.rounds.items = first_low (order_of c.self.inside) c.self.inside.found.rounds.items c.args.round c.args.p c.args.r c.self.invariant.rounds c.self.invariant.closed (subst (λ job. IsFirstWithin job c.args.round c.args.p c.args.r) (sym view) c.requires.first) in
+    omega (arith, c.self.inside.found.rounds.ok.0)
 
 pub index-requires-2 : goal.index-requires-2
 index-requires-2 c =
     let view : order_of c.self.inside ≡ c.args.self.now = cc c.self.view_is in
-    let low : c.args.round < length c.self.inside.rounds.items = first_low (order_of c.self.inside) c.self.inside.rounds.items c.args.round c.args.p c.args.r c.self.invariant.rounds c.self.invariant.closed (subst (λ job. IsFirstWithin job c.args.round c.args.p c.args.r) (sym view) c.requires.first) in
-    omega (arith, c.self.inside.columns.ok.0, c.self.invariant.turned.len, c.if-round-eq0.false)
+    let low : c.args.round < length c.self.inside.found.rounds.items = first_low (order_of c.self.inside) c.self.inside.found.rounds.items c.args.round c.args.p c.args.r c.self.invariant.rounds c.self.invariant.closed (subst (λ job. IsFirstWithin job c.args.round c.args.p c.args.r) (sym view) c.requires.first) in
+    omega (arith, c.self.inside.found.columns.ok.0, c.self.invariant.turned.len, c.if-round-eq0.false)
 
 pub between-requires-clause-turned : goal.between-requires-clause-turned
 between-requires-clause-turned c =
     let view : order_of c.self.inside ≡ c.args.self.now = cc c.self.view_is in
     let k = c.args.round - 1 in
-    let low : c.args.round < length c.self.inside.rounds.items = first_low (order_of c.self.inside) c.self.inside.rounds.items c.args.round c.args.p c.args.r c.self.invariant.rounds c.self.invariant.closed (subst (λ job. IsFirstWithin job c.args.round c.args.p c.args.r) (sym view) c.requires.first) in
-    let here : k < length c.self.inside.rounds.items = omega arith in
-    let there : k < length c.self.inside.columns.items = omega (arith, c.self.invariant.turned.len, c.if-round-eq0.false) in
-    let rows = matrix_is c.self.inside.rounds.items k c.index.result.now here c.index.ensures ∙ sym c.deref.ensures.value in
-    let table = row_is c.self.inside.columns.items k c.index-2.result.now there c.index-2.ensures ∙ sym c.deref-2.ensures.value in
-    subst (λ rs. Turned rs c.deref-2.result.now) rows (subst (λ t. Turned (matrix c.self.inside.rounds.items k) t) table (c.self.invariant.turned.each k there))
+    let low : c.args.round < length c.self.inside.found.rounds.items = first_low (order_of c.self.inside) c.self.inside.found.rounds.items c.args.round c.args.p c.args.r c.self.invariant.rounds c.self.invariant.closed (subst (λ job. IsFirstWithin job c.args.round c.args.p c.args.r) (sym view) c.requires.first) in
+    let here : k < length c.self.inside.found.rounds.items = omega arith in
+    let there : k < length c.self.inside.found.columns.items = omega (arith, c.self.invariant.turned.len, c.if-round-eq0.false) in
+    let rows = matrix_is c.self.inside.found.rounds.items k c.index.result.now here c.index.ensures ∙ sym c.deref.ensures.value in
+    let table = row_is c.self.inside.found.columns.items k c.index-2.result.now there c.index-2.ensures ∙ sym c.deref-2.ensures.value in
+    subst (λ rs. Turned rs c.deref-2.result.now) rows (subst (λ t. Turned (matrix c.self.inside.found.rounds.items k) t) table (c.self.invariant.turned.each k there))
 
 pub between-requires-clause-few : goal.between-requires-clause-few
 between-requires-clause-few c =
     let view : order_of c.self.inside ≡ c.args.self.now = cc c.self.view_is in
     let k = c.args.round - 1 in
-    let low : c.args.round < length c.self.inside.rounds.items = first_low (order_of c.self.inside) c.self.inside.rounds.items c.args.round c.args.p c.args.r c.self.invariant.rounds c.self.invariant.closed (subst (λ job. IsFirstWithin job c.args.round c.args.p c.args.r) (sym view) c.requires.first) in
-    let here : k < length c.self.inside.rounds.items = omega arith in
-    let rows = matrix_is c.self.inside.rounds.items k c.index.result.now here c.index.ensures ∙ sym c.deref.ensures.value in
+    let low : c.args.round < length c.self.inside.found.rounds.items = first_low (order_of c.self.inside) c.self.inside.found.rounds.items c.args.round c.args.p c.args.r c.self.invariant.rounds c.self.invariant.closed (subst (λ job. IsFirstWithin job c.args.round c.args.p c.args.r) (sym view) c.requires.first) in
+    let here : k < length c.self.inside.found.rounds.items = omega arith in
+    let rows = matrix_is c.self.inside.found.rounds.items k c.index.result.now here c.index.ensures ∙ sym c.deref.ensures.value in
     let few : length (order_of c.self.inside).packets ≤ 1024 = omega (arith, c.valid.ensures.limits.packets, count c.self.inside.job.now) in
-    subst (λ rs. length rs ≤ 1024) rows (few_rows (order_of c.self.inside) c.self.inside.rounds.items k c.self.invariant.rounds few here)
+    subst (λ rs. length rs ≤ 1024) rows (few_rows (order_of c.self.inside) c.self.inside.found.rounds.items k c.self.invariant.rounds few here)
 
 pub returns : goal.returns
 returns c =
     let view : order_of c.self.inside ≡ c.args.self.now = cc c.self.view_is in
     let job = order_of c.self.inside in
-    let rounds = c.self.inside.rounds.items in
+    let rounds = c.self.inside.found.rounds.items in
     let k = c.args.round - 1 in
     let low : c.args.round < length rounds = first_low job rounds c.args.round c.args.p c.args.r c.self.invariant.rounds c.self.invariant.closed (subst (λ job. IsFirstWithin job c.args.round c.args.p c.args.r) (sym view) c.requires.first) in
     let here : k < length rounds = omega arith in
