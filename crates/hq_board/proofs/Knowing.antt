@@ -1,27 +1,23 @@
 -- What the owner of a seat knows is enough for its questions.
-use Rattle.std.proofs.Common.{◌≡◌, ◌≢◌, ◌↔◌, ℕ, zero, suc, ◌+◌, ◌-◌, ◌<◌, ◌≤◌, ◌⊎◌, inl, inr, Bool, true, false, cond, List, [], ◌∷◌, length, get_or, replicate, refl, sym, ◌∙◌, ap, subst, arith, slice_index_or, count_by, IsTrue, Option}
+use Rattle.std.proofs.Common.{◌≡◌, ◌≢◌, ◌↔◌, ℕ, zero, suc, ◌+◌, ◌-◌, ◌<◌, ◌≤◌, ◌⊎◌, inl, inr, Bool, true, false, cond, List, [], ◌∷◌, length, get_or, replicate, refl, sym, ◌∙◌, ap, subst, arith, slice_index_or, count_by, IsTrue}
 use Rattle.std.proofs.lemmas.Bool.{cases_eq, true≢false}
-use Rattle.std.proofs.lemmas.List.{length-map, length-replicate, get_or-replicate}
-use Rattle.hq_model.specs.Job.{Job, packet, IsPacket, IsBarrier, Earlier, Dependency, Kind}
-use Rattle.hq_model.specs.Job as model
-use Rattle.hq_model.specs.Job.Kind.{Work, BarrierAnd, BarrierOr}
-use Rattle.hq_job.specs.Plan.{plan, planned}
-use Rattle.hq_tables.specs.Kinds.{kind_of}
+use Rattle.std.proofs.lemmas.List.{length-map, length-replicate, get_or-replicate, get_or_default}
+use Rattle.hq_model.specs.Job.{Job, packet, IsPacket, IsBarrier, Earlier, Dependency}
+use Rattle.hq_job.specs.Plan.{plan}
 use Rattle.hq_job.specs.Value.{JobValue}
-use Rattle.hq_tables.specs.declared.rows.Placed.{Placed}
-use Rattle.std.proofs.lemmas.Option.{slice_get-get_or, get_or_from_slice_get}
 use Rattle.hq_model.specs.Machine as machine
 use Rattle.hq_model.specs.Machine.{MayLaunch, is_launched, is_complete}
 use Rattle.hq_model.specs.Machine.Phase.{Waiting, InQueue, Launched, Active, Complete}
 use Rattle.hq_events.specs.Phases.{named}
 use Rattle.hq_events.specs.declared.phase.Phase.{Phase}
 use Rattle.hq_events.specs.declared.phase.Phase.TheVariants as own
+use Rattle.hq_events.specs.Waits.{AreObserved}
 use Rattle.hq_job.specs.Access.{AreOfQueue}
 use Rattle.hq_board.specs.declared.entry.View.{View}
 use Rattle.hq_board.specs.Rule.{newcomer}
 use Rattle.hq_board.specs.declared.known.Known.{Known}
 use Rattle.hq_board.specs.History.{after, IsOpen, MayLook}
-use Rattle.hq_board.specs.Known.{AllObserved, OneObserved, Over, BitLets, IsHeld, IsOwn, IsReady, Tied, is_done, log_of, phase_at}
+use Rattle.hq_board.specs.Known.{BitLets, IsHeld, IsOwn, IsReady, Tied, is_done, log_of, phase_at}
 
 -- ---- lists of phases of which only the first n may be complete
 
@@ -235,38 +231,9 @@ span_from job q a b n span e = record {
 
 -- ---- waits
 
--- where there is an element, the default isn't seen
-pub any_default : {A : Type 0} (xs : List A) (k : ℕ) (d e : A) → k < length xs → get_or xs k d ≡ get_or xs k e
-any_default xs k d e l = get_or_from_slice_get xs k (get_or xs k e) d (slice_get-get_or xs k e l)
-
-over_parts : (kind : Kind) (deps : List (Option ℕ)) (row : List Bool) → Over kind deps row → (kind ≡ BarrierAnd → AllObserved deps row) × (kind ≡ BarrierOr → OneObserved deps row)
-over_parts Work deps row o = (λ e. absurd cc, λ e. absurd cc)
-over_parts BarrierAnd deps row o = (λ e. o, λ e. absurd cc)
-over_parts BarrierOr deps row o = (λ e. absurd cc, λ e. o)
-
-over_from : (kind : Kind) (deps : List (Option ℕ)) (row : List Bool) → (kind ≡ BarrierAnd → AllObserved deps row) → (kind ≡ BarrierOr → OneObserved deps row) → Over kind deps row
-over_from Work deps row f g = tt
-over_from BarrierAnd deps row f g = f refl
-over_from BarrierOr deps row f g = g refl
-
-over_waits : (job : Job) (a : machine.State) (p : ℕ) (row : List Bool) → IsPacket job p → ((slot : ℕ) → get_or row slot false ≡ a.observed p slot) → Over (packet job p).kind (packet job p).deps row ↔ machine.WaitOver job a p
-over_waits job a p row there same = (
-  λ o. let parts = over_parts (packet job p).kind (packet job p).deps row o in record {
-    each = λ k slot s d. sym (same slot) ∙ parts.0 k slot (s, d.signal);
-    one = λ k. let (slot, (s, d), e) = parts.1 k in (slot, s, record { is_packet = there; signal = d }, sym (same slot) ∙ e);
-  },
-  λ w. over_from (packet job p).kind (packet job p).deps row
-      (λ k slot d. same slot ∙ w.each k slot d.0 (record { is_packet = there; signal = d.1 }))
-      (λ k. let (slot, s, d, e) = w.one k in (slot, (s, d.signal), same slot ∙ e)),
-)
-
-pub enters : (job : Job) (known : Known) (p place : ℕ) (placed : Placed) (row : List Bool) → Tied job known → place < length known.phases.items → p ≡ known.first + place → planned placed ≡ packet job p
-    → row ≡ get_or known.observed.items place row → Over (kind_of placed.packet) placed.slots row ↔ machine.WaitOver job (after job (log_of known)) p
-enters job known p place placed row t l is plan_is row_is =
-    let there : IsPacket job p = subst (IsPacket job) (sym is) (own_packet job known place t l).0 in
-    let same : (slot : ℕ) → get_or row slot false ≡ (after job (log_of known)).observed p slot =
-    λ slot. ap (λ r. get_or r slot false) (row_is ∙ any_default known.observed.items place row [] (omega (arith, l, t.slot_count))) ∙ t.slots place slot l ∙ ap (λ k. (after job (log_of known)).observed k slot) (sym is) in
-    subst (λ (pk : model.Packet). Over pk.kind pk.deps row ↔ machine.WaitOver job (after job (log_of known)) p) (sym plan_is) (over_waits job (after job (log_of known)) p row there same)
+pub waits : (job : Job) (known : Known) (p place : ℕ) (row : List Bool) → Tied job known → place < length known.phases.items → p ≡ known.first + place → row ≡ get_or known.observed.items place row → AreObserved (after job (log_of known)) p row
+waits job known p place row t l is row_is slot =
+    ap (λ r. get_or r slot false) (row_is ∙ get_or_default known.observed.items place row [] (omega (arith, l, t.slot_count))) ∙ t.slots place slot l ∙ ap (λ k. (after job (log_of known)).observed k slot) (sym is)
 
 pub entered_phase : (job : Job) (known : Known) (p place : ℕ) {f : machine.Phase} → Tied job known → place < length known.phases.items → p ≡ known.first + place → phase_at known place ≡ f → (after job (log_of known)).phase p ≡ f
 entered_phase job known p place {f} t l is e = ap (after job (log_of known)).phase is ∙ sym (t.phases place l) ∙ e

@@ -1,8 +1,7 @@
 -- What the owner of a seat knows of its queue's packets is what its list says.
-use Rattle.std.specs.Prelude.{◌≡◌, ◌≢◌, ℕ, suc, ◌+◌, ◌<◌, ◌≤◌, List, length, slice_index_or, slice_get, false, []}
-use Rattle.std.specs.Prelude.{IsTrue, Option, Some, Bool, count_by}
-use Rattle.hq_model.specs.Job.{Job, Kind, packet, IsBarrier}
-use Rattle.hq_model.specs.Job.Kind.{Work, BarrierAnd, BarrierOr}
+use Rattle.std.specs.Prelude.{◌≡◌, ◌≢◌, ℕ, suc, ◌+◌, ◌<◌, ◌≤◌, List, length, slice_index_or, false, []}
+use Rattle.std.specs.Prelude.{IsTrue, Bool, count_by}
+use Rattle.hq_model.specs.Job.{Job, packet, IsBarrier}
 use Rattle.hq_model.specs.Machine as machine
 use Rattle.hq_job.specs.Access.{AreOfQueue}
 use Rattle.hq_events.specs.Phases.{named}
@@ -68,21 +67,3 @@ pub record IsReady (job : Job) (known : Known) : Type 0 where
   pub room : known.launched < length known.phases.items
   pub free : ¬ IsHeld job known
   pub lets : BitLets job known
-
--- the slot waits for a signal
-abbrev pub Waits : List (Option ℕ) → ℕ → Type 0
-Waits deps slot = (s : ℕ) × (slice_get deps slot ≡ Some (Some s))
-
--- Every slot that waits for a signal was observed.
-abbrev pub AllObserved : List (Option ℕ) → List Bool → Type 0
-AllObserved deps observed = (slot : ℕ) → Waits deps slot → IsTrue (slice_index_or observed slot false)
-
--- Some slot that waits for a signal was observed.
-abbrev pub OneObserved : List (Option ℕ) → List Bool → Type 0
-OneObserved deps observed = (slot : ℕ) × Waits deps slot × IsTrue (slice_index_or observed slot false)
-
--- The wait of a packet of this kind, with these dependencies, is over.
-abbrev pub Over : Kind → List (Option ℕ) → List Bool → Type 0
-Over Work deps observed = Unit {0}
-Over BarrierAnd deps observed = AllObserved deps observed
-Over BarrierOr deps observed = OneObserved deps observed

@@ -1,14 +1,12 @@
 //! What the owner of a seat knows of its queue's packets, beside the token whose list says so.
 
-ghost use Rattle.std.specs.Prelude.{◌≡◌, ◌+◌, ℕ, ◌<◌, length, true, MatchOption, IfOk, replicate};
+ghost use Rattle.std.specs.Prelude.{◌≡◌, ◌+◌, ℕ, ◌<◌, length, MatchOption, IfOk, replicate};
 ghost use Rattle.std.specs.Prelude.{IsTrue, false, ◌↔◌};
 ghost use Rattle.hq_job.specs.Plan.{plan};
-ghost use Rattle.hq_tables.specs.Kinds.{kind_of};
 ghost use Rattle.hq_model.specs.Job.{packet as packet_of, Dependency};
 ghost use Rattle.hq_model.specs.Machine.{MayLaunch};
 ghost use Rattle.hq_board.specs.History.{after, IsOpen, May, MayLook};
-ghost use Rattle.hq_board.specs.Known.{AllObserved, BitLets, IsHeld, IsOwn, IsReady, OneObserved, Over};
-ghost use Rattle.hq_board.specs.Known.{Tied, log_of, phase_at};
+ghost use Rattle.hq_board.specs.Known.{BitLets, IsHeld, IsOwn, IsReady, Tied, log_of, phase_at};
 ghost use Rattle.hq_events.specs.Phases.{named};
 ghost use Rattle.hq_events.specs.declared.phase.Phase.TheVariants as phase;
 ghost use Rattle.hq_board.specs.Rule.{newcomer};
@@ -18,9 +16,8 @@ use crate::words::Token;
 use hq_events::Phase;
 use hq_events::packets::dependency;
 use hq_events::starts::nothing_observed;
+use hq_events::waiting::wait_is_over;
 use hq_job::Job;
-use hq_packet::Packet;
-use hq_tables::Placed;
 use std::alloc::{AllocError, Global};
 
 /// What is known of the packets of one queue, which are those from the number `first` on.
@@ -189,42 +186,6 @@ pub fn may_look(job: &Job, known: &Known, packet: usize, slot: usize) -> Option<
     Some((signal as usize, place))
 }
 
-/// Whether every slot that waits for a signal was observed.
-fn all_observed(slots: &[Option<u16>; 5], observed: &[bool; 5]) -> bool
-    ensures { IsTrue result ↔ AllObserved slots.now observed.now }
-{
-    for slot in 0..5 {
-        if slots[slot].is_some() && !observed[slot] {
-            return false;
-        }
-    }
-    true
-}
-
-/// Whether a slot that waits for a signal was observed.
-fn one_observed(slots: &[Option<u16>; 5], observed: &[bool; 5]) -> bool
-    ensures { IsTrue result ↔ OneObserved slots.now observed.now }
-{
-    for slot in 0..5 {
-        if slots[slot].is_some() && observed[slot] {
-            return true;
-        }
-    }
-    false
-}
-
-/// Whether the packet's wait is over.
-fn is_over(placed: &Placed, observed: &[bool; 5]) -> bool
-    ensures { IsTrue result ↔ Over (kind_of placed.now.packet) placed.now.slots observed.now }
-{
-    match placed.packet {
-        Packet::Kernel(_) => true,
-        Packet::Agent(_) => true,
-        Packet::And(_) => all_observed(&placed.slots, observed),
-        Packet::Or(_) => one_observed(&placed.slots, observed),
-    }
-}
-
 /// The place of a packet that may be entered.
 pub fn may_enter(job: &Job, known: &Known, packet: usize) -> Option<usize>
     requires tied { Tied (plan job.now) known.now }
@@ -240,7 +201,7 @@ pub fn may_enter(job: &Job, known: &Known, packet: usize) -> Option<usize>
     if !known.is_in(place, Phase::Launched) {
         return None;
     }
-    if !is_over(job.packet(packet), &known.observed[place]) {
+    if !wait_is_over(job, packet, &known.observed[place]) {
         return None;
     }
     Some(place)

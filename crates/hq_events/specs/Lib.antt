@@ -3,3 +3,4 @@ pub mod Phases
 pub mod Packets
 pub mod Rows
 pub mod RowForms
+pub mod Waits

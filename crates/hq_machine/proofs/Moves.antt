@@ -1,14 +1,13 @@
 -- What each change of the lists is to the model's state, and that it keeps what is known of a state of a job.
-use Rattle.std.proofs.Common.{◌≡◌, ℕ, ◌<◌, ◌↔◌, inl, inr, List, [], Bool, true, false, not, Some, None, length, map, set, get_or, refl, sym, ◌∙◌, ap, subst, arith, length-set, get_or-set_same, get_or-set_other}
-use Rattle.std.proofs.lemmas.Bool.{cases_eq, cases_Bool, true≢false}
-use Rattle.hq_model.specs.Job.{Job, packet, IsPacket, Dependency, Kind}
+use Rattle.std.proofs.Common.{◌≡◌, ℕ, ◌<◌, ◌↔◌, inl, inr, List, [], Bool, true, false, Some, None, length, map, set, get_or, refl, sym, ◌∙◌, ap, subst, arith, length-set, get_or-set_same, get_or-set_other}
+use Rattle.std.proofs.lemmas.Bool.{cases_eq}
+use Rattle.hq_model.specs.Job.{Job, IsPacket, Dependency}
 use Rattle.hq_model.specs.Machine as machine
-use Rattle.hq_model.specs.Machine.{State, Event, MaySubmit, MayLaunch, WaitOver, with_phase, first_phase, put2}
+use Rattle.hq_model.specs.Machine.{State, Event, MaySubmit, MayLaunch, with_phase, first_phase, put2}
 use Rattle.hq_model.specs.Machine.Phase.{InQueue, Launched}
 use Rattle.hq_model.specs.Machine.Event.{Submit, Launch, Observe}
 use Rattle.hq_model.proofs.View.{phases_of_set}
 use Rattle.hq_model.proofs.Places.{none_get, some_get}
-use Rattle.hq_model.proofs.Bound.{slot_there}
 use Rattle.hq_events.specs.Phases.{named}
 use Rattle.hq_machine.specs.State.{StateValue}
 use Rattle.hq_events.specs.declared.phase.Phase.{Phase}
@@ -17,7 +16,7 @@ use Rattle.std.proofs.lemmas.List.{map-set}
 use Rattle.hq_events.proofs.Places.{row_set}
 use Rattle.hq_machine.proofs.Places.{row_put2}
 use Rattle.hq_machine.specs.Changes.{Moved, in_phase, with_observed}
-use Rattle.hq_machine.specs.Enabled.{Enabled, Observes, SlotMissing, SlotObserved, MayObserve}
+use Rattle.hq_machine.specs.Enabled.{Enabled, Observes, MayObserve}
 use Rattle.hq_machine.specs.View.{IsStateOf, state_of, row_of}
 
 -- ---- a phase
@@ -108,36 +107,3 @@ observable_some job state p slot signal found = (
 
 pub observable_none : (job : Job) (state : State) (p slot : ℕ) → ((s : ℕ) → (None ≡ Some s) ↔ Dependency job p slot s) → MayObserve job state p slot → ⊥
 observable_none job state p slot found m = none_get m.signal ((found m.signal).1 m.dependency)
-
--- ---- the wait
-
-pub missing_below : (job : Job) (state : State) (p slot : ℕ) → SlotMissing job state p slot → slot < length (packet job p).deps
-missing_below job state p slot m = (slot_there (packet job p).deps slot m.signal m.dependency.signal).0
-
-pub observed_below : (job : Job) (state : State) (p slot : ℕ) → SlotObserved job state p slot → slot < length (packet job p).deps
-observed_below job state p slot m = (slot_there (packet job p).deps slot m.signal m.dependency.signal).0
-
-and_is_no_or : (kind : Kind) → kind ≡ Kind.BarrierAnd → kind ≡ Kind.BarrierOr → ⊥
-and_is_no_or kind a b = let e : Kind.BarrierAnd ≡ Kind.BarrierOr = sym a ∙ b in cc
-
-pub and_over : (job : Job) (state : State) (p : ℕ) → (packet job p).kind ≡ Kind.BarrierAnd → ((slot : ℕ) → SlotMissing job state p slot → ⊥) ↔ WaitOver job state p
-and_over job state p kind = (
-  λ none. record {
-    each = λ _ slot s d. elim (cases_Bool (state.observed p slot)) [ inl t ↦ t | inr f ↦ absurd (none slot (record { signal = s; dependency = d; missing = f })) ];
-    one = λ or. absurd (and_is_no_or (packet job p).kind kind or);
-  },
-  λ over slot m. true≢false (sym (over.each kind slot m.signal m.dependency) ∙ m.missing),
-)
-
-pub slot_observed : (job : Job) (state : State) (p slot signal : ℕ) → ((s : ℕ) → (Some signal ≡ Some s) ↔ Dependency job p slot s) → (t : Bool) → t ≡ state.observed p slot → (t ≡ true) ↔ SlotObserved job state p slot
-slot_observed job state p slot signal found t e = (λ is. record { signal = signal; dependency = (found signal).0 refl; seen = sym e ∙ is }, λ o. e ∙ o.seen)
-
-pub none_observed : (job : Job) (state : State) (p slot : ℕ) → ((s : ℕ) → (None ≡ Some s) ↔ Dependency job p slot s) → SlotObserved job state p slot → ⊥
-none_observed job state p slot found o = none_get o.signal ((found o.signal).1 o.dependency)
-
-pub slot_missing : (job : Job) (state : State) (p slot signal : ℕ) → ((s : ℕ) → (Some signal ≡ Some s) ↔ Dependency job p slot s) → (t : Bool) → t ≡ state.observed p slot → (not t ≡ true) ↔ SlotMissing job state p slot
-slot_missing job state p slot signal found false e = (λ is. record { signal = signal; dependency = (found signal).0 refl; missing = sym e }, λ o. refl)
-slot_missing job state p slot signal found true e = (λ is. absurd (true≢false (sym is)), λ o. absurd (true≢false (e ∙ o.missing)))
-
-pub none_missing : (job : Job) (state : State) (p slot : ℕ) → ((s : ℕ) → (None ≡ Some s) ↔ Dependency job p slot s) → SlotMissing job state p slot → ⊥
-none_missing job state p slot found o = none_get o.signal ((found o.signal).1 o.dependency)

@@ -65,18 +65,6 @@ pub record MayObserve (job : Job) (state : machine.State) (p slot : ℕ) : Type 
   pub dependency : Dependency job p slot signal
   pub observes : Observes job state p slot signal
 
--- a dependency that p has observed
-pub record SlotObserved (job : Job) (state : machine.State) (p slot : ℕ) : Type 0 where
-  pub signal : ℕ
-  pub dependency : Dependency job p slot signal
-  pub seen : IsTrue (state.observed p slot)
-
--- a dependency that p hasn't observed
-pub record SlotMissing (job : Job) (state : machine.State) (p slot : ℕ) : Type 0 where
-  pub signal : ℕ
-  pub dependency : Dependency job p slot signal
-  pub missing : state.observed p slot ≡ false
-
 -- what an entry asks
 pub record MayEnter (job : Job) (state : machine.State) (p : ℕ) : Type 0 where
   pub is_packet : IsPacket job p

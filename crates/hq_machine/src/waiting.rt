@@ -1,20 +1,20 @@
 //! Observations and entries.
 
-ghost use Rattle.std.specs.Prelude.{◌≡◌, ◌<◌, ◌↔◌, ℕ, Some, true, false, IsTrue, length, IfErr, OnOk, OnErr};
+ghost use Rattle.std.specs.Prelude.{◌≡◌, ◌<◌, ◌↔◌, Some, true, false, IsTrue, length, IfErr, OnOk, OnErr};
 ghost use Rattle.std.specs.Prelude.{slice_index_or};
 ghost use Rattle.hq_job.specs.Plan.{plan};
 ghost use Rattle.hq_model.specs.Job.{IsPacket};
 ghost use Rattle.hq_model.specs.Machine.{WaitOver};
 ghost use Rattle.hq_model.specs.Machine.Event.{Observe, Enter};
 ghost use Rattle.hq_machine.specs.Changes.{Acquired, Moved, with_observed};
-ghost use Rattle.hq_machine.specs.Enabled.{Observes, SlotObserved, SlotMissing, MayObserve, MayEnter, Refused};
+ghost use Rattle.hq_machine.specs.Enabled.{Observes, MayObserve, MayEnter, Refused};
 ghost use Rattle.hq_machine.specs.View.{IsStateOf, row_of, state_of};
 
 use crate::state::State;
-use hq_events::packets::{dependency, slot_count};
+use hq_events::packets::dependency;
+use hq_events::waiting::wait_is_over;
 use hq_events::{Phase, StepFault};
 use hq_job::Job;
-use hq_packet::Packet;
 
 impl State {
     /// Whether a packet has observed a slot.
@@ -26,6 +26,14 @@ impl State {
             Some(observed) => *observed,
             None => false,
         }
+    }
+
+    /// Which slots a packet has observed.
+    fn slots_of(&self, packet: usize) -> &[bool; 5]
+        requires { packet < length self.now.observed }
+        ensures { result.now ≡ row_of self.now.observed packet }
+    {
+        &self.observed[packet]
     }
 
     /// The packet has observed the slot.
@@ -90,74 +98,13 @@ impl State {
         Ok(())
     }
 
-    /// Whether the slot is a dependency that the packet has observed.
-    fn is_slot_observed(&self, job: &Job, packet: usize, slot: usize) -> bool
-        requires is { IsStateOf (plan job.now) self.now }
-        requires packet { IsPacket (plan job.now) packet }
-        ensures { IsTrue result ↔ SlotObserved (plan job.now) (state_of (plan job.now) self.now) packet slot }
-    {
-        match dependency(job, packet, slot) {
-            Some(_signal) => self.has_observed(packet, slot),
-            None => false,
-        }
-    }
-
-    /// Whether the slot is a dependency that the packet hasn't observed.
-    fn is_slot_missing(&self, job: &Job, packet: usize, slot: usize) -> bool
-        requires is { IsStateOf (plan job.now) self.now }
-        requires packet { IsPacket (plan job.now) packet }
-        ensures { IsTrue result ↔ SlotMissing (plan job.now) (state_of (plan job.now) self.now) packet slot }
-    {
-        match dependency(job, packet, slot) {
-            Some(_signal) => !self.has_observed(packet, slot),
-            None => false,
-        }
-    }
-
-    /// Whether a packet has observed all its dependencies.
-    #[tactic(auto, using(crate::proofs::Moves::missing_below))]
-    fn all_observed(&self, job: &Job, packet: usize) -> bool
-        requires is { IsStateOf (plan job.now) self.now }
-        requires packet { IsPacket (plan job.now) packet }
-        ensures { IsTrue result
-            ↔ ((slot : ℕ) → SlotMissing (plan job.now) (state_of (plan job.now) self.now) packet slot → ⊥) }
-    {
-        for slot in 0..slot_count(job, packet) {
-            if self.is_slot_missing(job, packet, slot) {
-                return false;
-            }
-        }
-        true
-    }
-
-    /// Whether a packet has observed one of its dependencies.
-    #[tactic(auto, using(crate::proofs::Moves::observed_below))]
-    fn some_observed(&self, job: &Job, packet: usize) -> bool
-        requires is { IsStateOf (plan job.now) self.now }
-        requires packet { IsPacket (plan job.now) packet }
-        ensures { IsTrue result
-            ↔ ((slot : ℕ) × SlotObserved (plan job.now) (state_of (plan job.now) self.now) packet slot) }
-    {
-        for slot in 0..slot_count(job, packet) {
-            if self.is_slot_observed(job, packet, slot) {
-                return true;
-            }
-        }
-        false
-    }
-
     /// Whether the packet's wait is over.
     fn is_wait_over(&self, job: &Job, packet: usize) -> bool
         requires is { IsStateOf (plan job.now) self.now }
         requires packet { IsPacket (plan job.now) packet }
         ensures { IsTrue result ↔ WaitOver (plan job.now) (state_of (plan job.now) self.now) packet }
     {
-        match job.packet(packet).packet {
-            Packet::Kernel(_) => true,
-            Packet::Agent(_) => true,
-            Packet::And(_) => self.all_observed(job, packet),
-            Packet::Or(_) => self.some_observed(job, packet),
-        }
+        wait_is_over(job, packet, self.slots_of(packet))
     }
 
     /// Whether the packet may enter.

@@ -74,6 +74,7 @@ fn attempts_for(job: &Job) -> Attempts {
 }
 
 /// Two runs that show the conflict of a pair by one of its bytes, with so many attempts left.
+#[tactic(auto, using(crate::proofs::Bytes::written_within))]
 fn show_pair(
     alloc: Global,
     job: &Job,

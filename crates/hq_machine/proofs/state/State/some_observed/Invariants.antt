@@ -1,8 +1,0 @@
-use Rattle.std.proofs.Common.{ℕ, ◌<◌}
-use Rattle.hq_job.specs.Plan.{plan}
-use Rattle.hq_machine.specs.Enabled.{SlotObserved}
-use Rattle.hq_machine.specs.View.{state_of}
-use Rattle.hq_machine.proofs.state.State.some_observed.Given as goal
-
-abbrev pub invariant-loop-slot : goal.invariant-loop-slot
-invariant-loop-slot l = (slot : ℕ) → slot < l.slot → SlotObserved (plan l.job) (state_of (plan l.job) l.self) l.packet slot → ⊥
