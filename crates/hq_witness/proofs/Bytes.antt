@@ -5,14 +5,18 @@ use Rattle.std.specs.List.{flat_map}
 use Rattle.std.proofs.lemmas.Bool.{ltb-true, lt-ltb, leb-true, true≢false}
 use Rattle.std.proofs.lemmas.List.{get_or-map}
 use Rattle.std.proofs.lemmas.List.Concat.{length-flat_map}
-use Rattle.std.proofs.lemmas.List.Elements.{Contains-append_right, Contains-append_cases}
+use Rattle.std.proofs.lemmas.List.Elements.{All-contains, Contains-append_right, Contains-append_cases}
 use Rattle.hq_tables.specs.declared.rows.Placed.{Placed}
 use Rattle.hq_job.specs.Plan.{plan, planned}
 use Rattle.hq_job.specs.Value.{JobValue}
 use Rattle.hq_job.specs.View.{WithinLimits}
 use Rattle.hq_model.specs.declared.limits.TheConstants.{BYTES}
-use Rattle.hq_model.specs.Job.{packet, no_packet}
+use Rattle.hq_finding.specs.declared.kind.Kind.{Kind}
+use Rattle.hq_finding.specs.declared.kind.Kind.TheVariants as kind
+use Rattle.hq_model.specs.Job.{Job, packet, no_packet}
 use Rattle.hq_model.specs.Machine.{IsByte}
+use Rattle.hq_model.specs.Theorems.{Valid}
+use Rattle.hq_witness.specs.Targets.{written_bytes}
 use Rattle.hq_footprint.specs.declared.footprint.Range.{Range}
 use Rattle.hq_footprint.specs.Bytes.{bytes_of}
 use Rattle.hq_footprint.proofs.Overlaps.{byte_bounds, byte_contained}
@@ -69,3 +73,9 @@ in_others rs r others b here there is first apart rest = subst (λ (xs : List Ra
     | inr y ↦ rest.1 y
   ],
 )
+
+-- a byte that the packet which writes first of two writes is one of memory
+pub written_within : (job : Job) → Valid job → (k : Kind) (p r b : ℕ) → Contains (written_bytes k (packet job p) (packet job r)) b → IsByte job b
+written_within job valid kind.WriteRead p r b has = All-contains (IsByte job) (packet job p).writes b (valid.writes p) has
+written_within job valid kind.WriteWrite p r b has = All-contains (IsByte job) (packet job p).writes b (valid.writes p) has
+written_within job valid kind.ReadWrite p r b has = All-contains (IsByte job) (packet job r).writes b (valid.writes r) has

@@ -1,15 +1,11 @@
--- Where two traces differ, and runs that were found to.
+-- Where two traces differ.
 use Rattle.std.specs.Prelude.{◌≡◌, ◌≢◌, ℕ, ◌<◌, List, length, slice_index_or}
-use Rattle.hq_model.specs.Job.{Job}
-use Rattle.hq_witness.specs.declared.attempt.Found.{Found}
 use Rattle.hq_witness.specs.declared.difference.Difference.{Difference}
 use Rattle.hq_witness.specs.declared.origin.Origin.{Origin}
 use Rattle.hq_witness.specs.declared.place.Place.{Place}
 use Rattle.hq_witness.specs.declared.place.Place.TheVariants as place
 use Rattle.hq_witness.specs.declared.trace.Sighting.{Sighting}
 use Rattle.hq_witness.specs.declared.trace.Trace.{Trace}
-use Rattle.hq_witness.specs.Origins.{IsPlace}
-use Rattle.hq_witness.specs.Witness.{IsWholeRun}
 
 -- it is one of the list
 abbrev pub Has : List Sighting → Sighting → Type 0
@@ -40,10 +36,3 @@ SameReads good bad = (s other : Sighting) → Has good.reads.items s → Has bad
 pub record Agree (good bad : Trace) : Type 0 where
   pub reads : SameReads good bad
   pub memory : good.byte ≡ bad.byte → good.memory ≡ bad.memory
-
--- two whole runs that differ in a place
-pub record AreFound (job : Job) (f : Found) : Type 0 where
-  pub place : IsPlace job f.difference.place
-  pub good : IsWholeRun job f.good f.difference.place f.difference.good
-  pub bad : IsWholeRun job f.bad f.difference.place f.difference.bad
-  pub differ : f.difference.good ≢ f.difference.bad

@@ -15,6 +15,7 @@ use Rattle.hq_model.specs.Machine.{State, NoWorkLeft}
 use Rattle.hq_model.specs.Machine.Phase.{Complete}
 use Rattle.hq_model.specs.Origins.{Origins, OriginsOf}
 use Rattle.hq_schedule.specs.Placing.{AreStuck}
+use Rattle.hq_witness.specs.declared.attempt.Found.{Found}
 use Rattle.hq_witness.specs.declared.fault.WitnessNo.{WitnessNo}
 use Rattle.hq_witness.specs.declared.fault.WitnessNo.TheVariants as no
 use Rattle.hq_witness.specs.declared.origin.Origin.{Origin}
@@ -50,13 +51,25 @@ pub record IsWholeRun (job : Job) (journal : List Event) (place : Place) (origin
   pub over : IsFinished job state
   pub there : origin_at origins place ≡ named origin
 
--- Both runs are such, the origins differ, and the conflict is the one that the audit refuses.
+-- two such runs that differ in a place
+pub record AreFound (job : Job) (f : Found) : Type 0 where
+  pub place : IsPlace job f.difference.place
+  pub good : IsWholeRun job f.good f.difference.place f.difference.good
+  pub bad : IsWholeRun job f.bad f.difference.place f.difference.bad
+  pub differ : f.difference.good ≢ f.difference.bad
+
+-- the two runs of a witness, and where they differ
+abbrev pub found_of : WitnessValue → Found
+found_of w = record {
+  difference = record { place = w.place; good = w.good_origin; bad = w.bad_origin };
+  good = w.good;
+  bad = w.bad;
+}
+
+-- The two runs are such, and the conflict is the one that the audit refuses.
 pub record IsWitness (job : Job) (w : WitnessValue) : Type 0 where
   pub refused : IsRefused job (audit.Conflict w.p w.r w.kind w.why)
-  pub place : IsPlace job w.place
-  pub good : IsWholeRun job w.good w.place w.good_origin
-  pub bad : IsWholeRun job w.bad w.place w.bad_origin
-  pub differ : w.good_origin ≢ w.bad_origin
+  pub found : AreFound job (found_of w)
 
 -- ---- why there is none
 

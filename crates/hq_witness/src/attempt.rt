@@ -4,9 +4,9 @@ ghost use Rattle.std.specs.Prelude.{IfNone, IfOk, IfSome};
 ghost use Rattle.hq_job.specs.Plan.{plan};
 ghost use Rattle.hq_model.specs.Machine.{IsByte};
 ghost use Rattle.hq_machine.specs.View.{state_of};
-ghost use Rattle.hq_witness.specs.Differences.{Agree, AreFound, TellApart};
+ghost use Rattle.hq_witness.specs.Differences.{Agree, TellApart};
 ghost use Rattle.hq_witness.specs.Traces.{IsRecording};
-ghost use Rattle.hq_witness.specs.Witness.{IsFinished};
+ghost use Rattle.hq_witness.specs.Witness.{AreFound, IsFinished};
 
 use crate::difference::{Difference, apart};
 use crate::eager::{in_order, with_first};

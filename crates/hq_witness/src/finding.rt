@@ -1,14 +1,13 @@
 //! The search for a witness.
 
-ghost use Rattle.std.specs.Prelude.{◌≡◌, ◌↔◌, ◌⊎◌, ◌<◌, IfErr, IfOk, IfSome, IsTrue, MatchOption, length};
+ghost use Rattle.std.specs.Prelude.{◌↔◌, ◌⊎◌, ◌<◌, IfErr, IfOk, IfSome, IsTrue, MatchOption, length};
 ghost use Rattle.hq_audit.specs.declared.fault.AuditNo.TheVariants.{Conflict};
 ghost use Rattle.hq_audit.specs.Refused.{IsRefused, IsUnshown, ShownOneWay};
 ghost use Rattle.hq_job.specs.Plan.{plan};
 ghost use Rattle.hq_model.specs.Fence.{Conflicts, Ordered};
 ghost use Rattle.hq_model.specs.Fence.Conflict.{ReadWrite, WriteRead};
-ghost use Rattle.hq_witness.specs.Differences.{AreFound};
 ghost use Rattle.hq_witness.specs.Targets.{unshown_of};
-ghost use Rattle.hq_witness.specs.Witness.{IsNo, IsOrderedOrMemory, IsWitness};
+ghost use Rattle.hq_witness.specs.Witness.{AreFound, IsNo, IsOrderedOrMemory, IsWitness};
 
 use crate::attempt::{Found, attempt};
 use crate::fault::WitnessNo;
@@ -43,22 +42,12 @@ struct Attempts {
     of_pair: u32,
 }
 
-/// What an attempt needs of the job: its order, and how many bytes of memory it has; and how many attempts are made
-/// of one pair.
+/// What an attempt needs of the job, its order, and how many attempts are made of one pair.
 #[derive(Clone, Copy)]
 struct Known<'a> {
     before: &'a Before<'a>,
     order: &'a [u16],
-    bytes: usize,
     of_pair: u32,
-}
-
-/// How many bytes memory has.
-fn byte_total(alloc: Global, job: &Job) -> Result<usize, AllocError>
-    ensures { IfOk result (λ n. n ≡ length (plan job.now).memory) }
-{
-    let memory = job.memory(alloc)?;
-    Ok(memory.len())
 }
 
 /// How many attempts are made.
@@ -82,13 +71,13 @@ fn show_pair(
     mut target: Target,
     left: &mut u32,
 ) -> Result<Option<Found>, AllocError>
-    requires { known.bytes ≡ length (plan job.now).memory }
     ensures { IfOk result (λ found. IfSome found (AreFound (plan job.now))) }
 {
+    job.valid();
     let least = left.saturating_sub(known.of_pair);
     for byte in target.bytes(job) {
         target.byte = byte;
-        if *left > least && (byte as usize) < known.bytes && target.is_shared(job) {
+        if *left > least && target.is_shared(job) {
             *left -= 1;
             let found = attempt(alloc, job, known.before, known.order, &target)?;
             if found.is_some() {
@@ -139,8 +128,7 @@ fn show_row(
     reads_only: bool,
     left: &mut u32,
 ) -> Result<Option<Found>, AllocError>
-    requires packet { a < length known.before.now.packets }
-    requires bytes { known.bytes ≡ length (plan job.now).memory }
+    requires { a < length known.before.now.packets }
     ensures { IfOk result (λ found. IfSome found (AreFound (plan job.now))) }
 {
     let count = known.before.len();
@@ -168,7 +156,6 @@ fn show_reads(
     known: Known,
     left: &mut u32,
 ) -> Result<Option<Found>, AllocError>
-    requires { known.bytes ≡ length (plan job.now).memory }
     ensures { IfOk result (λ found. IfSome found (AreFound (plan job.now))) }
 {
     for a in 0..known.before.len() {
@@ -187,7 +174,6 @@ fn show_last(
     known: Known,
     left: &mut u32,
 ) -> Result<Option<Found>, AllocError>
-    requires { known.bytes ≡ length (plan job.now).memory }
     ensures { IfOk result (λ found. IfSome found (AreFound (plan job.now))) }
 {
     let count = known.before.len();
@@ -209,7 +195,6 @@ fn show_some(
     target: Target,
     attempts: u32,
 ) -> Result<Option<Found>, AllocError>
-    requires { known.bytes ≡ length (plan job.now).memory }
     ensures { IfOk result (λ found. IfSome found (AreFound (plan job.now))) }
 {
     let mut left = attempts;
@@ -240,7 +225,6 @@ fn show(alloc: Global, job: &Job, target: Target) -> Result<Option<Found>, Alloc
     let known = Known {
         before: &before,
         order: &order,
-        bytes: byte_total(alloc, job)?,
         of_pair: most.of_pair,
     };
     show_some(alloc, job, known, target, most.in_all)
