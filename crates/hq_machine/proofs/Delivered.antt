@@ -9,9 +9,9 @@ use Rattle.hq_copies.specs.Copies.{CopiesValue, stored, stored_run}
 use Rattle.hq_copies.proofs.StoredRuns.{stored_more}
 use Rattle.hq_events.proofs.Replicated.{of_replicate}
 use Rattle.hq_events.specs.Rows.{StoresValue}
-use Rattle.hq_machine.proofs.EachStore.{delivered_first, delivered_more}
+use Rattle.hq_machine.proofs.EachStore.{DeliveredUpTo, delivered_first, delivered_more}
 use Rattle.hq_machine.specs.Changes.{Applied, with_byte_stored, with_stores}
-use Rattle.hq_machine.specs.Entries.{MayDeliver, DeliveredUpTo}
+use Rattle.hq_machine.specs.Entries.{MayDeliver}
 use Rattle.hq_machine.specs.State.{StateValue}
 use Rattle.hq_machine.specs.View.{IsStateOf, state_of}
 

@@ -1,10 +1,10 @@
 -- All stores of a packet in order.
-use Rattle.std.proofs.Common.{◌≡◌, ℕ, zero, suc, ◌+◌, ◌<◌, ◌≤◌, ◌↔◌, inl, inr, List, Bool, true, false, cond, eqb, length, count_by, set, get_or, slice_index, refl, sym, ◌∙◌, ap, subst, arith, replicate, length-set, get_or-set_same, get_or-set_other}
+use Rattle.std.proofs.Common.{◌≡◌, ℕ, zero, suc, ◌+◌, ◌<◌, ◌≤◌, ◌↔◌, inl, inr, List, Bool, true, false, map, cond, eqb, length, count_by, set, get_or, slice_index, slice_index_or, refl, sym, ◌∙◌, ap, subst, arith, replicate, length-set, get_or-set_same, get_or-set_other}
 use Rattle.std.proofs.lemmas.Bool.{cases_eq, cases_lt, true≢false}
 use Rattle.std.proofs.lemmas.List.{get_or_past, length-replicate}
 use Rattle.std.proofs.lemmas.List.Sums.{length-filter}
 use Rattle.hq_model.specs.Job.{Job, packet, IsPacket}
-use Rattle.hq_model.specs.Machine.{State, Step, AllRead, bytes_stored, put2}
+use Rattle.hq_model.specs.Machine.{State, Step, Steps, AllRead, bytes_stored, put2}
 use Rattle.hq_model.specs.Machine.Event.{Store}
 use Rattle.hq_model.specs.Journal.{numbers}
 use Rattle.hq_model.specs.Journal.Coarse.{Deliver}
@@ -19,9 +19,18 @@ use Rattle.hq_machine.proofs.EachEntry.{set_again, none_counted, each_asks, step
 use Rattle.hq_machine.proofs.StoreMoves.{moved_store}
 use Rattle.hq_machine.specs.Changes.{Moved, NextStores, with_byte_stored, with_stores}
 use Rattle.hq_machine.specs.Enabled.{Possible, MayStore}
-use Rattle.hq_machine.specs.Entries.{MayDeliver, DeliveredUpTo}
+use Rattle.hq_machine.specs.Entries.{MayDeliver}
 use Rattle.hq_machine.specs.State.{StateValue}
 use Rattle.hq_machine.specs.View.{IsStateOf, AreStores, state_of, stores_of}
+
+-- with these stores and copies p has stored its first n bytes in order, and no other
+pub record DeliveredUpTo (job : Job) (old : StateValue) (p n : ℕ) (s : StoresValue)
+    (copies : CopiesValue) : Type 0 where
+  pub is : IsStateOf job (with_stores old p s copies)
+  pub steps : Steps job (state_of job old) (map (Store p) (numbers n)) (state_of job (with_stores old p s copies))
+  pub bytes : s.bytes ≡ bytes_stored job (state_of job old) p
+  pub whole : length s.stored ≡ length (packet job p).writes
+  pub rest : (j : ℕ) → n ≤ j → slice_index_or s.stored j false ≡ false
 
 put2_false : (f : ℕ → ℕ → Bool) (p i j : ℕ) → put2 f p i true p j ≡ false → f p j ≡ false
 put2_false f p i j n = elim (cases_eq j i) [

@@ -10,12 +10,12 @@ use Rattle.hq_model.specs.Theorems.{Valid}
 use Rattle.hq_copies.specs.Copies.{CopiesValue, Released, LanesReleased}
 use Rattle.hq_machine.specs.State.{StateValue}
 use Rattle.hq_machine.specs.Pushes.Holders.{Lanes, Agents}
-use Rattle.hq_machine.specs.Pushes.{Swept, WrittenBack, LanesOf, AgentsOf, AreCopiesOf}
+use Rattle.hq_machine.specs.Pushes.{Swept, WrittenBack, AreCopiesOf}
 use Rattle.hq_machine.specs.View.{IsStateOf}
 use Rattle.hq_events.proofs.Jobs.{agent_below}
 use Rattle.hq_machine.proofs.PushLists.{sweep_starts}
 use Rattle.hq_machine.proofs.Released.{lanes_swept, queue_swept, agent_swept}
-use Rattle.hq_machine.proofs.Releases.{within_of}
+use Rattle.hq_machine.proofs.Releases.{AgentsOf, LanesOf, within_of}
 
 -- the lanes and agents that p's release fence reaches
 pub record Reached (job : Job) (p : ℕ) : Type 0 where

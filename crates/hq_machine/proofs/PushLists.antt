@@ -8,8 +8,8 @@ use Rattle.hq_model.specs.Journal.{numbers}
 use Rattle.hq_model.specs.View.{copies_of}
 use Rattle.hq_copies.specs.Copies.{CopiesValue, IsFirstDirty, NoneDirty, held, lane_pushed, agent_pushed}
 use Rattle.hq_machine.specs.Pushes.Holders.{Lanes, Agents}
-use Rattle.hq_machine.proofs.PushedBytes.{kept_same, kept_on, pushed_on, maps_count, Cleaning, cleaning_starts, cleaning_pushes, cleaned, fewer, dirty_is}
-use Rattle.hq_machine.specs.Pushes.{Holders, maps_of, push_of, PushedBy, AllPushed, Within, dirty_of, Cleaned, Swept, WrittenBack, span, pushes_of}
+use Rattle.hq_machine.proofs.PushedBytes.{Cleaned, kept_same, kept_on, pushed_on, maps_count, Cleaning, cleaning_starts, cleaning_pushes, cleaned, fewer, dirty_is}
+use Rattle.hq_machine.specs.Pushes.{Holders, maps_of, push_of, PushedBy, AllPushed, Within, dirty_of, Swept, WrittenBack, span, pushes_of}
 
 -- ---- the numbers from start on
 

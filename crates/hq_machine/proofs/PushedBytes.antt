@@ -10,7 +10,13 @@ use Rattle.hq_model.proofs.View.{copies_of_insert}
 use Rattle.hq_model.proofs.Sums.{put2_same, put2_other}
 use Rattle.hq_copies.specs.Copies.{CopiesValue, IsDirty, IsFirstDirty, NoneDirty, held, a_copy, lane_pushed, agent_pushed}
 use Rattle.hq_machine.specs.Pushes.Holders.{Lanes, Agents}
-use Rattle.hq_machine.specs.Pushes.{Holders, maps_of, push_of, PushedBy, AllPushed, Within, Counts, StaysWithin, dirty_of, Cleaned}
+use Rattle.hq_machine.specs.Pushes.{Holders, maps_of, push_of, PushedBy, AllPushed, Within, Counts, StaysWithin, dirty_of}
+
+-- the holder's dirty bytes are pushed, and the others of its kind hold what they held
+pub record Cleaned (h : Holders) (old : CopiesValue) (k : ℕ) (new : CopiesValue) : Type 0 where
+  pub run : AllPushed old (map (push_of h k) (dirty_of h old k)) new
+  pub kept : StaysWithin old new
+  pub others : (q b : ℕ) → q ≢ k → copies_of (maps_of h new) q b ≡ copies_of (maps_of h old) q b
 
 -- ---- lists of numbers that pass a test
 

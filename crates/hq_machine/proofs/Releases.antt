@@ -24,7 +24,7 @@ use Rattle.hq_machine.proofs.CopyMoves.{moved_push_lane, moved_push_agent}
 use Rattle.hq_machine.proofs.Finishing.{moved_finish}
 use Rattle.hq_machine.specs.Changes.{Applied, with_copies, in_phase, with_decrement}
 use Rattle.hq_machine.specs.Enabled.{Possible, IsWorked, MayFinish}
-use Rattle.hq_machine.specs.Pushes.{AllPushed, Within, WrittenBack, LanesOf, AgentsOf, span, pushes_of}
+use Rattle.hq_machine.specs.Pushes.{AllPushed, Within, WrittenBack, span, pushes_of}
 use Rattle.hq_machine.specs.View.{IsStateOf, DirtyWithin, state_of}
 use Rattle.hq_events.proofs.Jobs.{agent_below}
 use Rattle.hq_machine.proofs.PushLists.{span_none, span_more, can_write_back}
@@ -80,6 +80,20 @@ lanes_of job p = only_if (reaches (packet job p).release scope.Agent) (packets_o
 
 abbrev pub agents_of : Job → ℕ → List ℕ
 agents_of job p = only_if (reaches (packet job p).release scope.System) (agent_of job p ∷ [])
+
+-- the lanes that p's release fence reaches: from start up to stop, or none
+pub record LanesOf (job : Job) (p start stop : ℕ) : Type 0 where
+  pub rising : start ≤ stop
+  pub within : stop ≤ length job.packets
+  pub some : reaches (packet job p).release scope.Agent ≡ true → AreOfQueue job (packet job p).queue start stop
+  pub none : reaches (packet job p).release scope.Agent ≡ false → start ≡ stop
+
+-- the agent that it reaches, or none
+pub record AgentsOf (job : Job) (p start stop : ℕ) : Type 0 where
+  pub rising : start ≤ stop
+  pub within : stop ≤ job.agents
+  pub some : reaches (packet job p).release scope.System ≡ true → (start ≡ agent_of job p) × (stop ≡ start + 1)
+  pub none : reaches (packet job p).release scope.System ≡ false → start ≡ stop
 
 lanes_are : (job : Job) (p start stop : ℕ) → LanesOf job p start stop → lanes_of job p ≡ span start stop
 lanes_are job p start stop are = go (reaches (packet job p).release scope.Agent) refl

@@ -13,7 +13,16 @@ use Rattle.hq_events.proofs.Replicated.{of_replicate}
 use Rattle.hq_events.specs.Packets.{AllAre}
 use Rattle.hq_events.specs.Rows.{StoresValue, no_stores}
 use Rattle.hq_machine.specs.State.{StateValue}
-use Rattle.hq_machine.specs.View.{Started, IsStateOf, state_of}
+use Rattle.hq_machine.specs.View.{Opens, IsStateOf, state_of}
+
+-- the lists of a state in which a run starts
+pub record Started (job : Job) (v : StateValue) : Type 0 where
+  pub phases : v.phases ≡ replicate (length job.packets) (first_phase job)
+  pub observed : v.observed ≡ replicate (length job.packets) (replicate 5 false)
+  pub reads : v.reads ≡ replicate (length job.packets) []
+  pub stores : v.stores ≡ replicate (length job.packets) no_stores
+  pub signals : v.signals ≡ job.starts
+  pub opens : Opens job v.copies
 
 nothing_held : (n p b : ℕ) → copies_of (replicate n finite.empty) p b ≡ None
 nothing_held n p b = ap (λ m. finite.get m b) (of_replicate n p finite.empty) ∙ finite.get-empty nat_cmp b

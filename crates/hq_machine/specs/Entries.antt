@@ -1,12 +1,10 @@
--- All entries of a packet in order: when all may be read or stored, and how far that has come.
-use Rattle.std.specs.Prelude.{◌≡◌, ℕ, ◌<◌, ◌≤◌, List, length, map, Option, None, false, slice_index_or}
-use Rattle.hq_copies.specs.Copies.{CopiesValue}
+-- All entries of a packet in order: when all may be read or stored, and how far reading has come.
+use Rattle.std.specs.Prelude.{◌≡◌, ℕ, ◌<◌, ◌≤◌, List, length, map, Option, None, slice_index_or}
 use Rattle.hq_model.specs.Job.{Job, packet}
-use Rattle.hq_model.specs.Machine.{State, Steps, bytes_stored}
-use Rattle.hq_model.specs.Machine.Event.{Read, Store}
+use Rattle.hq_model.specs.Machine.{State, Steps}
+use Rattle.hq_model.specs.Machine.Event.{Read}
 use Rattle.hq_model.specs.Journal.{numbers}
-use Rattle.hq_events.specs.Rows.{StoresValue}
-use Rattle.hq_machine.specs.Changes.{with_reads, with_stores}
+use Rattle.hq_machine.specs.Changes.{with_reads}
 use Rattle.hq_machine.specs.Enabled.{MayRead, MayStore}
 use Rattle.hq_machine.specs.State.{StateValue}
 use Rattle.hq_machine.specs.View.{IsStateOf, state_of}
@@ -25,12 +23,3 @@ pub record FetchedUpTo (job : Job) (old : StateValue) (p n : ℕ) (row : List (O
 -- each byte of p may be stored
 abbrev pub MayDeliver : Job → State → ℕ → Type 0
 MayDeliver job state p = (i : ℕ) → i < length (packet job p).writes → MayStore job state p i
-
--- with these stores and copies p has stored its first n bytes in order, and no other
-pub record DeliveredUpTo (job : Job) (old : StateValue) (p n : ℕ) (s : StoresValue)
-    (copies : CopiesValue) : Type 0 where
-  pub is : IsStateOf job (with_stores old p s copies)
-  pub steps : Steps job (state_of job old) (map (Store p) (numbers n)) (state_of job (with_stores old p s copies))
-  pub bytes : s.bytes ≡ bytes_stored job (state_of job old) p
-  pub whole : length s.stored ≡ length (packet job p).writes
-  pub rest : (j : ℕ) → n ≤ j → slice_index_or s.stored j false ≡ false

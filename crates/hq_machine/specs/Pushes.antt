@@ -1,17 +1,14 @@
 -- Lists of pushes: of all dirty bytes of one lane or agent, and of some of them in turn. This project's own.
-use Rattle.std.specs.Prelude.{◌≡◌, ◌≢◌, ℕ, ◌+◌, ◌-◌, ◌<◌, ◌≤◌, true, false, List, [], ◌∷◌, length, slice_index, map}
+use Rattle.std.specs.Prelude.{◌≡◌, ℕ, ◌+◌, ◌-◌, ◌<◌, ◌≤◌, true, List, [], ◌∷◌, length, slice_index, map}
 use Rattle.std.specs.Prelude.{filter, flat_map}
 use Rattle.hq_machine.specs.Changes.{with_copies}
 use Rattle.hq_machine.specs.State.{StateValue}
 use Rattle.hq_copies.specs.Copies.{CopiesValue, Released, PushedLane, PushedAgent, IsLaneByte, IsAgentByte}
-use Rattle.hq_job.specs.Access.{AreOfQueue}
 use Rattle.hq_model.specs.Job.{Job, packet, IsPacket, agent_of}
-use Rattle.hq_packet.specs.Scopes.{reaches}
 use Rattle.hq_model.specs.Journal.{numbers}
 use Rattle.hq_model.specs.Machine.{Event, is_dirty, listed}
 use Rattle.hq_model.specs.Machine.Event.{PushLane, PushAgent}
 use Rattle.hq_model.specs.View.{Held, copies_of}
-use Rattle.hq_packet.specs.declared.packet.Scope.TheVariants as scope
 
 -- who holds copies
 pub data Holders : Type 0 where
@@ -60,12 +57,6 @@ pub record StaysWithin (old new : CopiesValue) : Type 0 where
   pub counts : Counts old new
   pub within : Within new
 
--- the holder's dirty bytes are pushed, and the others of its kind hold what they held
-pub record Cleaned (h : Holders) (old : CopiesValue) (k : ℕ) (new : CopiesValue) : Type 0 where
-  pub run : AllPushed old (map (push_of h k) (dirty_of h old k)) new
-  pub kept : StaysWithin old new
-  pub others : (q b : ℕ) → q ≢ k → copies_of (maps_of h new) q b ≡ copies_of (maps_of h old) q b
-
 -- the numbers from start up to, but not with, stop
 abbrev pub span : ℕ → ℕ → List ℕ
 span start stop = listed (stop - start) (λ i. start + i)
@@ -92,20 +83,6 @@ pub record AreCopiesOf (job : Job) (c : CopiesValue) : Type 0 where
   pub lanes : length c.lanes ≡ length job.packets
   pub agents : length c.agents ≡ job.agents
   pub lane_agents : (p : ℕ) → IsPacket job p → slice_index c.lane_agents p ≡ agent_of job p
-
--- the lanes that p's release fence reaches: from start up to stop, or none
-pub record LanesOf (job : Job) (p start stop : ℕ) : Type 0 where
-  pub rising : start ≤ stop
-  pub within : stop ≤ length job.packets
-  pub some : reaches (packet job p).release scope.Agent ≡ true → AreOfQueue job (packet job p).queue start stop
-  pub none : reaches (packet job p).release scope.Agent ≡ false → start ≡ stop
-
--- the agent that it reaches, or none
-pub record AgentsOf (job : Job) (p start stop : ℕ) : Type 0 where
-  pub rising : start ≤ stop
-  pub within : stop ≤ job.agents
-  pub some : reaches (packet job p).release scope.System ≡ true → (start ≡ agent_of job p) × (stop ≡ start + 1)
-  pub none : reaches (packet job p).release scope.System ≡ false → start ≡ stop
 
 -- the copies after the write-backs of p's release fence, over the lanes from start up to stop
 pub record WroteBack (job : Job) (old : StateValue) (p start stop : ℕ) (new : StateValue) : Type 0 where

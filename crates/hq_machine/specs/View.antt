@@ -1,5 +1,5 @@
 -- The model's state that a `State` is, and what is known of a `State` of a job.
-use Rattle.std.specs.Prelude.{◌≡◌, ℕ, ◌<◌, true, false, List, [], length, None, slice_index, slice_index_or, replicate}
+use Rattle.std.specs.Prelude.{◌≡◌, ℕ, ◌<◌, true, false, List, [], length, None, slice_index, slice_index_or}
 use Rattle.hq_copies.specs.Copies.{CopiesValue, opened}
 use Rattle.hq_events.specs.Packets.{AllAre}
 use Rattle.hq_events.specs.Rows.{StoresValue, no_stores, IsRow}
@@ -71,12 +71,3 @@ pub record Opens (job : Job) (c : CopiesValue) : Type 0 where
   pub count : length lane_agents ≡ length job.packets
   pub are : AllAre (λ p agent. agent ≡ agent_of job p) lane_agents
   pub copies : c ≡ opened job.memory job.agents lane_agents
-
--- the lists of a state in which a run starts
-pub record Started (job : Job) (v : StateValue) : Type 0 where
-  pub phases : v.phases ≡ replicate (length job.packets) (first_phase job)
-  pub observed : v.observed ≡ replicate (length job.packets) (replicate 5 false)
-  pub reads : v.reads ≡ replicate (length job.packets) []
-  pub stores : v.stores ≡ replicate (length job.packets) no_stores
-  pub signals : v.signals ≡ job.starts
-  pub opens : Opens job v.copies
