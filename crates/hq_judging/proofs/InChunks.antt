@@ -5,7 +5,7 @@ use Rattle.std.specs.Result.{is_ok, is_err}
 use Rattle.std.proofs.lemmas.List.{drop_more, drop-set-lt, drop-take, length-drop, length-take-le, map-append, take-append-drop}
 use Rattle.std.proofs.Math.Seq.{take-length}
 use Rattle.std.proofs.lemmas.Option.{slice_get_within}
-use Rattle.hq_text.specs.Intake.{IsWhole, EndsLine, Stays}
+use Rattle.hq_text.specs.Intake.{IsWhole, Stays}
 use Rattle.hq_text.specs.Lines.{lines_of}
 use Rattle.hq_text.proofs.Pieces.{stays_more, whole_lines, whole_both}
 use Rattle.hq_job.specs.Plan.{plan}

@@ -1,12 +1,12 @@
 //! Completions with the pushes that they wait for, and the rest.
 
-ghost use Rattle.std.specs.Prelude.{◌≡◌, ◌≤◌, ◌↔◌, IsTrue, length, IfOk, IfErr, OnOk, OnErr};
+ghost use Rattle.std.specs.Prelude.{◌≡◌, ◌≤◌, length, IfOk, IfErr, OnOk, OnErr};
 ghost use Rattle.hq_job.specs.Plan.{plan};
 ghost use Rattle.hq_machine.specs.Pushes.{AreCopiesOf, Within, Swept, WrittenBack, WroteBack};
 ghost use Rattle.hq_machine.specs.Pushes.Holders.{Lanes, Agents};
 ghost use Rattle.hq_machine.specs.Changes.{Applied, with_copies};
 ghost use Rattle.hq_machine.specs.Enabled.{NotApplied};
-ghost use Rattle.hq_machine.specs.View.{IsStateOf, state_of};
+ghost use Rattle.hq_machine.specs.View.{IsStateOf};
 ghost use Rattle.hq_model.specs.Job.{IsPacket};
 ghost use Rattle.hq_model.specs.Journal.Coarse.{Complete, Rest};
 

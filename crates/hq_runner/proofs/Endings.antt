@@ -1,5 +1,5 @@
 -- From what was compared to what a run leaves.
-use Rattle.std.proofs.Common.{◌≡◌, ℕ, zero, suc, ◌<◌, List, [], ◌∷◌, length, map, refl, sym, ◌∙◌, ap, ap₂, subst, arith, All, IsTrue, None, Result, Ok, Err, IfOk, IfErr, OnOk, inl, inr}
+use Rattle.std.proofs.Common.{◌≡◌, ℕ, zero, suc, ◌<◌, List, [], ◌∷◌, length, map, refl, sym, ◌∙◌, ap, ap₂, subst, arith, All, IsTrue, None, Result, Ok, Err, IfOk, OnOk, inl, inr}
 use Rattle.std.specs.Prelude.{slice_index, slice_index_or}
 use Rattle.std.proofs.lemmas.Bool.{cases_lt}
 use Rattle.std.proofs.lemmas.List.{length-map}
@@ -108,11 +108,6 @@ tells_none (fault.Kernel packet home lost found) P none = tt
 tells_none fault.Split P none = tt
 tells_none (fault.Receipts q) P none = absurd none
 tells_none fault.Unfinished P none = tt
-
--- The same of an answer that only want of memory is in the way of.
-pub memory_alone : {T : Type 0} (result : Result T RunFault) (P : ℕ → Type 0) → IfErr result (λ e. e ≡ fault.Memory) → IfErr result (λ e. OnReceipts e P)
-memory_alone (Ok x) P is = tt
-memory_alone (Err e) P is = subst (λ f. OnReceipts f P) (sym is) tt
 
 -- ---- kits
 

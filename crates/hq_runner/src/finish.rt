@@ -1,6 +1,6 @@
 //! The end of a run: what the processors did is compared with the journal.
 
-ghost use Rattle.std.specs.Prelude.{◌≡◌, ℕ, ◌<◌, ◌^◌, ◌↔◌, List, None, length};
+ghost use Rattle.std.specs.Prelude.{◌≡◌, ℕ, ◌<◌, ◌^◌, ◌↔◌, None, length};
 ghost use Rattle.std.specs.Prelude.{IsNone, IsOk, IfOk, IfErr, IfNone, IfSome, OnOk};
 ghost use Rattle.hq_hall.specs.View.{AddsAlone};
 ghost use Rattle.hq_job.specs.Plan.{plan};
