@@ -1,18 +1,18 @@
 -- The finite map that lower bytes and upper ones are, and what changes of either make of it.
-use Rattle.std.proofs.Common.{◌≡◌, ℕ, zero, suc, ◌≤◌, ◌≢◌, Bool, true, false, inl, inr, List, refl, sym, ◌∙◌, ap, ap₂, cond, max, arith, Option, Some, None, is_some, Result, Ok, Err, OnErr}
-use Rattle.std.proofs.lemmas.Bool.{cases_lt, cases_eq, cond-false}
+use Rattle.std.proofs.Common.{◌≡◌, ℕ, ◌≤◌, ◌≢◌, Bool, true, false, inl, inr, List, refl, sym, ◌∙◌, ap, ap₂, cond, max, arith, Option, Some, None, is_some, Result, Ok, Err, OnErr}
+use Rattle.std.proofs.lemmas.Bool.{cases_eq, cond-false}
 use Rattle.std.specs.FinMap as finite
 use Rattle.std.specs.Cmp.{nat_cmp_total}
 use Rattle.hq_model.specs.Machine.{Copy, is_dirty, value_or}
 use Rattle.hq_model.specs.View.{Held}
 use Rattle.hq_copies.specs.declared.level.Level.TheInside.{Inside}
-use Rattle.hq_copies.specs.Copies.{a_copy, dirty_only, cleaned, taken, written, count_below, begins, begins_run, IsRunCount}
+use Rattle.hq_copies.specs.Copies.{a_copy, dirty_only, cleaned, taken, written}
 use Rattle.hq_copies.specs.Edges.{has, byte_at, ceiling, IsRuns, layered, copy_at, level}
 use Rattle.hq_copies.specs.Levels.{IsLevel, level_of, IsLevelOf}
 use Rattle.hq_copies.specs.Marks.{byte_of}
 use Rattle.hq_copies.specs.Overlays.{or_lower, dirty_over, byte_over}
 use Rattle.hq_copies.proofs.Edges.{has_beyond}
-use Rattle.hq_copies.proofs.Counts.{at_false, step_false}
+use Rattle.hq_copies.proofs.Counts.{at_false}
 use Rattle.hq_copies.proofs.Gathered.{get_gathered, same_held, get_inserted_same, get_inserted_other, get_removed_same, get_removed_other}
 
 beyond : (edges bytes : List ℕ) (n : ℕ) → IsRuns edges bytes → ceiling edges ≤ n → byte_at (has edges) bytes n ≡ None
@@ -113,25 +113,6 @@ run_feeds (Some byte) behind below apart = ap (λ t. dirty_over t (Some (a_copy 
 pub run_writes : (run behind : Option ℕ) (below : ℕ) → ((byte : ℕ) → run ≡ Some byte → behind ≡ None) → byte_over behind (byte_over run below) ≡ byte_over (or_lower run behind) below
 run_writes None behind below apart = refl
 run_writes (Some byte) behind below apart = ap (λ t. byte_over t byte) (apart byte refl)
-
--- ---- runs
-
-pub begins_none : (m : Held) (n : ℕ) → finite.get m n ≡ None → false ≡ begins_run m n
-begins_none m zero e = sym (ap (λ t. begins t None) e)
-begins_none m (suc n) e = sym (ap (λ t. begins t (finite.get m n)) e)
-
-count_past : (test : ℕ → Bool) (end n : ℕ) → ((b : ℕ) → end ≤ b → test b ≡ false) → end ≤ n → count_below test n ≡ count_below test end
-count_past test end zero none l = let e : end ≡ 0 = omega arith in ap (count_below test) (sym e)
-count_past test end (suc n) none l = elim (cases_lt n end) [
-  | inl at ↦ let e : suc n ≡ end = omega arith in ap (count_below test) e
-  | inr past ↦ step_false test n (none n past) ∙ count_past test end n none past
-]
-
-pub runs_counted : (m : Held) (end count : ℕ) → ((n : ℕ) → end ≤ n → finite.get m n ≡ None) → count ≡ count_below (begins_run m) end → IsRunCount m count
-runs_counted m end count none e other others = elim (cases_lt end other) [
-  | inl below ↦ e ∙ sym (count_past (begins_run m) end other (λ b l. sym (begins_none m b (none b l))) (omega arith))
-  | inr above ↦ e ∙ count_past (begins_run m) other end (λ b l. sym (begins_none m b (others b l))) above
-]
 
 pub on_err : {A E : Type 0} (r : Result A E) (P : Type 0) → P → OnErr r P
 on_err (Ok x) P p = tt

@@ -1,9 +1,8 @@
 -- Memory, the copies that agents hold of it, those that lanes hold, and the one change that each call makes. A lane
 -- is a packet's; it stands on its queue's agent. This project's own.
-use Rattle.std.specs.Prelude.{◌≡◌, ◌≢◌, ◌⊎◌, ℕ, zero, suc, not, ◌+◌, ◌-◌, ◌<◌, ◌≤◌, Bool, true, false, List, []}
+use Rattle.std.specs.Prelude.{◌≡◌, ◌≢◌, ◌⊎◌, ℕ, zero, suc, ◌+◌, ◌-◌, ◌<◌, ◌≤◌, Bool, true, false, List, []}
 use Rattle.std.specs.Prelude.{◌∷◌, length, take, drop, map, ◌++◌, replicate, slice_index, slice_index_or, All}
 use Rattle.std.specs.Prelude.{Option, Some, None, set, if◌then◌else◌, refl}
-use Rattle.std.specs.Bool.{beq}
 use Rattle.std.specs.Coded.{Coded, code_by, coded×, coded_ℕ, coded_bool, coded_list}
 use Rattle.std.specs.FinMap as finite
 use Rattle.hq_packet.specs.declared.packet.Scope.{Scope}
@@ -265,19 +264,3 @@ copies_code =
 abbrev pub count_below : (ℕ → Bool) → ℕ → ℕ
 count_below test zero = 0
 count_below test (suc n) = count_below test n + (if test n then 1 else 0)
-
--- A byte begins a run: the one before isn't held, or with the other mark.
-abbrev pub begins : Option Copy → Option Copy → Bool
-begins None before = false
-begins (Some copy) None = true
-begins (Some copy) (Some before) = not (beq copy.dirty before.dirty)
-
--- whether this byte begins a run; before byte 0 nothing is held
-abbrev pub begins_run : Held → ℕ → Bool
-begins_run m zero = begins (finite.get m zero) None
-begins_run m (suc b) = begins (finite.get m (suc b)) (finite.get m b)
-
--- So many runs do the bytes of the map stand in: so many of them begin one, below any number from which on nothing
--- is held.
-abbrev pub IsRunCount : Held → ℕ → Type 0
-IsRunCount m count = (end : ℕ) → ((b : ℕ) → end ≤ b → finite.get m b ≡ None) → count ≡ count_below (begins_run m) end

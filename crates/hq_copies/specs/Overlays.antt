@@ -1,7 +1,6 @@
 -- Bytes of numbers that follow each other, put over others.
-use Rattle.std.specs.Prelude.{◌≡◌, ℕ, ◌-◌, Bool, true, false, List, Option, Some, None, nat_lt, slice_get}
+use Rattle.std.specs.Prelude.{◌≡◌, ℕ, ◌-◌, true, List, Option, Some, None, nat_lt, slice_get}
 use Rattle.std.specs.Prelude.{if◌then◌else◌}
-use Rattle.std.specs.Bool.{beq}
 use Rattle.hq_model.specs.Machine.{Copy}
 use Rattle.hq_copies.specs.Copies.{a_copy}
 
@@ -27,8 +26,3 @@ dirty_over (Some byte) below = Some (a_copy byte true)
 abbrev pub byte_over : Option ℕ → ℕ → ℕ
 byte_over None below = below
 byte_over (Some byte) below = byte
-
--- there is a copy with this mark
-abbrev pub has_mark : Option Copy → Bool → Bool
-has_mark None dirty = false
-has_mark (Some copy) dirty = beq copy.dirty dirty

@@ -10,7 +10,7 @@ ghost use Rattle.hq_copies.specs.Copies.{opened, stored, lane_filled, agent_fill
 ghost use Rattle.hq_copies.specs.Copies.{after_acquire, lane_byte, lane_bytes};
 ghost use Rattle.hq_copies.specs.Copies.{IsLaneByte, IsAgentByte, IsDirty, IsClean};
 ghost use Rattle.hq_copies.specs.Copies.{IsReleased, IsFirstDirty, NoneDirty, held, PushedLane, PushedAgent};
-ghost use Rattle.hq_copies.specs.Copies.{IsAbsent, agent_byte, dirty_within, IsRunCount, LanesReleased};
+ghost use Rattle.hq_copies.specs.Copies.{IsAbsent, agent_byte, dirty_within, LanesReleased};
 ghost use Rattle.hq_copies.specs.Copies.{AgentReleased, Released, after_pushes, cleaned, stored_run};
 ghost use Rattle.hq_copies.specs.Known.{AreKnown, HasDirty, HasRoom};
 
@@ -485,22 +485,6 @@ impl Copies {
             (λ b. IsFirstDirty (held self.now.agents agent) b) }
     {
         self.agents[agent].first_dirty()
-    }
-
-    /// How many runs of bytes of one mark a lane holds.
-    pub fn lane_runs(&self, lane: usize) -> usize
-        requires { lane < length self.now.lanes }
-        ensures { IsRunCount (held self.now.lanes lane) result }
-    {
-        self.lanes[lane].runs()
-    }
-
-    /// How many runs of bytes of one mark an agent holds.
-    pub fn agent_runs(&self, agent: usize) -> usize
-        requires { agent < length self.now.agents }
-        ensures { IsRunCount (held self.now.agents agent) result }
-    {
-        self.agents[agent].runs()
     }
 
     /// An equal value.

@@ -1,14 +1,14 @@
 //! What one agent or one lane holds.
 
-ghost use Rattle.std.specs.Prelude.{◌≡◌, is_some, ℕ, ◌+◌, ◌<◌, ◌≤◌, ◌^◌, ◌↔◌, if◌then◌else◌, true, false, Some};
+ghost use Rattle.std.specs.Prelude.{◌≡◌, is_some, ℕ, ◌+◌, ◌<◌, ◌^◌, ◌↔◌, if◌then◌else◌, true, false, Some};
 ghost use Rattle.std.specs.Prelude.{None, IsTrue, IfOk, OnOk, OnErr, MatchOption, length, slice_index};
 ghost use Rattle.std.specs.FinMap as finite;
 ghost use Rattle.hq_model.specs.Machine.{value_or};
 ghost use Rattle.hq_copies.specs.Copies.{a_copy, dirty_only, IsClean, IsDirty, IsAbsent, NoneDirty, IsFirstDirty};
-ghost use Rattle.hq_copies.specs.Copies.{IsRunCount, begins_run, cleaned, taken, written};
+ghost use Rattle.hq_copies.specs.Copies.{cleaned, taken, written};
 ghost use Rattle.hq_copies.specs.Edges.{layered};
 ghost use Rattle.hq_copies.specs.Marks.{AreRuns, byte_of};
-ghost use Rattle.hq_copies.specs.Overlays.{run_at, dirty_over, has_mark};
+ghost use Rattle.hq_copies.specs.Overlays.{run_at, dirty_over};
 
 use crate::runs::Runs;
 use std::alloc::{AllocError, Global};
@@ -264,46 +264,6 @@ impl Level {
         self.upper.first()
     }
 
-    /// A number from which on nothing is held.
-    fn end(&self) -> u32
-        ensures { (n : ℕ) → result ≤ n → finite.get self.now n ≡ None }
-    {
-        let lower = self.lower.end();
-        let upper = self.upper.end();
-        if lower < upper { upper } else { lower }
-    }
-
-    /// Whether a number's byte is held with this mark.
-    fn is_marked(&self, number: u32, dirty: bool) -> bool
-        ensures { result ≡ has_mark (finite.get self.now number) dirty }
-    {
-        match self.get(number) {
-            Some(byte) => byte.dirty == dirty,
-            None => false,
-        }
-    }
-
-    /// Whether a number begins a run.
-    fn begins(&self, number: u32) -> bool
-        ensures { result ≡ begins_run self.now number }
-    {
-        match self.get(number) {
-            Some(byte) => number == 0 || !self.is_marked(number - 1, byte.dirty),
-            None => false,
-        }
-    }
-
-    /// How many runs the bytes stand in.
-    pub fn runs(&self) -> usize
-        ensures { IsRunCount self.now result }
-    {
-        let mut count = 0;
-        for number in 0..self.end() {
-            count = with_one(count, self.begins(number));
-        }
-        count
-    }
-
     /// An equal value.
     pub fn copy(&self) -> Result<Level, AllocError>
         ensures { IfOk result (λ level. level ≡ self.now) }
@@ -337,13 +297,4 @@ fn settle(lower: &mut Runs, upper: &mut Runs, dirty: bool) -> Result<(), AllocEr
     *lower = below;
     upper.clear();
     Ok(())
-}
-
-// The count, and one more if there is one.
-fn with_one(count: usize, one: bool) -> usize
-    requires { count < 2 ^ 32 }
-    ensures exact { result ≡ count + (if one then 1 else 0) }
-    ensures small { result ≤ count + 1 }
-{
-    if one { count + 1 } else { count }
 }

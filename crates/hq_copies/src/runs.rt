@@ -69,17 +69,6 @@ impl Runs {
         self.first().is_none()
     }
 
-    /// A number from which on there is no byte.
-    pub fn end(&self) -> u32
-        requires { AreRuns self.now }
-        ensures { (n : ℕ) → result ≤ n → byte_of self.now n ≡ None }
-    {
-        match self.edges.last() {
-            Some(edge) => *edge,
-            None => 0,
-        }
-    }
-
     /// The first number that has a byte.
     pub fn first(&self) -> Option<u32>
         requires { AreRuns self.now }

@@ -11,6 +11,13 @@ use std::test::*;
 /// How many bytes of memory there are.
 const COUNT: usize = 4;
 
+/// All bytes, no byte, and the second one alone.
+const ALL: [bool; COUNT] = [true; COUNT];
+
+const NONE: [bool; COUNT] = [false; COUNT];
+
+const SECOND: [bool; COUNT] = [false, true, false, false];
+
 /// Memory of zeros.
 fn zeros(alloc: Global) -> Result<Copies, Fail> {
     let Ok(memory) = vec![in alloc; 0; COUNT] else {
@@ -58,12 +65,30 @@ fn answer(copies: &mut Copies, call: Call, byte: usize) -> Option<Result<(), Cop
     })
 }
 
-/// How many runs the lane's and the agent's bytes are held in.
-fn runs(copies: &Copies) -> Option<(usize, usize)> {
+/// Which bytes the lane holds.
+fn lane_held(copies: &Copies) -> Option<[bool; COUNT]> {
     if !is_small(copies) {
         return None;
     }
-    Some((copies.lane_runs(0), copies.agent_runs(0)))
+    Some([
+        copies.lane_holds(0, 0),
+        copies.lane_holds(0, 1),
+        copies.lane_holds(0, 2),
+        copies.lane_holds(0, 3),
+    ])
+}
+
+/// Which bytes the agent holds.
+fn agent_held(copies: &Copies) -> Option<[bool; COUNT]> {
+    if !is_small(copies) {
+        return None;
+    }
+    Some([
+        copies.agent_holds(0, 0),
+        copies.agent_holds(0, 1),
+        copies.agent_holds(0, 2),
+        copies.agent_holds(0, 3),
+    ])
 }
 
 /// The byte that is seen through the lane.
@@ -123,8 +148,8 @@ enum Step {
     Answers(Call, usize, Result<(), CopiesFault>),
     /// A call for a byte goes well.
     Does(Call, usize),
-    /// The lane's and the agent's bytes are held in so many runs.
-    Runs(usize, usize),
+    /// The lane holds these bytes, and the agent those.
+    Holds([bool; COUNT], [bool; COUNT]),
     /// A byte is so through the lane.
     Sees(usize, u8),
     /// The bytes from the second one on are so through the lane.
@@ -148,7 +173,9 @@ fn is_so(copies: &mut Copies, step: Step) -> bool {
     match step {
         Step::Answers(call, byte, is) => answer(copies, call, byte) == Some(is),
         Step::Does(call, byte) => answer(copies, call, byte) == Some(Ok(())),
-        Step::Runs(lane, agent) => runs(copies) == Some((lane, agent)),
+        Step::Holds(lane, agent) => {
+            lane_held(copies) == Some(lane) && agent_held(copies) == Some(agent)
+        }
         Step::Sees(byte, is) => seen(copies, byte) == Some(is),
         Step::SeesFromOne(bytes) => seen_from_one(copies) == Some(bytes),
         Step::Released(scope, is) => is_released(copies, scope) == is,
@@ -229,26 +256,27 @@ fn a_call_refuses(rt: HostRuntime) -> Result<(), Fail> {
 }
 
 #[test]
-fn runs_split_and_merge(rt: HostRuntime) -> Result<(), Fail> {
+fn copies_are_pushed_dropped_and_filled(rt: HostRuntime) -> Result<(), Fail> {
     let steps = [
         Step::Does(Call::Store(7), 0),
         Step::Does(Call::Store(7), 1),
         Step::Does(Call::Store(7), 2),
         Step::Does(Call::Store(7), 3),
-        Step::Runs(1, 0),
+        Step::Holds(ALL, NONE),
         Step::Does(Call::PushLane, 1),
-        Step::Runs(3, 1),
+        Step::Holds(ALL, SECOND),
+        Step::FirstDirty(Some(0), Some(1)),
         Step::Does(Call::DropLane, 1),
-        Step::Runs(2, 1),
+        Step::Holds([true, false, true, true], SECOND),
         Step::Does(Call::FillLane, 1),
-        Step::Runs(3, 1),
+        Step::Holds(ALL, SECOND),
     ];
     assert_eq!(rt; first_wrong_from_zeros(rt.alloc(), &steps)?, None);
     Ok(())
 }
 
 #[test]
-fn runs_of_pushed_bytes_merge(rt: HostRuntime) -> Result<(), Fail> {
+fn pushed_copies_stay_below(rt: HostRuntime) -> Result<(), Fail> {
     let steps = [
         Step::Does(Call::Store(7), 0),
         Step::Does(Call::Store(7), 1),
@@ -258,11 +286,11 @@ fn runs_of_pushed_bytes_merge(rt: HostRuntime) -> Result<(), Fail> {
         Step::Does(Call::PushLane, 2),
         Step::Does(Call::PushLane, 1),
         Step::Does(Call::PushLane, 0),
-        Step::Runs(1, 1),
+        Step::Holds(ALL, ALL),
         Step::FirstDirty(None, Some(0)),
         Step::SeesFromOne([7, 7, 7]),
         Step::Acquires,
-        Step::Runs(0, 1),
+        Step::Holds(NONE, ALL),
     ];
     assert_eq!(rt; first_wrong_from_zeros(rt.alloc(), &steps)?, None);
     Ok(())
@@ -272,9 +300,9 @@ fn runs_of_pushed_bytes_merge(rt: HostRuntime) -> Result<(), Fail> {
 fn ranges_are_stored_and_released(rt: HostRuntime) -> Result<(), Fail> {
     let steps = [
         Step::Does(Call::FillAgent, 3),
-        Step::Runs(0, 1),
+        Step::Holds(NONE, [false, false, false, true]),
         Step::Does(Call::DropAgent, 3),
-        Step::Runs(0, 0),
+        Step::Holds(NONE, NONE),
         Step::StoresTwo,
         Step::Releases,
         Step::Memory([0, 7, 8, 0]),
