@@ -6,6 +6,7 @@
 
 mod drawing;
 mod fault;
+pub mod laws;
 mod rows;
 mod shape;
 mod spots;
