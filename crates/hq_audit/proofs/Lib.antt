@@ -1,4 +1,5 @@
 pub mod Parting
+pub mod NoConflicts
 pub mod Turning
 pub mod Resting
 pub mod Packing

@@ -1,6 +1,7 @@
 pub mod Packed
 pub mod Paired
 pub mod Drafted
+pub mod Apart
 pub mod Audited
 pub mod Rowed
 pub mod Refused

@@ -1,16 +1,18 @@
 //! What an audit finds of an ordered job.
 
-ghost use Rattle.std.specs.Prelude.{◌≡◌, ◌<◌, IfErr, IfOk, Some, false, length, slice_get};
+ghost use Rattle.std.specs.Prelude.{◌≡◌, ◌<◌, ◌↔◌, IfErr, IfOk, IfSome, IsSome, Some, false, length, slice_get};
 ghost use Rattle.hq_job.specs.Plan.{plan};
 ghost use Rattle.hq_model.specs.Certificate.{CertHolds};
 ghost use Rattle.hq_model.specs.Order.{OrderList};
 ghost use Rattle.hq_cert.specs.View.{pair_of};
 ghost use Rattle.hq_derive.specs.Short.{told};
 ghost use Rattle.hq_parts.specs.Parts.{AreParts};
+ghost use Rattle.hq_audit.specs.Apart.{NoneConflict};
 ghost use Rattle.hq_audit.specs.Audited.{order_in, lines_in, lists_in, list_in, chained_in, IsAudited, IsPairAt};
 ghost use Rattle.hq_audit.specs.Refused.{AllRefused, AllShown};
 ghost use Rattle.hq_audit.specs.Rowed.{DraftsAll};
 
+use crate::apart::none_conflict;
 use crate::citing::{cite_all, plain_pair};
 use crate::draft::Draft;
 use crate::drafting::{Drafts, draft_all};
@@ -126,6 +128,32 @@ fn widened(alloc: Global, numbers: &[u16]) -> Result<Vec<u32>, AllocError>
         wide.push(u32::from(*number))?;
     }
     Ok(wide)
+}
+
+/// What an audit finds of a job of which no two packets conflict, and that has this order list; None where two do. No
+/// order of the packets is worked out for it.
+pub fn audited_apart(
+    alloc: Global,
+    job: &Job,
+    parts: &Parts,
+    order: &[u16],
+) -> Result<Option<Audited>, AllocError>
+    requires order { OrderList (plan job.now) order.now }
+    requires parts { AreParts (plan job.now) parts.now }
+    ensures is { IfOk result (λ found. IfSome found (IsAudited (plan job.now))) }
+    ensures shown { IfOk result (λ found. IsSome found ↔ NoneConflict (plan job.now)) }
+{
+    if !none_conflict(job, parts) {
+        return Ok(None);
+    }
+    let lines = Lines::none(alloc, job)?;
+    let order = widened(alloc, order)?;
+    Ok(Some(Audited {
+        order,
+        lines,
+        lists: Vec::new(alloc),
+        chained: false,
+    }))
 }
 
 /// What an audit finds of a job that has this order list, whose drafts these are.

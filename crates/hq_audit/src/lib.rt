@@ -8,6 +8,7 @@
 //! says whether there is a certificate, and `all_shown` says it of a job whose order is worked out.
 #![tactic(auto)]
 
+mod apart;
 mod audited;
 mod auditing;
 mod citing;

@@ -10,7 +10,7 @@ ghost use Rattle.hq_audit.specs.Audited.{IsAudited};
 ghost use Rattle.hq_audit.specs.Refused.{IsRefused, AllRefused, AllShown};
 ghost use Rattle.hq_audit.specs.declared.fault.AuditNo.TheVariants.{Memory};
 
-use crate::audited::{Audited, audited_alone, audited_of};
+use crate::audited::{Audited, audited_alone, audited_apart, audited_of};
 use crate::fault::AuditNo;
 use crate::spreading::draft_wide;
 use hq_cert::Certificate;
@@ -106,8 +106,11 @@ pub fn find_wide<R: Threads + Sync>(rt: &R, alloc: Global, job: &Job) -> Result<
 {
     job.valid();
     let order = schedule(alloc, job)?;
-    let before = Before::build(alloc, job)?;
     let parts = Parts::build(alloc, job)?;
+    if let Some(found) = audited_apart(alloc, job, &parts, &order)? {
+        return Ok(found);
+    }
+    let before = Before::build(alloc, job)?;
     let audited = audited_by_all(rt, alloc, &before, &parts, &order)?;
     Ok(audited)
 }

@@ -47,7 +47,7 @@ fn conflict_row(
     let mut row = empty(alloc, before.ahead(a).len())?;
     let mut b = others.next(job, 0);
     'others: while b < a {
-        if have_conflict(before, b, a) {
+        if have_conflict(job, b, a) {
             insert(&mut row, b);
         }
         b = others.next(job, b + 1);

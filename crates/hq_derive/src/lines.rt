@@ -4,6 +4,7 @@ ghost use Rattle.std.specs.Prelude.{◌≡◌, ℕ, ◌+◌, ◌*◌, ◌^◌, �
 ghost use Rattle.std.specs.Prelude.{IsTrue};
 ghost use Rattle.std.specs.Prelude.{length, map, slice_get};
 ghost use Rattle.hq_cert.specs.View.{rule_of, line_of};
+ghost use Rattle.hq_job.specs.Plan.{plan};
 ghost use Rattle.hq_model.specs.Job.{packet};
 ghost use Rattle.hq_model.specs.Job.{IsPacket};
 ghost use Rattle.hq_model.specs.Certificate.{Says, signals};
@@ -22,6 +23,7 @@ use crate::there::are_there;
 use crate::told::Told;
 use hq_bits::WIDTH;
 use hq_cert::{Branches, Citation, Line, Rule};
+use hq_job::Job;
 use hq_order::Before;
 use std::alloc::{AllocError, Global};
 
@@ -53,6 +55,23 @@ impl Lines {
             ranks: Ranks::none(alloc),
             numbers: vec![in alloc; NONE; later]?,
             lines: Store::new(alloc, initial, later)?,
+        })
+    }
+
+    /// No lines: those of a job of which no two packets conflict.
+    ///
+    /// # Errors
+    ///
+    /// `AllocError` where there is no memory.
+    pub fn none(alloc: Global, job: &Job) -> Result<Lines, AllocError>
+        ensures sound { IfOk result (AreSound (plan job.now)) }
+        ensures none { IfOk result (λ l. lines_of l ≡ []) }
+    {
+        job.valid();
+        Ok(Lines {
+            ranks: Ranks::none(alloc),
+            numbers: Vec::new(alloc),
+            lines: Store::new(alloc, 0, 0)?,
         })
     }
 

@@ -102,7 +102,7 @@ fn are_two(before: &Before, p: usize, r: usize) -> bool
     requires r_is { IsPacket before.now r }
     ensures { IsTrue result ↔ AreTwo before.now p r }
 {
-    p != r && have_conflict(before, p, r)
+    p != r && have_conflict(before.job(), p, r)
 }
 
 /// Whether these are numbers of packets.

@@ -28,7 +28,7 @@ fn is_pair(before: &Before, a: usize, b: usize) -> bool
     requires b_is { IsPacket before.now b }
     ensures { IsTrue result ↔ IsPair before.now a b }
 {
-    a < b && have_conflict(before, a, b)
+    a < b && have_conflict(before.job(), a, b)
 }
 
 /// Whether a pair is told of that comes behind so many.

@@ -3,6 +3,7 @@
 ghost use Rattle.std.specs.Prelude.{◌≡◌, false, ◌<◌, ◌↔◌, IsTrue, IsOk, IsSome, IfOk, IfErr, IfSome, MatchOption};
 ghost use Rattle.std.specs.Prelude.{length};
 ghost use Rattle.hq_job.specs.Conflicts.{HasConflicts};
+ghost use Rattle.hq_job.specs.Plan.{plan};
 ghost use Rattle.hq_model.specs.Job.{IsPacket};
 ghost use Rattle.hq_model.specs.Order as order;
 ghost use Rattle.hq_model.specs.Fence as model;
@@ -15,6 +16,7 @@ use crate::search::{Ending, Goal, Search};
 use crate::shown::{Acquire, NotShown, Release, Shown};
 use hq_finding::{Kind, Why};
 use hq_footprint::Kinds;
+use hq_job::Job;
 use hq_order::Before;
 
 /// What is answered where there is no conflict.
@@ -24,13 +26,13 @@ const NOTHING: Shown = Shown {
     rw: false,
 };
 
-/// Whether two packets conflict in some way, `a` first.
-pub fn have_conflict(before: &Before, a: usize, b: usize) -> bool
-    requires a_is { a < length before.now.packets }
-    requires b_is { b < length before.now.packets }
-    ensures { IsTrue result ↔ HaveConflict before.now a b }
+/// Whether two packets of a job conflict in some way, `a` first.
+pub fn have_conflict(job: &Job, a: usize, b: usize) -> bool
+    requires a_is { a < length job.now.packets }
+    requires b_is { b < length job.now.packets }
+    ensures { IsTrue result ↔ HaveConflict (plan job.now) a b }
 {
-    let kinds = before.job().kinds(a, b);
+    let kinds = job.kinds(a, b);
     kinds.wr || kinds.ww || kinds.rw
 }
 

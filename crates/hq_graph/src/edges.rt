@@ -279,7 +279,7 @@ fn is_conflict(before: &Before, a: usize, b: usize) -> bool
     requires b { IsPacket before.now b }
     ensures { IsTrue result ↔ ((a < b) × HaveConflict before.now a b) }
 {
-    a < b && have_conflict(before, a, b)
+    a < b && have_conflict(before.job(), a, b)
 }
 
 /// Writes a and b where they conflict, and b is above a.

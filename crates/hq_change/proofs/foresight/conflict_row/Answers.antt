@@ -1,5 +1,6 @@
 use Rattle.std.proofs.Common.{ℕ, ◌+◌, ◌<◌, ◌≤◌, length, sym, ◌∙◌, ap, subst, IsTrue, rules}
 use Rattle.std.proofs.lemmas.Bool.{true≢false}
+use Rattle.hq_fence.specs.Judgement.{HaveConflict}
 use Rattle.hq_parts.specs.Parts.{NeverConflict}
 use Rattle.hq_bits.specs.Bits.{has}
 use Rattle.hq_rows.proofs.Rows.{given_back}
@@ -25,13 +26,13 @@ others-preserved c =
           rw w.row-is (record {
             below = subst (λ k. c.next-b-in-others.result ≤ length k.packets) c.job-job.ensures c.next-b-in-others.ensures.below;
             len = ap length back ∙ w.insert.auto.row ∙ ap length w.deref_mut.ensures.value ∙ c.others.invariant.len;
-            conflict = λ b h. conflict_more c.args.before.now c.args.a c.others.b row.items w.deref_mut.result.now w.insert.new.row w.deref_mut.ensures.value w.insert.ensures c.others-test.true (c.have_conflict.ensures.0 w.if-have_conflict.true) c.others.invariant.conflict b (subst (λ xs. IsTrue (has xs b)) back h);
+            conflict = λ b h. conflict_more c.args.before.now c.args.a c.others.b row.items w.deref_mut.result.now w.insert.new.row w.deref_mut.ensures.value w.insert.ensures c.others-test.true (subst (λ k. HaveConflict k c.others.b c.args.a) c.job-job.ensures (c.have_conflict.ensures.0 w.if-have_conflict.true)) c.others.invariant.conflict b (subst (λ xs. IsTrue (has xs b)) back h);
             all = λ x low less h. subst (λ xs. IsTrue (has xs x)) (sym back) (all_more c.args.before.now c.args.a c.others.b c.next-b-in-others.result row.items c.others.invariant.all never w.deref_mut.result.now w.insert.new.row w.deref_mut.ensures.value w.insert.ensures x low less h);
           })
       | else-have_conflict w ↦ rw w.row-is (record {
         below = subst (λ k. c.next-b-in-others.result ≤ length k.packets) c.job-job.ensures c.next-b-in-others.ensures.below;
         len = c.others.invariant.len;
         conflict = c.others.invariant.conflict;
-        all = all_kept c.args.before.now c.args.a c.others.b c.next-b-in-others.result c.others.row.items c.others.invariant.all never (λ h. true≢false (sym (c.have_conflict.ensures.1 h) ∙ w.if-have_conflict.false));
+        all = all_kept c.args.before.now c.args.a c.others.b c.next-b-in-others.result c.others.row.items c.others.invariant.all never (λ h. true≢false (sym (c.have_conflict.ensures.1 (subst (λ k. HaveConflict k c.others.b c.args.a) (sym c.job-job.ensures) h)) ∙ w.if-have_conflict.false));
       })
     ]
