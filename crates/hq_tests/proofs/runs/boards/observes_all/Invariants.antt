@@ -1,5 +1,0 @@
-use Rattle.hq_board.specs.Calls.{IsSeatOf}
-use Rattle.hq_tests.proofs.runs.boards.observes_all.Given as goal
-
-abbrev pub invariant-loop-slot : goal.invariant-loop-slot
-invariant-loop-slot l = IsSeatOf l.board l.seat

@@ -1,6 +1,0 @@
-use Rattle.hq_job.specs.Plan.{plan}
-use Rattle.hq_machine.specs.View.{IsStateOf}
-use Rattle.hq_tests.proofs.upper.witnesses.walk.Given as goal
-
-abbrev pub invariant-loop-event : goal.invariant-loop-event
-invariant-loop-event l = IsStateOf (plan l.job) l.state
