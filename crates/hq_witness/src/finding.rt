@@ -63,7 +63,6 @@ fn attempts_for(job: &Job) -> Attempts {
 }
 
 /// Two runs that show the conflict of a pair by one of its bytes, with so many attempts left.
-#[tactic(auto, using(crate::proofs::Bytes::written_within))]
 fn show_pair(
     alloc: Global,
     job: &Job,
@@ -75,7 +74,8 @@ fn show_pair(
 {
     job.valid();
     let least = left.saturating_sub(known.of_pair);
-    for byte in target.bytes(job) {
+    let bytes = target.bytes(job);
+    for byte in bytes.start..bytes.end {
         target.byte = byte;
         if *left > least && target.is_shared(job) {
             *left -= 1;
