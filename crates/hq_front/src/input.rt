@@ -10,6 +10,9 @@ const OF_JOB: usize = 16_384;
 /// How many bytes of another file are: certificates and timelines are long.
 const OF_FILE: usize = 65_536;
 
+/// How many bytes are asked for at the least.
+const LEAST: usize = 1_024;
+
 /// A file, or standard input.
 #[derive(Drop)]
 pub enum Input {
@@ -26,9 +29,21 @@ impl Read for Input {
     }
 }
 
-/// The file of a path, of which so many bytes are asked for at once.
-fn buffered(rt: &HostRuntime, path: &str, capacity: usize) -> io::Result<BufReader<Input>> {
+/// How many bytes of a file are asked for at once: as many as it has, but no more than these. What has no length of its
+/// own, as a pipe, says that it has none.
+fn capacity_for(file: &File, most: usize) -> usize {
+    match file.metadata() {
+        Ok(known) if known.len() > 0 && known.len() < most as u64 => {
+            LEAST.max(known.len() as usize)
+        }
+        _ => most,
+    }
+}
+
+/// The file of a path, of which no more than so many bytes are asked for at once.
+fn buffered(rt: &HostRuntime, path: &str, most: usize) -> io::Result<BufReader<Input>> {
     let file = File::open(rt, path)?;
+    let capacity = capacity_for(&file, most);
     BufReader::with_capacity(rt.alloc(), capacity, Input::File(file))
 }
 
