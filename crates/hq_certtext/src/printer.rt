@@ -7,15 +7,17 @@ ghost use Rattle.hq_certtext.specs.Grammar.{line_words, pair_words, head_words, 
 ghost use Rattle.hq_certtext.specs.Printing.{IsReady, IsEmpty, HasPrinted, Prints};
 ghost use Rattle.hq_cert.specs.View.{line_of, pair_of};
 
-use crate::printing::{WriterFailed, taken, write_end, write_line, write_order, write_pair};
+use crate::printing::{
+    WriterFailed, spill, taken, write_end, write_line, write_order, write_pair, write_through,
+};
 use crate::rows::Rows;
 use hq_cert::{Line, Pair};
 use std::alloc::{AllocError, Global};
 use std::io::Write;
 
 /// Prints a certificate whose lines come one by one: `begin`, then `line` for each line and `pair` for each pair line,
-/// then `end`.
-/// What is printed goes to a writer by way of a buffer.
+/// then `end`. What is printed goes to a writer by way of a buffer. Some of the lines may be printed elsewhere, by a
+/// printer that `give`s their text, and go on from here as a `text`.
 #[derive(Drop)]
 pub struct Printer {
     bytes: Vec<u8>,
@@ -95,6 +97,36 @@ impl Printer {
             (line_text (pair_words (pair_of pair.now)))) }
     {
         self.at = write_pair(&mut self.bytes, self.at, &self.rows, pair, writer)?;
+        Ok(())
+    }
+
+    /// Has a text go to the writer, behind all that was printed.
+    ///
+    /// # Errors
+    ///
+    /// `WriterFailed`.
+    pub fn text<W: Write>(&mut self, text: &[u8], writer: &mut W) -> Result<(), WriterFailed>
+        requires ready { IsReady self.old }
+        ensures ready { OnOk result (IsReady self.new) }
+        ensures prints { OnOk result
+            (Prints (W.contents writer.old) self.old (W.contents writer.new) self.new text.now) }
+    {
+        self.at = write_through(&self.bytes, self.at, text, writer)?;
+        Ok(())
+    }
+
+    /// Has all that was printed go to the writer.
+    ///
+    /// # Errors
+    ///
+    /// `WriterFailed`.
+    pub fn give<W: Write>(self, writer: &mut W) -> Result<(), WriterFailed>
+        requires ready { IsReady self }
+        ensures { OnOk result
+            ((w : Option (List ℕ)) (text : List ℕ) → HasPrinted w text (W.contents writer.old) self
+            → Appends w (W.contents writer.new) text) }
+    {
+        spill(&self.bytes, self.at, writer)?;
         Ok(())
     }
 

@@ -51,7 +51,7 @@ pub struct WriterFailed;
 /// Writes what was put. Answers where the next text goes.
 #[cold]
 #[inline(never)]
-fn spill<W: Write>(bytes: &[u8], at: usize, writer: &mut W) -> Result<usize, WriterFailed>
+pub fn spill<W: Write>(bytes: &[u8], at: usize, writer: &mut W) -> Result<usize, WriterFailed>
     requires { at ≤ length bytes.now }
     ensures written { IfOk result
         (λ next. Gains (W.contents writer.old) bytes.now at (W.contents writer.new) bytes.now next []) }
@@ -59,6 +59,25 @@ fn spill<W: Write>(bytes: &[u8], at: usize, writer: &mut W) -> Result<usize, Wri
 {
     match writer.write_all(&bytes[..at]) {
         Ok(()) => Ok(0),
+        Err(_) => Err(WriterFailed),
+    }
+}
+
+/// Writes what was put, and behind it a text that is there already. Answers where the next text goes.
+pub fn write_through<W: Write>(
+    bytes: &[u8],
+    at: usize,
+    text: &[u8],
+    writer: &mut W,
+) -> Result<usize, WriterFailed>
+    requires { at ≤ length bytes.now }
+    ensures written { IfOk result
+        (λ next. Gains (W.contents writer.old) bytes.now at (W.contents writer.new) bytes.now next text.now) }
+    ensures front { IfOk result (λ next. next ≡ 0) }
+{
+    let next = spill(bytes, at, writer)?;
+    match writer.write_all(text) {
+        Ok(()) => Ok(next),
         Err(_) => Err(WriterFailed),
     }
 }

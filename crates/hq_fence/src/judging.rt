@@ -32,8 +32,7 @@ pub fn have_conflict(job: &Job, a: usize, b: usize) -> bool
     requires b_is { b < length job.now.packets }
     ensures { IsTrue result ↔ HaveConflict (plan job.now) a b }
 {
-    let kinds = job.kinds(a, b);
-    kinds.wr || kinds.ww || kinds.rw
+    job.kinds(a, b).is_some()
 }
 
 /// How p, which is before r, is released before r. Mostly its own fence does that.

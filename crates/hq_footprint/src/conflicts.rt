@@ -19,8 +19,8 @@ pub struct Kinds {
 }
 
 impl Kinds {
-    /// Whether a flag is set.
-    fn is_some(self) -> bool
+    /// Whether there is a conflict: a flag is set.
+    pub fn is_some(self) -> bool
         ensures { result ≡ (self.wr || self.ww || self.rw) }
     {
         self.wr || self.ww || self.rw
