@@ -1,5 +1,5 @@
 -- Drafts that are made part by part.
-use Rattle.std.proofs.Common.{◌≡◌, ℕ, ◌+◌, ◌*◌, ◌<◌, ◌≤◌, ◌⊎◌, inl, inr, List, ◌++◌, length, sym, ◌∙◌, subst, arith, slice_index_or, Option, Some}
+use Rattle.std.proofs.Common.{◌≡◌, ℕ, ◌+◌, ◌<◌, ◌≤◌, ◌⊎◌, inl, inr, List, ◌++◌, length, sym, ◌∙◌, subst, arith, slice_index_or, Option, Some}
 use Rattle.std.specs.Prelude.{IfSome}
 use Rattle.std.proofs.lemmas.Bool.{cases_eq, cases_lt}
 use Rattle.hq_job.proofs.Grouped.{get_after}
@@ -10,9 +10,8 @@ use Rattle.hq_audit.specs.declared.drafting.Drafts.{Drafts}
 use Rattle.hq_audit.specs.Drafted.{drafts_of, AreDrafts, Longer, DraftsJoin}
 use Rattle.hq_audit.specs.Paired.{HasDraft, HasAll, RowPaired, RowsPaired}
 use Rattle.hq_audit.specs.Refused.{ShownOneWay, RowShown}
-use Rattle.hq_audit.specs.Rowed.{RowsBetween, ShownBetween, IsWhole, DraftsRows, AllMayDraft, DraftsUpto, DraftsAll}
+use Rattle.hq_audit.specs.Rowed.{RowsBetween, ShownBetween, DraftsRows, AllMayDraft, DraftsUpto, DraftsAll, start_of}
 use Rattle.hq_audit.proofs.Pairing.{one_later, longer_front}
-use Rattle.hq_audit.specs.declared.spreading.TheConstants.{ROWS}
 
 -- ---- a part
 
@@ -39,8 +38,8 @@ upto_none job drafts are = record {
 
 -- the part that stands in the list, where it is there
 pub part_drafted : (job : Job) (first now : List (Option Drafts)) (i : ℕ) (item : Option Drafts) (d : Drafts) → AllMayDraft job first → i < length first
-    → item ≡ slice_index_or now i item → slice_index_or now i item ≡ slice_index_or first i item → item ≡ Some d → DraftsRows job (i * ROWS) (i * ROWS + ROWS) d
-part_drafted job first now i item d all low is same some = subst (λ (o : Option Drafts). IfSome o (DraftsRows job (i * ROWS) (i * ROWS + ROWS))) (sym (is ∙ same) ∙ some) (all i item low)
+    → item ≡ slice_index_or now i item → slice_index_or now i item ≡ slice_index_or first i item → item ≡ Some d → DraftsRows job (start_of job i) (start_of job (i + 1)) d
+part_drafted job first now i item d all low is same some = subst (λ (o : Option Drafts). IfSome o (DraftsRows job (start_of job i) (start_of job (i + 1)))) (sym (is ∙ same) ∙ some) (all i item low)
 
 has_behind : (xs ys : List Draft) (p r : ℕ) (kind : Conflict) → HasDraft ys p r kind → HasDraft (xs ++ ys) p r kind
 has_behind xs ys p r kind h = record { k = length xs + h.k; draft = h.draft; there = get_after xs ys h.k ∙ h.there; first = h.first; second = h.second; kind_is = h.kind_is }
@@ -49,26 +48,26 @@ one_behind : (job : Job) (xs ys : List Draft) (p r : ℕ) → HasAll job ys p r 
 one_behind job xs ys p r (inl h) = inl (λ kind c. has_behind xs ys p r kind (h kind c))
 one_behind job xs ys p r (inr h) = inr (λ kind c. has_behind xs ys r p kind (h kind c))
 
-rows_joined : (job : Job) (k : ℕ) (xs ys : List Draft) → RowsPaired job xs (k * ROWS) → RowsBetween job ys (k * ROWS) (k * ROWS + ROWS) → RowsPaired job (xs ++ ys) ((k + 1) * ROWS)
-rows_joined job k xs ys h o = λ q s low above is. elim (cases_lt q (k * ROWS)) [
+rows_joined : (job : Job) (from to : ℕ) (xs ys : List Draft) → RowsPaired job xs from → RowsBetween job ys from to → RowsPaired job (xs ++ ys) to
+rows_joined job from to xs ys h o = λ q s low above is. elim (cases_lt q from) [
   | inl below ↦ one_later job xs (xs ++ ys) q s (longer_front xs ys) (h q s below above is)
-  | inr from ↦ one_behind job xs ys q s (o q s from (omega arith) above is)
+  | inr behind ↦ one_behind job xs ys q s (o q s behind low above is)
 ]
 
-pub upto_joined : (job : Job) (k : ℕ) (old part new : Drafts) → DraftsUpto job (k * ROWS) old → DraftsRows job (k * ROWS) (k * ROWS + ROWS) part → DraftsJoin job old part new → DraftsUpto job ((k + 1) * ROWS) new
-upto_joined job k old part new u c j = record {
+pub upto_joined : (job : Job) (from to : ℕ) (old part new : Drafts) → DraftsUpto job from old → DraftsRows job from to part → DraftsJoin job old part new → DraftsUpto job to new
+upto_joined job from to old part new u c j = record {
   are = j.are;
-  paired = subst (λ ds. RowsPaired job ds ((k + 1) * ROWS)) (sym j.joined) (rows_joined job k (drafts_of old) (drafts_of part) u.paired c.paired);
-  shown = λ q s low above is. elim (cases_lt q (k * ROWS)) [
+  paired = subst (λ ds. RowsPaired job ds to) (sym j.joined) (rows_joined job from to (drafts_of old) (drafts_of part) u.paired c.paired);
+  shown = λ q s low above is. elim (cases_lt q from) [
     | inl below ↦ u.shown q s below above is
-    | inr from ↦ c.shown q s from (omega arith) above is
+    | inr behind ↦ c.shown q s behind low above is
   ];
 }
 
--- the parts are all that there are
-pub all_drafted : (job : Job) (drafts : Drafts) (count : ℕ) → IsWhole job count → DraftsUpto job (count * ROWS) drafts → DraftsAll job drafts
-all_drafted job drafts count whole h = record {
+-- those up to the last packet are all that there are
+pub all_drafted : (job : Job) (drafts : Drafts) (to : ℕ) → length job.packets ≤ to → DraftsUpto job to drafts → DraftsAll job drafts
+all_drafted job drafts to whole h = record {
   are = h.are;
-  paired = λ q s above is. let low : s < length job.packets = is in let w : length job.packets ≤ count * ROWS = whole in h.paired q s (omega arith) above is;
-  shown = λ q s above is. let low : s < length job.packets = is in let w : length job.packets ≤ count * ROWS = whole in h.shown q s (omega arith) above is;
+  paired = λ q s above is. let low : s < length job.packets = is in h.paired q s (omega arith) above is;
+  shown = λ q s above is. let low : s < length job.packets = is in h.shown q s (omega arith) above is;
 }

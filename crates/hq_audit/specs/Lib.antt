@@ -1,7 +1,7 @@
 pub mod Packed
 pub mod Paired
 pub mod Drafted
-pub mod Apart
+pub mod Free
 pub mod Audited
 pub mod Rowed
 pub mod Refused

@@ -1,10 +1,11 @@
--- What is known of the drafts of some packets with those above them: part k has those of ROWS packets, from packet
--- k * ROWS on.
-use Rattle.std.specs.Prelude.{ℕ, ◌+◌, ◌*◌, ◌<◌, ◌≤◌, ◌⊎◌, List, IfSome, Option, length, slice_index_or}
+-- What is known of the drafts of some packets with those above them: those of a part, from where it begins up to where
+-- the next one does.
+use Rattle.std.specs.Prelude.{ℕ, ◌+◌, ◌*◌, ◌/◌, ◌<◌, ◌≤◌, ◌⊎◌, List, IfSome, Option, length, slice_index_or}
+use Rattle.hq_model.specs.declared.limits.TheConstants.{PACKETS}
 use Rattle.hq_model.specs.Job.{Job, IsPacket}
 use Rattle.hq_audit.specs.declared.draft.Draft.{Draft}
 use Rattle.hq_audit.specs.declared.drafting.Drafts.{Drafts}
-use Rattle.hq_audit.specs.declared.spreading.TheConstants.{ROWS}
+use Rattle.hq_audit.specs.declared.spreading.TheConstants.{STARTS}
 use Rattle.hq_audit.specs.Drafted.{drafts_of, AreDrafts}
 use Rattle.hq_audit.specs.Paired.{HasAll, RowsPaired, AllPaired}
 use Rattle.hq_audit.specs.Refused.{ShownOneWay, RowsShown, AllShown}
@@ -25,17 +26,17 @@ pub record DraftsRows (job : Job) (a b : ℕ) (drafts : Drafts) : Type 0 where
   pub paired : RowsBetween job (drafts_of drafts) a b
   pub shown : ShownBetween job a b
 
--- so are those of each part, where it is there
+-- the packet with which part k begins: as many of PACKETS as STARTS says, or all of them behind the last one
+abbrev pub start_of : Job → ℕ → ℕ
+start_of job k = length job.packets * slice_index_or STARTS k PACKETS / PACKETS
+
+-- the drafts of part k, where they are there
 abbrev pub MayDraft : Job → ℕ → Option Drafts → Type 0
-MayDraft job k drafts = IfSome drafts (DraftsRows job (k * ROWS) (k * ROWS + ROWS))
+MayDraft job k drafts = IfSome drafts (DraftsRows job (start_of job k) (start_of job (k + 1)))
 
 -- so it is for all of these parts
 abbrev pub AllMayDraft : Job → List (Option Drafts) → Type 0
 AllMayDraft job parts = (k : ℕ) (d : Option Drafts) → k < length parts → MayDraft job k (slice_index_or parts k d)
-
--- so many parts have all packets of a job
-abbrev pub IsWhole : Job → ℕ → Type 0
-IsWhole job count = length job.packets ≤ count * ROWS
 
 -- the drafts of all packets up to one
 pub record DraftsUpto (job : Job) (a : ℕ) (drafts : Drafts) : Type 0 where

@@ -7,16 +7,16 @@ ghost use Rattle.hq_model.specs.Order.{OrderList};
 ghost use Rattle.hq_cert.specs.View.{pair_of};
 ghost use Rattle.hq_derive.specs.Short.{told};
 ghost use Rattle.hq_parts.specs.Parts.{AreParts};
-ghost use Rattle.hq_audit.specs.Apart.{NoneConflict};
+ghost use Rattle.hq_audit.specs.Free.{NoneConflict};
 ghost use Rattle.hq_audit.specs.Audited.{order_in, lines_in, lists_in, list_in, chained_in, IsAudited, IsPairAt};
 ghost use Rattle.hq_audit.specs.Refused.{AllRefused, AllShown};
 ghost use Rattle.hq_audit.specs.Rowed.{DraftsAll};
 
-use crate::apart::none_conflict;
 use crate::citing::{cite_all, plain_pair};
 use crate::draft::Draft;
 use crate::drafting::{Drafts, draft_all};
 use crate::fault::AuditNo;
+use crate::free::none_conflict;
 use crate::packed::Packed;
 use hq_cert::{Certificate, Pair};
 use hq_derive::{Lines, Told, lines_for};
@@ -132,7 +132,7 @@ fn widened(alloc: Global, numbers: &[u16]) -> Result<Vec<u32>, AllocError>
 
 /// What an audit finds of a job of which no two packets conflict, and that has this order list; None where two do. No
 /// order of the packets is worked out for it.
-pub fn audited_apart(
+pub fn audited_free(
     alloc: Global,
     job: &Job,
     parts: &Parts,

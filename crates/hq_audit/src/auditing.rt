@@ -8,7 +8,7 @@ ghost use Rattle.hq_audit.specs.Audited.{IsAudited};
 ghost use Rattle.hq_audit.specs.Refused.{IsRefused};
 ghost use Rattle.hq_audit.specs.declared.fault.AuditNo.TheVariants.{Memory};
 
-use crate::audited::{Audited, audited_alone, audited_apart};
+use crate::audited::{Audited, audited_alone, audited_free};
 use crate::fault::AuditNo;
 use hq_cert::Certificate;
 use hq_job::Job;
@@ -31,7 +31,7 @@ pub fn find(alloc: Global, job: &Job) -> Result<Audited, AuditNo>
     job.valid();
     let order = schedule(alloc, job)?;
     let parts = Parts::build(alloc, job)?;
-    if let Some(found) = audited_apart(alloc, job, &parts, &order)? {
+    if let Some(found) = audited_free(alloc, job, &parts, &order)? {
         return Ok(found);
     }
     let before = Before::build(alloc, job)?;

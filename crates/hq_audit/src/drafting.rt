@@ -27,7 +27,7 @@ use std::alloc::{AllocError, Global};
 use std::mem;
 
 /// How many drafts a list may have.
-const ROOM: usize = 16_384;
+const ROOM: usize = 8_192;
 
 /// A list is full where there may be no room in it for those of one more packet: three with each other packet.
 const FULL: usize = ROOM - 3 * PACKETS;

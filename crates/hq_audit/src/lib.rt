@@ -8,7 +8,6 @@
 //! says whether there is a certificate, and `all_shown` says it of a job whose order is worked out.
 #![tactic(auto)]
 
-mod apart;
 mod audited;
 mod auditing;
 mod citing;
@@ -16,6 +15,7 @@ mod directed;
 mod draft;
 mod drafting;
 mod fault;
+mod free;
 pub mod laws;
 mod marking;
 mod packed;

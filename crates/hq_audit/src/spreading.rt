@@ -1,9 +1,9 @@
 //! Drafts as pairs are judged in many threads.
 
-ghost use Rattle.std.specs.Prelude.{◌+◌, ◌*◌, ◌<◌, IfOk, IfSome, IsTrue, length};
+ghost use Rattle.std.specs.Prelude.{◌≡◌, ◌<◌, IfOk, IfSome, IsTrue, length};
 ghost use Rattle.hq_parts.specs.Parts.{AreParts};
 ghost use Rattle.hq_audit.specs.Drafted.{AreDrafts};
-ghost use Rattle.hq_audit.specs.Rowed.{DraftsRows, DraftsUpto, DraftsAll, MayDraft, AllMayDraft, IsWhole};
+ghost use Rattle.hq_audit.specs.Rowed.{DraftsRows, DraftsUpto, DraftsAll, MayDraft, AllMayDraft, start_of};
 
 use crate::drafting::Drafts;
 use crate::fault::AuditNo;
@@ -14,8 +14,23 @@ use std::alloc::Global;
 use std::thread;
 use std::thread::Threads;
 
-/// How many packets a part has, whose pairs with those above them are judged in a thread of their own.
-pub const ROWS: usize = 128;
+/// In how many parts the packets are, whose pairs with those above them are judged in a thread of their own each.
+pub const PARTS: usize = 4;
+
+/// Where parts begin of the most packets that there can be, so that each has about as many pairs as the others: the
+/// first packets have the most above them. Those of fewer packets begin in proportion.
+pub const STARTS: [usize; PARTS] = [0, 137, 300, 512];
+
+/// Where part k begins; or where the last one ends.
+fn start_of(before: &Before, k: usize) -> usize
+    ensures { result ≡ start_of before.now k }
+{
+    before.job().valid();
+    match STARTS.get(k) {
+        Some(start) => before.len() * *start / PACKETS,
+        None => before.len(),
+    }
+}
 
 /// The drafts of the packets from one on, up to another, with those above them. The error says nothing of
 /// packets ahead of these.
@@ -39,10 +54,11 @@ fn draft_rows(
 /// Those of part k, unless a pair of it isn't ordered, or there is no memory.
 fn draft_part(alloc: Global, before: &Before, parts: &Parts, k: usize) -> Option<Drafts>
     requires parts { AreParts before.now parts.now }
-    requires few { k < PACKETS }
+    requires few { k < PARTS }
     ensures { MayDraft before.now k result }
 {
-    match draft_rows(alloc, before, parts, k * ROWS, k * ROWS + ROWS) {
+    let (from, to) = (start_of(before, k), start_of(before, k + 1));
+    match draft_rows(alloc, before, parts, from, to) {
         Ok(drafts) => Some(drafts),
         Err(_) => None,
     }
@@ -57,16 +73,14 @@ fn draft_parts<R: Threads + Sync>(
 ) -> Option<Vec<Option<Drafts>>>
     requires { AreParts before.now parts.now }
     ensures each { IfSome result (λ all. AllMayDraft before.now all.items) }
-    ensures whole { IfSome result (λ all. IsWhole before.now (length all.items)) }
+    ensures whole { IfSome result (λ all. length all.items ≡ PARTS) }
 {
-    before.job().valid();
-    let count = before.len().div_ceil(ROWS);
     let drafted = thread::map_indices(
         rt,
         alloc,
-        count,
+        PARTS,
         &|k: usize| -> Option<Drafts>
-            requires { (k < PACKETS) × AreParts before.now parts.now }
+            requires { (k < PARTS) × AreParts before.now parts.now }
             ensures { MayDraft before.entry.now k result }
         { draft_part(alloc, before, parts, k) },
     );
@@ -90,7 +104,7 @@ fn no_drafts(alloc: Global, before: &Before) -> Option<Drafts>
 fn join(alloc: Global, all: &mut Drafts, before: &Before, parts: &mut [Option<Drafts>]) -> bool
     requires parts { AllMayDraft before.now parts.old }
     requires are { AreDrafts before.now all.old }
-    ensures { IsTrue result → DraftsUpto before.now (length parts.old * ROWS) all.new }
+    ensures { IsTrue result → DraftsUpto before.now (start_of before.now (length parts.old)) all.new }
 {
     for part in parts.iter_mut() {
         let Some(drafts) = part else {

@@ -10,7 +10,7 @@ ghost use Rattle.hq_audit.specs.Audited.{IsAudited};
 ghost use Rattle.hq_audit.specs.Refused.{IsRefused, AllRefused, AllShown};
 ghost use Rattle.hq_audit.specs.declared.fault.AuditNo.TheVariants.{Memory};
 
-use crate::audited::{Audited, audited_alone, audited_apart, audited_of};
+use crate::audited::{Audited, audited_alone, audited_free, audited_of};
 use crate::fault::AuditNo;
 use crate::spreading::draft_wide;
 use hq_cert::Certificate;
@@ -26,8 +26,8 @@ use std::thread::Threads;
 /// after an even number of them, so it is an odd one.
 const STEP: usize = 13;
 
-/// How many packets each one may conflict with, at the mean, where judging is worth more than one thread.
-const MANY: u32 = 256;
+/// How many pairs of packets that may conflict are worth judging by more threads than one.
+const MANY: usize = 32_768;
 
 /// Whether there are processors for more than one thread.
 fn has_processors(rt: &impl Threads) -> bool {
@@ -37,17 +37,16 @@ fn has_processors(rt: &impl Threads) -> bool {
     }
 }
 
-/// Whether there is much to be judged: each packet that is looked at may conflict with many, at the mean.
+/// Whether there is much to be judged, by the packets that are looked at.
 fn is_much(before: &Before, parts: &Parts) -> bool
     requires { AreParts before.now parts.now }
 {
-    let mut many = 0u32;
-    let mut looked_at = 0u32;
+    let mut others = 0usize;
     for k in 0..before.len() / STEP {
-        many = many.wrapping_add(parts.others(before.job(), k * STEP).count());
-        looked_at = looked_at.wrapping_add(1);
+        others = others.saturating_add(parts.others(before.job(), k * STEP).count() as usize);
     }
-    looked_at > 0 && many / looked_at >= MANY
+    // each pair is one of both packets'
+    others >= 2 * MANY / STEP
 }
 
 /// What an audit finds of a job that has this order list, unless a pair isn't ordered or there is no memory.
@@ -107,7 +106,7 @@ pub fn find_wide<R: Threads + Sync>(rt: &R, alloc: Global, job: &Job) -> Result<
     job.valid();
     let order = schedule(alloc, job)?;
     let parts = Parts::build(alloc, job)?;
-    if let Some(found) = audited_apart(alloc, job, &parts, &order)? {
+    if let Some(found) = audited_free(alloc, job, &parts, &order)? {
         return Ok(found);
     }
     let before = Before::build(alloc, job)?;

@@ -7,6 +7,7 @@ ghost use Rattle.hq_certcheck.specs.Covering.{FirstUnflagged, HasRows};
 ghost use Rattle.hq_certcheck.specs.Seen.{IsSeen};
 ghost use Rattle.hq_model.specs.Certificate as model;
 
+use crate::missing;
 use crate::missing::first_unflagged_after;
 use crate::possible::Possible;
 use crate::seen::Seen;
@@ -105,7 +106,12 @@ pub fn first_missing(
     ensures { IfOk result
         (λ found. (c : model.Certificate) → IsSeen (plan job.now) c seen.now → MissingIs (plan job.now) c.pairs found) }
 {
+    let flags = seen.flags();
+    if flags.is_empty() {
+        // no pair line came, so that there is nothing to look up
+        return missing::first_missing(alloc, job, seen);
+    }
     job.valid();
     let possible = Possible::of(alloc, job)?;
-    Ok(missing_by(rt, job, &possible, seen.flags()))
+    Ok(missing_by(rt, job, &possible, flags))
 }

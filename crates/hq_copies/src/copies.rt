@@ -107,6 +107,13 @@ impl Copies {
         &self.memory
     }
 
+    /// The bytes of memory, for good.
+    pub fn into_memory(self) -> Vec<u8>
+        ensures { result.items ≡ self.memory }
+    {
+        self.memory
+    }
+
     /// The byte that is seen through a lane.
     pub fn read(&self, lane: usize, byte: usize) -> u8
         requires { IsLaneByte self.now lane byte }

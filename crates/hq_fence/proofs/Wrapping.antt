@@ -1,5 +1,5 @@
 -- Runs of numbers, gone through from one within on.
-use Rattle.std.proofs.Common.{◌≡◌, ℕ, ◌+◌, ◌-◌, ◌<◌, ◌≤◌, inl, inr, sym, ◌∙◌, subst, arith, length}
+use Rattle.std.proofs.Common.{◌≡◌, ℕ, ◌+◌, ◌-◌, ◌<◌, ◌≤◌, inl, inr, sym, subst, arith, length}
 use Rattle.std.proofs.lemmas.Bool.{cases_lt, cond-true, cond-false, lt-ltb, le-ltb}
 use Rattle.hq_fence.specs.Circuits.{IsCircuit, IsQueueOf, number_at}
 use Rattle.hq_job.specs.Access.{AreOfQueue}

@@ -16,7 +16,7 @@ use Rattle.hq_audit.specs.declared.draft.Draft.{Draft}
 use Rattle.hq_audit.specs.declared.packed.Packed.{Packed}
 use Rattle.hq_audit.specs.Drafted.{seen, listed}
 use Rattle.hq_audit.specs.declared.draft.Means.TheVariants.{ReadWrite}
-use Rattle.hq_audit.specs.Audited.{order_in, lines_in, list_in, drafts_in, if_there, IsAudited, IsPairAt}
+use Rattle.hq_audit.specs.Audited.{order_in, lines_in, list_in, if_there, IsAudited, IsPairAt}
 use Rattle.hq_audit.specs.Paired.{IsPairOf, IsPlain}
 use Rattle.hq_audit.proofs.Numbering.{cited_more}
 use Rattle.hq_audit.proofs.Certifying.{audited_certifies}
@@ -123,17 +123,19 @@ such_none P u a is = record { text = []; is = is; prints = λ w text h. subst (�
 pub such_both : (P Q R : List ℕ → Type 0) {u v w : Option (List ℕ)} {a b c : Printer} → ((t s : List ℕ) → P t → Q s → R (t ++ s)) → PrintsSuch P u a v b → PrintsSuch Q v b w c → PrintsSuch R u a w c
 such_both P Q R {u} {v} {w} {a} {b} {c} f h k = record { text = h.text ++ k.text; is = f h.text k.text h.is k.is; prints = prints_both u v w a b c h.text k.text h.prints k.prints }
 
+pub such_as : (P Q : List ℕ → Type 0) {u v : Option (List ℕ)} {a b : Printer} → ((t : List ℕ) → P t → Q t) → PrintsSuch P u a v b → PrintsSuch Q u a v b
+such_as P Q f h = record { text = h.text; is = f h.text h.is; prints = h.prints }
+
+-- what a printer gives to a writer that held nothing is what it printed
+pub given_such : (P : List ℕ → Type 0) {u v : Option (List ℕ)} {a b : Printer} (given : List ℕ) → u ≡ Some [] → IsEmpty a → PrintsSuch P u a v b → ((w : Option (List ℕ)) (text : List ℕ) → HasPrinted w text v b → Appends w (Some given) text) → P given
+given_such P {u} {v} {a} {b} given none empty h gives =
+    let appended : Appends u (Some given) h.text = gives u h.text (h.prints u [] (empty u)) in
+    subst P (sym (subst (λ o. Appends o (Some given) h.text) none appended)) h.is
+
 pub this_one : (t : List ℕ) {u v : Option (List ℕ)} {a b : Printer} → Prints u a v b t → PrintsSuch (λ s. s ≡ t) u a v b
 this_one t h = record { text = t; is = refl; prints = h }
 
 -- ---- all of it
-
-pub whole_text : (job : Job) (a : Audited) (count : ℕ) (t s : List ℕ) → count ≡ length (lines_in a) → IsLinesText a 0 count t → IsPairsText job a (drafts_in a) s → IsWholeText job a (t ++ s)
-whole_text job a count t s e f h = record {
-  behind = s;
-  pairs = h;
-  is = let all : count - 0 ≡ count = omega arith in ap (λ x. x ++ s) (f ∙ ap (λ n. lines_text (lines_words 0 (take n (lines_in a)))) (all ∙ e));
-}
 
 pub certificate_written : (job : Job) (a : Audited) (u v w x : Option (List ℕ)) (p q r : Printer) → IsAudited job a → IsEmpty p → Prints u p v q (line_text (head_words false) ++ line_text (order_words (order_in a)))
     → PrintsSuch (IsWholeText job a) v q w r → ((y : Option (List ℕ)) (text : List ℕ) → HasPrinted y text w r → Appends y x (text ++ codes "end\n")) → WritesCertificate job u x

@@ -8,7 +8,9 @@ ghost use Rattle.hq_job.specs.Plan.{plan};
 ghost use Rattle.hq_judging.specs.Audit.{JobReport, NoSaid, conflict_text};
 ghost use Rattle.hq_status.specs.Reports.{JobTextReport, ReaderReport, Reported, Said, with_feed};
 
+use crate::bodies::PrintsBodies;
 use crate::giving::say_audited;
+use crate::hands::{Alone, Together};
 use crate::laws::stuck_exactly;
 use crate::stuck::say_stuck;
 use hq_audit::{AuditNo, Audited, find, find_wide};
@@ -74,7 +76,8 @@ pub fn say_no_certificate<W: Write>(writer: &mut W, no: AuditNo) -> Status
 }
 
 /// Writes what an audit found of a job.
-fn say_found<W: Write>(
+fn say_found<P: PrintsBodies, W: Write>(
+    hands: &P,
     alloc: Global,
     writer: &mut W,
     job: &Job,
@@ -87,13 +90,13 @@ fn say_found<W: Write>(
     job.valid();
     stuck_exactly();
     match found {
-        Ok(audited) => say_audited(alloc, writer, job, audited),
+        Ok(audited) => say_audited(hands, alloc, writer, job, audited),
         Err(no) => say_no_certificate(writer, no),
     }
 }
 
 /// Reads a job and writes its certificate, or the packets that can never complete, or the conflict that nothing
-/// orders. Nothing is written before the last growth of memory.
+/// orders. Nothing is written before the last growth of memory that the answer needs.
 pub fn audit_engine<R: Read, W: Write>(alloc: Global, reader: &mut R, writer: &mut W) -> Status
     ensures { Reported (ReaderReport R R.remaining reader.old reader.new (JobTextReport (λ job. JobReport (plan job))))
         (W.contents writer.old) (W.contents writer.new) result }
@@ -101,7 +104,7 @@ pub fn audit_engine<R: Read, W: Write>(alloc: Global, reader: &mut R, writer: &m
     match take_job(alloc, reader, writer) {
         Ok(job) => {
             let found = find(alloc, &job);
-            let status = say_found(alloc, writer, &job, found);
+            let status = say_found(&Alone, alloc, writer, &job, found);
             job.let_go();
             status
         }
@@ -109,7 +112,8 @@ pub fn audit_engine<R: Read, W: Write>(alloc: Global, reader: &mut R, writer: &m
     }
 }
 
-/// What `audit_engine` writes, with pairs judged in many threads where many packets may conflict.
+/// What `audit_engine` writes, by many threads: pairs are judged by them where many packets may conflict, and lines and
+/// pair lines are printed by them where there are many.
 pub fn audit_wide_engine<T: Threads + Sync, R: Read, W: Write>(
     rt: &T,
     alloc: Global,
@@ -122,7 +126,7 @@ pub fn audit_wide_engine<T: Threads + Sync, R: Read, W: Write>(
     match take_job(alloc, reader, writer) {
         Ok(job) => {
             let found = find_wide(rt, alloc, &job);
-            let status = say_found(alloc, writer, &job, found);
+            let status = say_found(&Together { rt }, alloc, writer, &job, found);
             job.let_go();
             status
         }

@@ -11,7 +11,7 @@ ghost use Rattle.hq_judging.specs.Check.{bad_pair_text};
 ghost use Rattle.hq_status.specs.Reports.{JobTextReport, ReaderReport, Reported, Said, with_feed};
 
 use crate::checking::{ReadCertificate, take_certificate};
-use crate::readers::Together;
+use crate::hands::Together;
 use hq_certcheck::{Accepted, CheckNo, check_seen_wide};
 use hq_certread::{CertFault, CertReason};
 use hq_job::Job;

@@ -9,7 +9,7 @@ ghost use Rattle.hq_status.specs.Reports.{JobTextReport, ReaderReport, Reported}
 
 use crate::check::say_checked;
 use crate::checking::{ReadCertificate, take_certificate};
-use crate::readers::Alone;
+use crate::hands::Alone;
 use hq_certcheck::check_seen;
 use hq_job::Job;
 use hq_status::{Status, take_job};

@@ -2,13 +2,16 @@
 
 ghost use Rattle.std.specs.Prelude.{◌≡◌, ◌≤◌, Err, OnOk, false, length};
 ghost use Rattle.hq_job.specs.Plan.{plan};
-ghost use Rattle.hq_audit.specs.Audited.{lines_in, list_in, drafts_in, chained_in, IsAudited};
+ghost use Rattle.hq_audit.specs.Audited.{lines_in, list_in, chained_in, IsAudited};
 ghost use Rattle.hq_certtext.specs.Printing.{IsReady, IsEmpty};
 ghost use Rattle.hq_judging.specs.Audit.{JobReport};
-ghost use Rattle.hq_judging.specs.Giving.{IsLinesText, IsPairsText, IsWholeText, PrintsSuch, WritesCertificate};
+ghost use Rattle.hq_judging.specs.Giving.{IsLinesText, IsPairsText, PrintsSuch, WritesCertificate};
+ghost use Rattle.hq_judging.specs.Places.{IsListsText, IsTextBetween, Leads};
 ghost use Rattle.hq_status.specs.Reports.{Reported};
 
 use crate::audit::say_certificate;
+use crate::bodies::PrintsBodies;
+use crate::place::Place;
 use hq_audit::Audited;
 use hq_certtext::{PrintFault, Printer, WriterFailed};
 use hq_job::Job;
@@ -60,48 +63,56 @@ fn print_list<W: Write>(
     Ok(())
 }
 
-/// Prints all lists of pair lines.
+/// Prints the lists of pair lines from one on, up to another.
 fn print_lists<W: Write>(
     printer: &mut Printer,
     job: &Job,
     audited: &Audited,
+    from: usize,
+    to: usize,
     writer: &mut W,
 ) -> Result<(), WriterFailed>
     requires ready { IsReady printer.old }
     requires audited { IsAudited (plan job.now) audited.now }
     requires plain { chained_in audited.now ≡ false }
+    requires order { from ≤ to }
     ensures ready { OnOk result (IsReady printer.new) }
     ensures prints { OnOk result
-        (PrintsSuch (IsPairsText (plan job.now) audited.now (drafts_in audited.now)) (W.contents writer.old)
+        (PrintsSuch (IsListsText (plan job.now) audited.now from to) (W.contents writer.old)
         printer.old (W.contents writer.new) printer.new) }
 {
-    for list in 0..audited.lists() {
+    for list in from..to {
         print_list(printer, job, audited, list, writer)?;
     }
     Ok(())
 }
 
-/// Prints all lines and all pair lines.
-fn print_body<W: Write>(
+/// Prints what is between two places.
+pub fn print_between<W: Write>(
     printer: &mut Printer,
     job: &Job,
     audited: &Audited,
+    from: Place,
+    to: Place,
     writer: &mut W,
 ) -> Result<(), WriterFailed>
     requires ready { IsReady printer.old }
     requires audited { IsAudited (plan job.now) audited.now }
     requires plain { chained_in audited.now ≡ false }
+    requires places { Leads audited.now from to }
     ensures ready { OnOk result (IsReady printer.new) }
     ensures prints { OnOk result
-        (PrintsSuch (IsWholeText (plan job.now) audited.now) (W.contents writer.old) printer.old
+        (PrintsSuch (IsTextBetween (plan job.now) audited.now from to) (W.contents writer.old) printer.old
         (W.contents writer.new) printer.new) }
 {
-    print_lines(printer, audited, 0, audited.lines(), writer)?;
-    print_lists(printer, job, audited, writer)
+    print_lines(printer, audited, from.line, to.line, writer)?;
+    print_lists(printer, job, audited, from.list, to.list, writer)
 }
 
 /// Prints the certificate by a printer that has printed nothing yet.
-fn print_all<W: Write>(
+fn print_all<P: PrintsBodies, W: Write>(
+    hands: &P,
+    alloc: Global,
     mut printer: Printer,
     job: &Job,
     audited: &Audited,
@@ -114,12 +125,14 @@ fn print_all<W: Write>(
     ensures { OnOk result (WritesCertificate (plan job.now) (W.contents writer.old) (W.contents writer.new)) }
 {
     printer.begin(false, audited.order(), writer)?;
-    print_body(&mut printer, job, audited, writer)?;
+    hands.print_body(alloc, &mut printer, job, audited, writer)?;
     printer.end(writer)
 }
 
-/// Prints the certificate, where no pair line is chained. All memory is taken before the first byte is written.
-fn print_audited<W: Write>(
+/// Prints the certificate, where no pair line is chained. All memory that it can't do without is taken before the first
+/// byte is written.
+fn print_audited<P: PrintsBodies, W: Write>(
+    hands: &P,
     alloc: Global,
     job: &Job,
     audited: &Audited,
@@ -134,7 +147,7 @@ fn print_audited<W: Write>(
     let Ok(printer) = Printer::new(alloc, job.packets().len(), audited.lines()) else {
         return Err(PrintFault::Memory);
     };
-    match print_all(printer, job, audited, writer) {
+    match print_all(hands, alloc, printer, job, audited, writer) {
         Ok(()) => Ok(()),
         Err(WriterFailed) => Err(PrintFault::Writer),
     }
@@ -153,14 +166,20 @@ fn say_whole<W: Write>(alloc: Global, writer: &mut W, job: &Job, audited: Audite
 }
 
 /// Writes the certificate of what an audit found.
-pub fn say_audited<W: Write>(alloc: Global, writer: &mut W, job: &Job, audited: Audited) -> Status
+pub fn say_audited<P: PrintsBodies, W: Write>(
+    hands: &P,
+    alloc: Global,
+    writer: &mut W,
+    job: &Job,
+    audited: Audited,
+) -> Status
     requires { IsAudited (plan job.now) audited }
     ensures { Reported (JobReport (plan job.now)) (W.contents writer.old) (W.contents writer.new) result }
 {
     if audited.is_chained() {
         return say_whole(alloc, writer, job, audited);
     }
-    match print_audited(alloc, job, &audited, writer) {
+    match print_audited(hands, alloc, job, &audited, writer) {
         Ok(()) => Status::Done,
         Err(PrintFault::Memory) => say_memory(writer),
         Err(PrintFault::Writer) => Status::File,

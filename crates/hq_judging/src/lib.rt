@@ -6,6 +6,7 @@
 #![tactic(auto)]
 
 mod audit;
+mod bodies;
 mod check;
 mod check_alone;
 mod checking;
@@ -13,7 +14,11 @@ mod checking_wide;
 mod chunk;
 mod chunks;
 mod giving;
+mod giving_wide;
+mod hands;
 pub mod laws;
+mod piece;
+mod place;
 mod readers;
 mod stuck;
 

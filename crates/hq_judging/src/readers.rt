@@ -9,6 +9,7 @@ ghost use Rattle.hq_judging.specs.Checking.{HasChecked, WasReadFor};
 
 use crate::checking::{Checking, ReadCertificate, read_source};
 use crate::checking_wide::read_source_wide;
+use crate::hands::{Alone, Together};
 use hq_certread::{CertFault, ReadFault};
 use hq_text::{Source, TURNS};
 use std::alloc::Global;
@@ -32,10 +33,6 @@ pub trait ReadsCertificates {
             (Fails S S.Turned TURNS source.old source.new ⊎ Passes S S.Turned TURNS source.old source.new)) };
 }
 
-/// The caller's thread.
-#[derive(Clone, Copy)]
-pub struct Alone;
-
 impl ReadsCertificates for Alone {
     fn read_source<S: Source>(
         &self,
@@ -45,12 +42,6 @@ impl ReadsCertificates for Alone {
     ) -> Result<ReadCertificate, ReadFault<CertFault>> {
         read_source(alloc, source, checking)
     }
-}
-
-/// As many threads as there are processors, started by this runtime.
-#[derive(Clone, Copy)]
-pub struct Together<'a, R> {
-    pub rt: &'a R,
 }
 
 impl<'a, R: Threads> ReadsCertificates for Together<'a, R> {

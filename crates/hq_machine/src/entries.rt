@@ -1,7 +1,7 @@
 //! All reads of a packet in order, and all its stores.
 
 ghost use Rattle.std.specs.Prelude.{◌≡◌, ◌<◌, ◌↔◌, ℕ, None, IsTrue, length, IfOk, IfErr, OnOk, OnErr};
-ghost use Rattle.std.specs.Prelude.{slice_index_or, false, map, All, ◌+◌, ◌≤◌};
+ghost use Rattle.std.specs.Prelude.{slice_index_or, false, map, All, ◌+◌, ◌++◌, ◌≤◌};
 ghost use Rattle.hq_job.specs.Plan.{plan};
 ghost use Rattle.std.specs.List.{flat_map};
 ghost use Rattle.hq_footprint.specs.Bytes.{bytes_of};
@@ -19,6 +19,17 @@ use hq_events::{Phase, Reads, StepFault, Stores};
 use hq_footprint::Range as ByteRange;
 use hq_job::Job;
 use std::alloc::AllocError;
+
+/// Puts a part behind bytes. Where there are none, it is taken as it is.
+fn put_behind(bytes: &mut Vec<u8>, part: Vec<u8>) -> Result<(), AllocError>
+    ensures { OnOk result (bytes.new.items ≡ bytes.old.items ++ part.items) }
+{
+    if bytes.is_empty() {
+        *bytes = part;
+        return Ok(());
+    }
+    bytes.extend_from_slice(&part)
+}
 
 impl State {
     /// Whether a packet has read nothing.
@@ -72,7 +83,7 @@ impl State {
         let mut bytes = Vec::new(self.allocator());
         for range in ranges {
             let part = self.seen_range(packet, *range)?;
-            bytes.extend_from_slice(&part)?;
+            put_behind(&mut bytes, part)?;
         }
         Ok(bytes)
     }

@@ -127,6 +127,13 @@ impl State {
         self.copies.memory()
     }
 
+    /// The bytes of memory, for good.
+    pub fn into_memory(self) -> Vec<u8>
+        ensures { result.items ≡ self.copies.memory }
+    {
+        self.copies.into_memory()
+    }
+
     /// The byte that is seen through a packet's lane.
     pub fn seen(&self, packet: usize, byte: usize) -> u8
         requires { IsLaneByte self.now.copies packet byte }

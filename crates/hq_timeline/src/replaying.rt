@@ -59,5 +59,5 @@ pub fn replay(alloc: Global, job: &Job, journal: &Journal) -> Result<Vec<u8>, Re
 {
     let mut state = start(alloc, job)?;
     apply_all(&mut state, job, journal.events())?;
-    Ok(Vec::from_slice(alloc, state.memory())?)
+    Ok(state.into_memory())
 }

@@ -1,8 +1,7 @@
-use Rattle.std.proofs.Common.{◌≡◌, ◌*◌, ◌<◌, ◌∙◌, refl, subst, length, arith, rules, slice_index_or, Some}
+use Rattle.std.proofs.Common.{◌≡◌, ◌+◌, ◌<◌, ◌∙◌, refl, subst, length, arith, rules, slice_index_or, Some}
 use Rattle.std.proofs.lemmas.List.{length-set, get_or-set_other}
-use Rattle.hq_audit.specs.Rowed.{DraftsUpto}
+use Rattle.hq_audit.specs.Rowed.{DraftsUpto, start_of}
 use Rattle.hq_audit.proofs.Rowing.{part_drafted, upto_none, upto_joined}
-use Rattle.hq_audit.specs.declared.spreading.TheConstants.{ROWS}
 use Rattle.hq_audit.proofs.spreading.join.Goals as goal
 
 pub loop-part-preserved : goal.loop-part-preserved
@@ -21,17 +20,17 @@ loop-part-preserved c =
     record {
       len = length-set now i (Some c.join.new.others) ∙ inv.len;
       rest = λ k e above. get_or-set_other now i k (Some c.join.new.others) e (λ e. omega (arith, e, above)) ∙ inv.rest k e (omega (arith, above));
-      upto = upto_joined job i c.loop-part.all d c.join.new.self inv.upto rows c.in-Ok.ensures;
+      upto = upto_joined job (start_of job i) (start_of job (i + 1)) c.loop-part.all d c.join.new.self inv.upto rows c.in-Ok.ensures;
     }
 
 pub loop-part-init : goal.loop-part-init
 loop-part-init c = record {
   len = refl;
   rest = λ k d above. refl;
-  upto = upto_none c.args.before.now c.args.all.now c.requires.are;
+  upto = subst (λ n. DraftsUpto c.args.before.now n c.args.all.now) (omega arith) (upto_none c.args.before.now c.args.all.now c.requires.are);
 }
 
 pub returns : goal.returns
 returns c = λ t.
     let all : c.loop-part.part-index ≡ length c.args.parts.now = omega (arith, c.loop-part-test.false, c.loop-part.invariant.len) in
-    subst (λ n. DraftsUpto c.args.before.now (n * ROWS) c.loop-part.all) all c.loop-part.invariant.upto
+    subst (λ n. DraftsUpto c.args.before.now (start_of c.args.before.now n) c.loop-part.all) all c.loop-part.invariant.upto

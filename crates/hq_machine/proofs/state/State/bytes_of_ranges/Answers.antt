@@ -20,6 +20,6 @@ unfolding none
 loop-range-preserved c = λ job is.
     let f = lane_sees job (state_of job c.args.self.now) c.args.packet in
     let range = get_or c.args.ranges.now c.loop-range.range-index none in
-    c.in_ok-extend_from_slice.ensures.items
-    ∙ ap₂ (λ (xs ys : List ℕ). xs ++ ys) (c.loop-range.invariant job is) (c.deref.ensures.value ∙ c.in_ok-part.ensures job is ∙ range_listed f range)
+    c.in_ok-put_behind.ensures
+    ∙ ap₂ (λ (xs ys : List ℕ). xs ++ ys) (c.loop-range.invariant job is) (c.in_ok-part.ensures job is ∙ range_listed f range)
     ∙ sym (ranges_more f c.args.ranges.now c.loop-range.range-index none c.loop-range-test.true)

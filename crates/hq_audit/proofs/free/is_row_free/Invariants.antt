@@ -1,12 +1,12 @@
 use Rattle.std.proofs.Common.{◌<◌, ◌-◌, length}
 use Rattle.hq_job.specs.Plan.{plan}
-use Rattle.hq_audit.specs.Apart.{RowApart}
-use Rattle.hq_audit.proofs.apart.is_row_apart.Given as goal
+use Rattle.hq_audit.specs.Free.{RowFree}
+use Rattle.hq_audit.proofs.free.is_row_free.Given as goal
 
 abbrev pub invariant-others : goal.invariant-others
 invariant-others l = record {
   above : l.a < l.b;
-  apart : RowApart (plan l.job) l.a l.b;
+  free : RowFree (plan l.job) l.a l.b;
 }
 
 abbrev pub decreases-others : goal.decreases-others
