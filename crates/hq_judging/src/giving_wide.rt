@@ -23,10 +23,13 @@ use std::thread::Threads;
 const MOST: usize = 16;
 
 /// How many lines and pair lines one thread prints in a turn at most, about: their text is kept until it is written.
-const TURN: usize = 32_768;
+const TURN: usize = 24_576;
+
+/// In how many turns all is printed at least, so that the texts that are kept are few beside what was freed before.
+const TURNS: usize = 4;
 
 /// How many lines and pair lines are worth more threads than one.
-const ENOUGH: usize = 32_768;
+const ENOUGH: usize = 65_536;
 
 /// Prints pieces, of which the first begins here; a text that isn't there is printed by this thread. Answers the place
 /// behind them.
@@ -106,7 +109,7 @@ fn turns_for(threads: usize, all: usize) -> usize
     if threads < 2 || all < ENOUGH {
         return 0;
     }
-    all.div_ceil(threads * TURN)
+    all.div_ceil(threads * TURN).max(TURNS)
 }
 
 /// Prints all lines and all pair lines, by as many threads as there are processors where that is worth it.

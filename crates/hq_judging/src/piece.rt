@@ -13,8 +13,8 @@ use hq_job::Job;
 use std::alloc::{AllocError, Global};
 use std::thread::{Threads, join_mut};
 
-/// How many bytes a line or a pair line takes, about.
-const LINE: usize = 64;
+/// How many bytes a line or a pair line takes, mostly no more.
+const LINE: usize = 40;
 
 /// The lines and pair lines from some place on up to this one, and their text where it is printed.
 #[derive(Drop)]
