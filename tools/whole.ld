@@ -7,7 +7,7 @@ SECTIONS
   .text.audit :
   {
     /* from the words of a command line to an answer */
-    *(.text.main .text.+threads* .text.hq_front* .text.hq_commands*audit* .text.hq_judging*giving* .text.hq_status* .text.hq_plain*explain*)
+    *(.text.main .text.+threads* .text.hq_front* .text.hq_commands*audit* .text.hq_judging*giving* .text.hq_judging??piece* .text.hq_judging??place* .text.hq_judging??bodies* .text.hq_status* .text.hq_plain*explain*)
     /* jobs read, their order, conflicts judged, certificates printed */
     *(.text.hq_text* .text.hq_lines* .text.hq_jobtext* .text.hq_tables* .text.hq_signals* .text.hq_packet* .text.hq_footprint*)
     *(.text.hq_job?:* .text.hq_bits* .text.hq_rows* .text.hq_waits* .text.hq_schedule* .text.hq_order* .text.hq_parts*)

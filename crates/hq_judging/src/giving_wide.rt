@@ -1,7 +1,7 @@
 //! The lines and pair lines of a certificate, printed by several threads: each prints what is between two places to a
 //! text of its own, and the caller's thread writes these texts one behind another.
 
-ghost use Rattle.std.specs.Prelude.{◌≡◌, ◌≤◌, IfOk, OnOk, false};
+ghost use Rattle.std.specs.Prelude.{◌≡◌, ◌<◌, ◌≤◌, IfOk, OnOk, false};
 ghost use Rattle.hq_job.specs.Plan.{plan};
 ghost use Rattle.hq_audit.specs.Audited.{chained_in, IsAudited};
 ghost use Rattle.hq_certtext.specs.Printing.{IsReady};
@@ -102,11 +102,23 @@ fn count_all(audited: &Audited) -> usize {
     all
 }
 
-/// In how many turns so many lines and pair lines are printed by threads; none where that isn't worth it.
+/// How many threads are to print so many lines and pair lines. How many processors there are is asked only where that
+/// may be worth more than one: to ask takes as long as to print a thousand.
+fn threads_for<R: Threads>(rt: &R, all: usize) -> usize
+    ensures some { 0 < result }
+    ensures few { result ≤ MOST }
+{
+    if all < ENOUGH {
+        return 1;
+    }
+    current_num_threads(rt).min(MOST)
+}
+
+/// In how many turns so many lines and pair lines are printed by threads; in none where there is one.
 fn turns_for(threads: usize, all: usize) -> usize
     requires { threads ≤ MOST }
 {
-    if threads < 2 || all < ENOUGH {
+    if threads < 2 {
         return 0;
     }
     all.div_ceil(threads * TURN).max(TURNS)
@@ -130,7 +142,7 @@ pub fn print_body_wide<R: Threads, W: Write>(
         (W.contents writer.new) printer.new) }
 {
     let all = count_all(audited);
-    let threads = current_num_threads(rt).min(MOST);
+    let threads = threads_for(rt, all);
     let turns = turns_for(threads, all);
     let mut at = Place::start();
     for _turn in 0..turns {
