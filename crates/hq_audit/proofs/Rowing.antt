@@ -1,6 +1,5 @@
 -- Drafts that are made part by part.
-use Rattle.std.proofs.Common.{◌≡◌, ℕ, ◌+◌, ◌<◌, ◌≤◌, ◌⊎◌, inl, inr, List, ◌++◌, length, sym, ◌∙◌, subst, arith, slice_index_or, Option, Some}
-use Rattle.std.specs.Prelude.{IfSome}
+use Rattle.std.proofs.Common.{◌≡◌, ℕ, zero, suc, ◌+◌, ◌<◌, ◌≤◌, ◌⊎◌, inl, inr, List, [], ◌∷◌, ◌++◌, length, sym, ◌∙◌, subst, arith, slice_index_or}
 use Rattle.std.proofs.lemmas.Bool.{cases_eq, cases_lt}
 use Rattle.hq_job.proofs.Grouped.{get_after}
 use Rattle.hq_model.specs.Job.{Job}
@@ -10,7 +9,8 @@ use Rattle.hq_audit.specs.declared.drafting.Drafts.{Drafts}
 use Rattle.hq_audit.specs.Drafted.{drafts_of, AreDrafts, Longer, DraftsJoin}
 use Rattle.hq_audit.specs.Paired.{HasDraft, HasAll, RowPaired, RowsPaired}
 use Rattle.hq_audit.specs.Refused.{ShownOneWay, RowShown}
-use Rattle.hq_audit.specs.Rowed.{RowsBetween, ShownBetween, DraftsRows, AllMayDraft, DraftsUpto, DraftsAll, start_of}
+use Rattle.hq_audit.specs.declared.spreading.Part.{Part}
+use Rattle.hq_audit.specs.Rowed.{RowsBetween, ShownBetween, DraftsRows, AllMayDraft, MayDraft, AreJudged, AreRooms, DraftsUpto, DraftsAll}
 use Rattle.hq_audit.proofs.Pairing.{one_later, longer_front}
 
 -- ---- a part
@@ -36,10 +36,19 @@ upto_none job drafts are = record {
   shown = λ q s low above is. absurd (omega (arith, low));
 }
 
--- the part that stands in the list, where it is there
-pub part_drafted : (job : Job) (first now : List (Option Drafts)) (i : ℕ) (item : Option Drafts) (d : Drafts) → AllMayDraft job first → i < length first
-    → item ≡ slice_index_or now i item → slice_index_or now i item ≡ slice_index_or first i item → item ≡ Some d → DraftsRows job (start_of job i) (start_of job (i + 1)) d
-part_drafted job first now i item d all low is same some = subst (λ (o : Option Drafts). IfSome o (DraftsRows job (start_of job i) (start_of job (i + 1)))) (sym (is ∙ same) ∙ some) (all i item low)
+-- what is known of each part in a row
+pub each_judged : (job : Job) (n : ℕ) (parts : List Part) (i : ℕ) (d : Part) → AreJudged job n parts → i < length parts → MayDraft job (n + i) (slice_index_or parts i d)
+each_judged job n [] i d are low = absurd (omega (arith, low))
+each_judged job n (p ∷ ps) zero d are low = let same : n ≡ n + 0 = omega arith in subst (λ k. MayDraft job k p) same are.0
+each_judged job n (p ∷ ps) (suc i) d are low = let same : n + 1 + i ≡ n + suc i = omega arith in subst (λ k. MayDraft job k (slice_index_or ps i d)) same (each_judged job (n + 1) ps i d are.1 (omega (arith, low)))
+
+pub all_judged : (job : Job) (parts : List Part) → AreJudged job 0 parts → AllMayDraft job parts
+all_judged job parts are k d low = let same : 0 + k ≡ k = omega arith in subst (λ i. MayDraft job i (slice_index_or parts k d)) same (each_judged job 0 parts k d are low)
+
+-- one more room
+pub one_room : (job : Job) (ps : List Part) (p : Part) → AreRooms job ps → AreDrafts job p.drafts → AreRooms job (ps ++ p ∷ [])
+one_room job [] p are is = (is, tt)
+one_room job (q ∷ ps) p are is = (are.0, one_room job ps p are.1 is)
 
 has_behind : (xs ys : List Draft) (p r : ℕ) (kind : Conflict) → HasDraft ys p r kind → HasDraft (xs ++ ys) p r kind
 has_behind xs ys p r kind h = record { k = length xs + h.k; draft = h.draft; there = get_after xs ys h.k ∙ h.there; first = h.first; second = h.second; kind_is = h.kind_is }

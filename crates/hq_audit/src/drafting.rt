@@ -59,6 +59,20 @@ impl Drafts {
         })
     }
 
+    /// No drafts, with room for a list of them, so that who adds them seldom asks for memory.
+    pub fn with_room(alloc: Global, before: &Before) -> Result<Drafts, AllocError>
+        ensures are { IfOk result (AreDrafts before.now) }
+        ensures empty { IfOk result (λ drafts. drafts_of drafts ≡ []) }
+    {
+        let needs = Needs::new(alloc, before)?;
+        Ok(Drafts {
+            full: Vec::new(alloc),
+            last: Vec::with_capacity(alloc, ROOM)?,
+            needs,
+            chained: false,
+        })
+    }
+
     /// Adds the draft of a pair line of p with r, and notes which lines it needs.
     #[inline(always)]
     fn push(&mut self, before: &Before, p: usize, r: usize, means: Means) -> Result<(), AllocError>

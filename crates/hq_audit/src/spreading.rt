@@ -1,18 +1,18 @@
 //! Drafts as pairs are judged in many threads.
 
-ghost use Rattle.std.specs.Prelude.{◌≡◌, ◌<◌, IfOk, IfSome, IsTrue, length};
+ghost use Rattle.std.specs.Prelude.{◌≡◌, ◌+◌, ◌<◌, ◌≤◌, IfOk, IfSome, IsTrue, OnOk, length};
 ghost use Rattle.hq_parts.specs.Parts.{AreParts};
 ghost use Rattle.hq_audit.specs.Drafted.{AreDrafts};
-ghost use Rattle.hq_audit.specs.Rowed.{DraftsRows, DraftsUpto, DraftsAll, MayDraft, AllMayDraft, start_of};
+ghost use Rattle.hq_audit.specs.Rowed.{DraftsRows, DraftsUpto, DraftsAll, MayDraft, AllMayDraft, AreJudged, AreRooms};
+ghost use Rattle.hq_audit.specs.Rowed.{start_of};
 
 use crate::drafting::Drafts;
 use crate::fault::AuditNo;
 use hq_model::PACKETS;
 use hq_order::Before;
 use hq_parts::Parts;
-use std::alloc::Global;
-use std::thread;
-use std::thread::Threads;
+use std::alloc::{AllocError, Global};
+use std::thread::{Threads, join_mut};
 
 /// In how many parts the packets are, whose pairs with those above them are judged in a thread of their own each.
 pub const PARTS: usize = 4;
@@ -32,93 +32,140 @@ fn start_of(before: &Before, k: usize) -> usize
     }
 }
 
-/// The drafts of the packets from one on, up to another, with those above them. The error says nothing of
-/// packets ahead of these.
+/// What comes of a part of the packets: drafts, and whether these are of all its pairs.
+#[derive(Drop)]
+pub struct Part {
+    drafts: Drafts,
+    whole: bool,
+}
+
+/// Adds the drafts of the packets from one on, up to another, with those above them. The error says nothing of packets
+/// ahead of these.
 fn draft_rows(
+    drafts: &mut Drafts,
     alloc: Global,
     before: &Before,
     parts: &Parts,
     from: usize,
     to: usize,
-) -> Result<Drafts, AuditNo>
-    requires { AreParts before.now parts.now }
-    ensures { IfOk result (DraftsRows before.now from to) }
+) -> Result<(), AuditNo>
+    requires are { AreDrafts before.now drafts.old }
+    requires parts { AreParts before.now parts.now }
+    ensures { OnOk result (DraftsRows before.now from to drafts.new) }
 {
-    let mut drafts = Drafts::new(alloc, before)?;
     for a in from..to.min(before.len()) {
         drafts.add_row(alloc, before, parts, a)?;
     }
-    Ok(drafts)
+    Ok(())
 }
 
-/// Those of part k, unless a pair of it isn't ordered, or there is no memory.
-fn draft_part(alloc: Global, before: &Before, parts: &Parts, k: usize) -> Option<Drafts>
-    requires parts { AreParts before.now parts.now }
-    requires few { k < PARTS }
-    ensures { MayDraft before.now k result }
-{
-    let (from, to) = (start_of(before, k), start_of(before, k + 1));
-    match draft_rows(alloc, before, parts, from, to) {
-        Ok(drafts) => Some(drafts),
-        Err(_) => None,
+impl Part {
+    /// Judges the pairs of part k, unless one of them isn't ordered, or there is no memory.
+    fn judge(&mut self, alloc: Global, before: &Before, parts: &Parts, k: usize)
+        requires are { AreDrafts before.now self.old.drafts }
+        requires parts { AreParts before.now parts.now }
+        requires few { k < PARTS }
+        ensures { MayDraft before.now k self.new }
+    {
+        let (from, to) = (start_of(before, k), start_of(before, k + 1));
+        self.whole = match draft_rows(&mut self.drafts, alloc, before, parts, from, to) {
+            Ok(()) => true,
+            Err(_) => false,
+        };
     }
 }
 
-/// Those of all parts, each in a thread of its own.
-fn draft_parts<R: Threads + Sync>(
+/// Room for what comes of each part: threads that asked for memory all at once would wait for one another.
+fn rooms(alloc: Global, before: &Before) -> Result<Vec<Part>, AllocError>
+    ensures are { IfOk result (λ rooms. AreRooms before.now rooms.items) }
+    ensures count { IfOk result (λ rooms. length rooms.items ≡ PARTS) }
+{
+    let mut rooms = Vec::with_capacity(alloc, PARTS)?;
+    for _part in 0..PARTS {
+        rooms.push(Part {
+            drafts: Drafts::with_room(alloc, before)?,
+            whole: false,
+        })?;
+    }
+    Ok(rooms)
+}
+
+/// Judges the pairs of these parts, of which the first is part k, each in a thread of its own. All threads are started
+/// here, and this one only waits: the first that is started may be given this thread's processor.
+#[cycle(parts)]
+fn judge_parts<R: Threads>(
     rt: &R,
     alloc: Global,
     before: &Before,
     parts: &Parts,
-) -> Option<Vec<Option<Drafts>>>
-    requires { AreParts before.now parts.now }
-    ensures each { IfSome result (λ all. AllMayDraft before.now all.items) }
-    ensures whole { IfSome result (λ all. length all.items ≡ PARTS) }
+    k: usize,
+    rooms: &mut [Part],
+)
+    requires parts { AreParts before.now parts.now }
+    requires are { AreRooms before.now rooms.old }
+    requires few { k + length rooms.old ≤ PARTS }
+    ensures judged { AreJudged before.now k rooms.new }
+    ensures count { length rooms.new ≡ length rooms.old }
 {
-    let drafted = thread::map_indices(
-        rt,
-        alloc,
-        PARTS,
-        &|k: usize| -> Option<Drafts>
-            requires { (k < PARTS) × AreParts before.now parts.now }
-            ensures { MayDraft before.entry.now k result }
-        { draft_part(alloc, before, parts, k) },
-    );
-    match drafted {
-        Ok(drafted) => Some(drafted),
-        Err(_) => None,
-    }
-}
-
-/// No drafts yet, if there is memory for them.
-fn no_drafts(alloc: Global, before: &Before) -> Option<Drafts>
-    ensures { IfSome result (AreDrafts before.now) }
-{
-    match Drafts::new(alloc, before) {
-        Ok(drafts) => Some(drafts),
-        Err(_) => None,
-    }
+    let Some((room, others)) = rooms.split_first_mut() else {
+        return;
+    };
+    let mut beside = ||
+        requires { AreParts before.now parts.now × AreDrafts before.now room.now.drafts × (k < PARTS) }
+        ensures { MayDraft before.entry.now k room.exit.now }
+    { room.judge(alloc, before, parts, k) };
+    let mut here = ||
+        requires { AreParts before.now parts.now × AreRooms before.now others.now
+            × (k + 1 + length others.now ≤ PARTS) }
+        ensures { AreJudged before.entry.now (k + 1) others.exit.now
+            × (length others.exit.now ≡ length others.entry.now) }
+    { judge_parts(rt, alloc, before, parts, k + 1, others) };
+    join_mut(rt, &mut beside, &mut here);
 }
 
 /// Takes over the drafts of all parts, one part behind another; answers whether all are there.
-fn join(alloc: Global, all: &mut Drafts, before: &Before, parts: &mut [Option<Drafts>]) -> bool
+fn join(alloc: Global, all: &mut Drafts, before: &Before, parts: &mut [Part]) -> bool
     requires parts { AllMayDraft before.now parts.old }
     requires are { AreDrafts before.now all.old }
     ensures { IsTrue result → DraftsUpto before.now (start_of before.now (length parts.old)) all.new }
 {
     for part in parts.iter_mut() {
-        let Some(drafts) = part else {
+        if !part.whole {
             return false;
-        };
-        let Ok(()) = all.join(alloc, before, drafts) else {
+        }
+        let Ok(()) = all.join(alloc, before, &mut part.drafts) else {
             return false;
         };
     }
     true
 }
 
+/// The drafts of all packets, judged in these rooms, unless a pair isn't ordered or there is no memory.
+fn draft_in<R: Threads>(
+    rt: &R,
+    alloc: Global,
+    before: &Before,
+    parts: &Parts,
+    rooms: &mut [Part],
+) -> Option<Drafts>
+    requires parts { AreParts before.now parts.now }
+    requires are { AreRooms before.now rooms.old }
+    requires count { length rooms.old ≡ PARTS }
+    ensures { IfSome result (DraftsAll before.now) }
+{
+    judge_parts(rt, alloc, before, parts, 0, rooms);
+    let Ok(mut all) = Drafts::new(alloc, before) else {
+        return None;
+    };
+    if join(alloc, &mut all, before, rooms) {
+        Some(all)
+    } else {
+        None
+    }
+}
+
 /// The drafts of all packets, unless a pair isn't ordered or there is no memory.
-pub fn draft_wide<R: Threads + Sync>(
+pub fn draft_wide<R: Threads>(
     rt: &R,
     alloc: Global,
     before: &Before,
@@ -127,11 +174,8 @@ pub fn draft_wide<R: Threads + Sync>(
     requires { AreParts before.now parts.now }
     ensures { IfSome result (DraftsAll before.now) }
 {
-    let mut drafted = draft_parts(rt, alloc, before, parts)?;
-    let mut all = no_drafts(alloc, before)?;
-    if join(alloc, &mut all, before, &mut drafted) {
-        Some(all)
-    } else {
-        None
+    match rooms(alloc, before) {
+        Ok(mut rooms) => draft_in(rt, alloc, before, parts, &mut rooms),
+        Err(_) => None,
     }
 }

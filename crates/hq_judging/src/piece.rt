@@ -90,8 +90,8 @@ pub fn pieces_from(
     Ok(pieces)
 }
 
-/// Prints pieces that begin here, the last one in this thread and each other in one of its own. All threads are started
-/// here.
+/// Prints pieces that begin here, each in a thread of its own. All threads are started here, and this one only waits: the
+/// first that is started may be given this thread's processor.
 #[cycle(pieces)]
 pub fn print_pieces<R: Threads>(
     rt: &R,
@@ -111,10 +111,6 @@ pub fn print_pieces<R: Threads>(
         return;
     };
     let to = piece.to;
-    if others.is_empty() {
-        piece.print(alloc, job, audited, from, many);
-        return;
-    }
     let mut beside = ||
         requires { IsAudited (plan job.now) audited.now × (chained_in audited.now ≡ false)
             × Leads audited.now from piece.now.to }

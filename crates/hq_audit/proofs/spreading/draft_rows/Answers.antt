@@ -5,7 +5,7 @@ use Rattle.hq_audit.proofs.spreading.draft_rows.Goals as goal
 
 pub loop-a-init : goal.loop-a-init
 loop-a-init c = record {
-  are = c.in_ok-drafts.ensures.are;
+  are = c.requires.are;
   paired = λ q s low upto above is. absurd (omega (arith, low, upto));
   shown = λ q s low upto above is. absurd (omega (arith, low, upto));
 }

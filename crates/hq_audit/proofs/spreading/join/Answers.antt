@@ -1,7 +1,8 @@
-use Rattle.std.proofs.Common.{◌≡◌, ◌+◌, ◌<◌, ◌∙◌, refl, subst, length, arith, rules, slice_index_or, Some}
+use Rattle.std.proofs.Common.{◌≡◌, ◌+◌, ◌<◌, ◌∙◌, refl, sym, subst, length, arith, slice_index_or}
 use Rattle.std.proofs.lemmas.List.{length-set, get_or-set_other}
-use Rattle.hq_audit.specs.Rowed.{DraftsUpto, start_of}
-use Rattle.hq_audit.proofs.Rowing.{part_drafted, upto_none, upto_joined}
+use Rattle.hq_audit.specs.declared.spreading.Part.{Part}
+use Rattle.hq_audit.specs.Rowed.{DraftsUpto, MayDraft, start_of}
+use Rattle.hq_audit.proofs.Rowing.{upto_none, upto_joined}
 use Rattle.hq_audit.proofs.spreading.join.Goals as goal
 
 pub loop-part-preserved : goal.loop-part-preserved
@@ -10,17 +11,16 @@ loop-part-preserved c =
     let now = c.loop-part.parts in
     let first = c.args.parts.now in
     let i = c.loop-part.part-index in
-    let item = c.part-item.result in
+    let d = c.part-item.result in
     let inv = c.loop-part.invariant in
-    let d = c.in-Some.drafts in
+    let item = slice_index_or now i d in
+    let left : Part = record { drafts = c.join.new.others; whole = item.whole } in
     let low : i < length first = omega (arith, c.loop-part-test.true, inv.len) in
-    let is : item ≡ slice_index_or now i item = search rules in
-    let some : item ≡ Some d = search rules in
-    let rows = part_drafted job first now i item d c.requires.parts low is (inv.rest i item (omega arith)) some in
+    let may : MayDraft job i item = subst (MayDraft job i) (sym (inv.rest i d (omega arith))) (c.requires.parts i d low) in
     record {
-      len = length-set now i (Some c.join.new.others) ∙ inv.len;
-      rest = λ k e above. get_or-set_other now i k (Some c.join.new.others) e (λ e. omega (arith, e, above)) ∙ inv.rest k e (omega (arith, above));
-      upto = upto_joined job (start_of job i) (start_of job (i + 1)) c.loop-part.all d c.join.new.self inv.upto rows c.in-Ok.ensures;
+      len = length-set now i left ∙ inv.len;
+      rest = λ k e above. get_or-set_other now i k left e (λ e. omega (arith, e, above)) ∙ inv.rest k e (omega (arith, above));
+      upto = upto_joined job (start_of job i) (start_of job (i + 1)) c.loop-part.all item.drafts c.join.new.self inv.upto (may c.if-not-part.false) c.in-Ok.ensures;
     }
 
 pub loop-part-init : goal.loop-part-init
