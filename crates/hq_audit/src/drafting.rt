@@ -64,13 +64,9 @@ impl Drafts {
         ensures are { IfOk result (AreDrafts before.now) }
         ensures empty { IfOk result (λ drafts. drafts_of drafts ≡ []) }
     {
-        let needs = Needs::new(alloc, before)?;
-        Ok(Drafts {
-            full: Vec::new(alloc),
-            last: Vec::with_capacity(alloc, ROOM)?,
-            needs,
-            chained: false,
-        })
+        let mut drafts = Drafts::new(alloc, before)?;
+        drafts.last.reserve(ROOM)?;
+        Ok(drafts)
     }
 
     /// Adds the draft of a pair line of p with r, and notes which lines it needs.
@@ -280,6 +276,15 @@ impl Drafts {
         self.add_others(before, parts, a)
     }
 
+    /// What the lines rest on that the drafts need is needed too.
+    pub fn close(&mut self, before: &Before)
+        requires { AreDrafts before.now self.old }
+        ensures are { AreDrafts before.now self.new }
+        ensures same { drafts_of self.new ≡ drafts_of self.old }
+    {
+        self.needs.close(before);
+    }
+
     /// Takes over the drafts of others, and what these need; the drafts stand behind those that are there.
     pub fn join(
         &mut self,
@@ -310,7 +315,7 @@ impl Drafts {
     }
 }
 
-/// The drafts of all packets. The error is the first two packets that aren't ordered, or that there is no memory.
+/// The drafts of all packets, with all lines noted that they need and rest on. The error is the first two packets that aren't ordered, or that there is no memory.
 pub fn draft_all(alloc: Global, before: &Before, parts: &Parts) -> Result<Drafts, AuditNo>
     requires parts { AreParts before.now parts.now }
     ensures all { IfOk result (DraftsAll before.now) }
@@ -320,5 +325,6 @@ pub fn draft_all(alloc: Global, before: &Before, parts: &Parts) -> Result<Drafts
     for a in 0..before.len() {
         drafts.add_row(alloc, before, parts, a)?;
     }
+    drafts.close(before);
     Ok(drafts)
 }

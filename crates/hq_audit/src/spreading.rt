@@ -39,8 +39,8 @@ pub struct Part {
     whole: bool,
 }
 
-/// Adds the drafts of the packets from one on, up to another, with those above them. The error says nothing of packets
-/// ahead of these.
+/// Adds the drafts of the packets from one on, up to another, with those above them, and notes what the lines rest on
+/// that they need. The error says nothing of packets ahead of these.
 fn draft_rows(
     drafts: &mut Drafts,
     alloc: Global,
@@ -56,6 +56,7 @@ fn draft_rows(
     for a in from..to.min(before.len()) {
         drafts.add_row(alloc, before, parts, a)?;
     }
+    drafts.close(before);
     Ok(())
 }
 
@@ -68,10 +69,7 @@ impl Part {
         ensures { MayDraft before.now k self.new }
     {
         let (from, to) = (start_of(before, k), start_of(before, k + 1));
-        self.whole = match draft_rows(&mut self.drafts, alloc, before, parts, from, to) {
-            Ok(()) => true,
-            Err(_) => false,
-        };
+        self.whole = draft_rows(&mut self.drafts, alloc, before, parts, from, to).is_ok();
     }
 }
 

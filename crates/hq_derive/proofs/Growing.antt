@@ -1,5 +1,5 @@
 -- Lines that hold go on holding as lines are added.
-use Rattle.std.proofs.Common.{ℕ, ◌+◌, ◌*◌, ◌<◌, ◌≤◌, List, [], ◌∷◌, ◌++◌, length, ◌∙◌, arith, Option, Some, None, length-append}
+use Rattle.std.proofs.Common.{ℕ, ◌≡◌, ◌+◌, ◌*◌, ◌/◌, ◌%◌, ◌<◌, ◌≤◌, subst, List, [], ◌∷◌, ◌++◌, length, ◌∙◌, arith, Option, Some, None, length-append}
 use Rattle.std.specs.List.{AllZip}
 use Rattle.std.proofs.lemmas.Option.{slice_get_within}
 use Rattle.hq_job.proofs.Grouped.{get_before}
@@ -7,7 +7,7 @@ use Rattle.hq_model.specs.Job.{Job, packet, Decrements}
 use Rattle.hq_model.specs.Certificate.{Line, Rule, Says, Cites, Follows, signals}
 use Rattle.hq_model.specs.Certificate.Rule.{Bit, Queue, And, Or, Through}
 use Rattle.hq_derive.specs.declared.ranks.Ranks.{Ranks}
-use Rattle.hq_derive.specs.Gathered.{Grown, InitialThere}
+use Rattle.hq_derive.specs.Gathered.{Grown, InitialThere, IsInitial}
 use Rattle.hq_derive.specs.Needed.{HasLine, IsNumber, WordThere}
 
 pub grown_same : (lines : List Line) → Grown lines lines
@@ -45,6 +45,13 @@ word_more old new p word first g there = λ bit low is. has_more old new p (firs
 
 pub initial_grown : (old new : List Line) (ranks : Ranks) → Grown old new → InitialThere old ranks → InitialThere new ranks
 initial_grown old new ranks g there = λ p k place is. word_more old new p place.initial (k * 64) g (there p k place is)
+
+-- where the line that p is before r is noted as one of round 0, it is there
+pub initial_line : (lines : List Line) (ranks : Ranks) (p r : ℕ) → InitialThere lines ranks → IsInitial ranks p r → HasLine lines p r
+initial_line lines ranks p r there is =
+    let here : r / 64 * 64 + r % 64 ≡ r = omega arith in
+    let low : r % 64 < 64 = omega arith in
+    subst (HasLine lines p) here (there p (r / 64) is.0 is.1 (r % 64) low is.2)
 
 pub cites_more : (old new : List Line) (a b : ℕ) (c : Option ℕ) (p r : ℕ) → Grown old new → a ≤ b → Cites old a c p r → Cites new b c p r
 cites_more old new a b None p r g l s = s

@@ -1,5 +1,6 @@
 -- What is known of lines as they are gathered.
-use Rattle.std.specs.Prelude.{◌≡◌, ℕ, ◌+◌, ◌*◌, ◌^◌, ◌<◌, ◌≤◌, List, length, Some, slice_get}
+use Rattle.std.specs.Prelude.{◌≡◌, ℕ, ◌+◌, ◌*◌, ◌/◌, ◌%◌, ◌^◌, ◌<◌, ◌≤◌, List, length, Some, slice_get}
+use Rattle.std.specs.Int.{bit_at}
 use Rattle.std.specs.List.{AllZip}
 use Rattle.hq_cert.specs.declared.certificate.Rule.{Rule}
 use Rattle.hq_cert.specs.declared.citation.Citation.{Citation}
@@ -36,6 +37,10 @@ pub record IsRowOf (ranks : Ranks) (p : ℕ) (row : List Place) : Type 0 where
 -- the place of its word k
 abbrev pub IsPlaceOf : Ranks → ℕ → ℕ → Place → Type 0
 IsPlaceOf ranks p k place = (row : List Place) × IsRowOf ranks p row × (slice_get row k ≡ Some place)
+
+-- the line that p is before r is noted as one of round 0
+abbrev pub IsInitial : Ranks → ℕ → ℕ → Type 0
+IsInitial ranks p r = (place : Place) × IsPlaceOf ranks p (r / 64) place × (bit_at place.initial (r % 64) ≡ 1)
 
 -- there is a line for each that is noted as one of round 0
 abbrev pub InitialThere : List model.Line → Ranks → Type 0

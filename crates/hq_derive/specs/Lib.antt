@@ -1,5 +1,4 @@
 pub mod Short
 pub mod Rests
-pub mod Derived
 pub mod Gathered
 pub mod Needed

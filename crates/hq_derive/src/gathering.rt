@@ -1,8 +1,7 @@
 //! A line for each that is needed.
 
-ghost use Rattle.std.specs.Prelude.{All, IfOk, IsTrue, OnOk, Some, length, slice_get, ◌≡◌, ◌+◌, ◌*◌, ◌<◌, ◌≤◌, ℕ};
+ghost use Rattle.std.specs.Prelude.{IfOk, IsTrue, OnOk, Some, length, slice_get, ◌≡◌, ◌+◌, ◌*◌, ◌<◌, ◌≤◌, ℕ};
 ghost use Rattle.hq_model.specs.Job.{IsPacket};
-ghost use Rattle.hq_derive.specs.Derived.{AllDerived, IsDerived};
 ghost use Rattle.hq_derive.specs.Gathered.{lines_of, AreSound, Goes, InitialThere};
 ghost use Rattle.hq_derive.specs.Needed.{AllThere, HasLine, HasRoom, WordThere};
 
@@ -10,9 +9,9 @@ use crate::grounds::rule_alone;
 use crate::lines::Lines;
 use crate::needs::Needs;
 use crate::ranks::{Place, Ranks};
-use crate::resting::{Derivations, Derived, derive_all};
 use hq_bits::{WIDTH, WORDS, lowest, without};
 use hq_order::Before;
+use hq_packet::Packet;
 use std::alloc::{AllocError, Global};
 
 /// Adds the line that p is before r; answers whether that is so.
@@ -133,94 +132,135 @@ fn add_initial(
     Ok(true)
 }
 
-/// Adds a line that is derived.
-fn add_line(
+/// Adds the line that p is before r, if that is so through another packet, by lower rounds.
+#[inline(always)]
+fn add_through(
     lines: &mut Lines,
     alloc: Global,
     before: &Before,
     round: usize,
-    line: Derived,
+    p: usize,
+    r: usize,
 ) -> Result<(), AllocError>
     requires kept { AreSound before.now lines.old }
-    requires derived { IsDerived before.now round line }
+    requires p_is { IsPacket before.now p }
     ensures { OnOk result (Goes before.now lines.old lines.new) }
 {
-    let (p, r) = (line.p as usize, line.r as usize);
-    match line.middle {
-        Some(m) => {
-            lines.between(alloc, before, round, p, m as usize, r)?;
-        }
-        None => {
+    if let Some(m) = before.between(round, p, r) {
+        lines.between(alloc, before, round, p, m, r)?;
+    }
+    Ok(())
+}
+
+/// Adds the line that p is before r, if that comes in this round.
+#[inline(always)]
+fn add_later(
+    lines: &mut Lines,
+    alloc: Global,
+    before: &Before,
+    round: usize,
+    p: usize,
+    r: usize,
+) -> Result<(), AllocError>
+    requires kept { AreSound before.now lines.old }
+    requires p_is { IsPacket before.now p }
+    ensures { OnOk result (Goes before.now lines.old lines.new) }
+{
+    if r >= before.len() {
+        return Ok(());
+    }
+    match before.job().packet(r).packet {
+        Packet::Or(_) => {
             add_by_round(lines, alloc, before, p, r)?;
+            Ok(())
+        }
+        _ => add_through(lines, alloc, before, round, p, r),
+    }
+}
+
+/// Does so for each packet r of a word; the word's first bit is that of packet `first`.
+fn add_later_word(
+    lines: &mut Lines,
+    alloc: Global,
+    before: &Before,
+    round: usize,
+    p: usize,
+    word: u64,
+    first: usize,
+) -> Result<(), AllocError>
+    requires first { first + 64 ≤ WIDTH }
+    requires kept { AreSound before.now lines.old }
+    requires p_is { IsPacket before.now p }
+    ensures { OnOk result (Goes before.now lines.old lines.new) }
+{
+    let mut rest = word;
+    'each: while rest != 0 {
+        let bit = lowest(rest);
+        add_later(lines, alloc, before, round, p, first + bit)?;
+        rest = without(rest, bit);
+    }
+    Ok(())
+}
+
+/// Adds the needed lines that p is before others, of those that come first in this round.
+fn add_later_row(
+    lines: &mut Lines,
+    alloc: Global,
+    before: &Before,
+    round: usize,
+    p: usize,
+    needed: &[u64],
+) -> Result<(), AllocError>
+    requires few { length needed.now ≤ WORDS }
+    requires kept { AreSound before.now lines.old }
+    requires p_is { IsPacket before.now p }
+    ensures { OnOk result (Goes before.now lines.old lines.new) }
+{
+    for (place, word) in needed.iter().enumerate() {
+        if *word != 0 {
+            let fresh = *word & before.fresh(round, p, place);
+            add_later_word(lines, alloc, before, round, p, fresh, place * 64)?;
         }
     }
     Ok(())
 }
 
-/// Adds the derived lines of a round.
-fn add_derived(
+/// Adds the needed lines that come first in this round.
+fn add_round(
     lines: &mut Lines,
     alloc: Global,
     before: &Before,
     round: usize,
-    derived: &[Derived],
+    needs: &Needs,
 ) -> Result<(), AllocError>
-    requires kept { AreSound before.now lines.old }
-    requires derived { All (IsDerived before.now round) derived.now }
+    requires { AreSound before.now lines.old }
     ensures { OnOk result (Goes before.now lines.old lines.new) }
 {
-    for line in derived {
-        add_line(lines, alloc, before, round, *line)?;
+    for p in 0..before.len() {
+        add_later_row(lines, alloc, before, round, p, needs.row(p))?;
     }
     Ok(())
 }
 
-/// Adds those of all rounds, of which the first one stands last.
+/// Adds the needed lines of all rounds but round 0.
 fn add_rounds(
     lines: &mut Lines,
     alloc: Global,
     before: &Before,
-    rounds: &[Derivations],
+    needs: &Needs,
 ) -> Result<(), AllocError>
-    requires kept { AreSound before.now lines.old }
-    requires derived { All (AllDerived before.now) rounds.now }
+    requires { AreSound before.now lines.old }
     ensures { OnOk result (Goes before.now lines.old lines.new) }
 {
-    for behind in 0..rounds.len() {
-        let derived = &rounds[rounds.len() - 1 - behind];
-        add_derived(lines, alloc, before, derived.round, &derived.lines)?;
+    for round in 1..before.rounds() {
+        add_round(lines, alloc, before, round, needs)?;
     }
     Ok(())
 }
 
-/// The needed lines, by these ranks, and those that are derived; `needs` are to be among them.
-fn lines_by(
-    alloc: Global,
-    before: &Before,
-    ranks: Ranks,
-    rounds: &[Derivations],
-    needs: &Needs,
-) -> Result<Lines, AllocError>
-    requires room { HasRoom before.now needs.now }
-    requires derived { All (AllDerived before.now) rounds.now }
-    ensures sound { IfOk result (AreSound before.now) }
-    ensures there { IfOk result (λ lines. AllThere needs.now (lines_of lines)) }
-{
-    let mut lines = Lines::new(alloc, before, ranks.initial(), ranks.later())?;
-    if !add_initial(&mut lines, alloc, before, &ranks)? {
-        return Err(AllocError);
-    }
-    lines.number_by(ranks);
-    add_rounds(&mut lines, alloc, before, rounds)?;
-    if lines.has_all(before, needs) {
-        Ok(lines)
-    } else {
-        Err(AllocError)
-    }
-}
-
-/// The lines that are needed, and those that they rest on: by round, then by the first packet, then by the second. That
-/// they stand so, and that there are no others, isn't promised.
+/// A line for each that is needed: by round, then by the first packet, then by the second, where `Needs::close` noted
+/// what they rest on too. What isn't noted goes ahead of the first line that cites it. That the lines stand so, and
+/// that there are no others, isn't promised.
 ///
 /// # Errors
 ///
@@ -230,13 +270,16 @@ pub fn lines_for(alloc: Global, before: &Before, needs: &Needs) -> Result<Lines,
     ensures sound { IfOk result (AreSound before.now) }
     ensures there { IfOk result (λ lines. AllThere needs.now (lines_of lines)) }
 {
-    if before.rounds() < 2 {
-        // no line rests on others
-        let ranks = Ranks::new(alloc, before, needs)?;
-        return lines_by(alloc, before, ranks, &[], needs);
+    let ranks = Ranks::new(alloc, before, needs)?;
+    let mut lines = Lines::new(alloc, before, ranks.initial(), ranks.later())?;
+    if !add_initial(&mut lines, alloc, before, &ranks)? {
+        return Err(AllocError);
     }
-    let mut all = needs.copied(alloc)?;
-    let rounds = derive_all(alloc, &mut all, before)?;
-    let ranks = Ranks::new(alloc, before, &all)?;
-    lines_by(alloc, before, ranks, &rounds, needs)
+    lines.number_by(ranks);
+    add_rounds(&mut lines, alloc, before, needs)?;
+    if lines.has_all(alloc, before, needs)? {
+        Ok(lines)
+    } else {
+        Err(AllocError)
+    }
 }

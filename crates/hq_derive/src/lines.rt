@@ -85,7 +85,8 @@ impl Lines {
 
     /// How many lines there are.
     pub fn len(&self) -> usize
-        ensures { result ≡ length (lines_of self.now) }
+        ensures is { result ≡ length (lines_of self.now) }
+        ensures small { result < 2 ^ 32 }
     {
         self.lines.len()
     }
@@ -187,12 +188,21 @@ impl Lines {
     }
 
     /// Whether each line is there that is noted as needed. Those of round 0 are.
-    pub(crate) fn has_all(&self, before: &Before, needs: &Needs) -> bool
+    ///
+    /// # Errors
+    ///
+    /// `AllocError` where there is no memory.
+    pub(crate) fn has_all(
+        &self,
+        alloc: Global,
+        before: &Before,
+        needs: &Needs,
+    ) -> Result<bool, AllocError>
         requires initial { InitialThere (lines_of self.now) self.now.ranks }
         requires room { HasRoom before.now needs.now }
-        ensures { IsTrue result → AllThere needs.now (lines_of self.now) }
+        ensures { IfOk result (λ are. IsTrue are → AllThere needs.now (lines_of self.now)) }
     {
-        are_there(self, &self.ranks, before, needs)
+        are_there(alloc, self, &self.ranks, before, needs)
     }
 
     /// The number of a line that is there, which says that p is before r.

@@ -1,11 +1,11 @@
 //! Which lines a certificate needs.
 
-ghost use Rattle.std.specs.Prelude.{◌≡◌, ℕ, ◌+◌, ◌*◌, ◌/◌, ◌<◌, ◌≤◌, IfOk, IsTrue, false, length};
+ghost use Rattle.std.specs.Prelude.{◌≡◌, ℕ, ◌+◌, ◌*◌, ◌/◌, ◌<◌, ◌≤◌, ◌⊎◌, IfOk, IsTrue, false, length, slice_index};
 ghost use Rattle.hq_bits.specs.Bits.{has};
 ghost use Rattle.hq_model.specs.Job.{IsPacket};
 ghost use Rattle.hq_derive.specs.Needed.{IsNeeded, HasRoom, Widens};
 
-use hq_bits::{WIDTH, WORDS, column_of, unite};
+use hq_bits::{WIDTH, WORDS, column_of, unite, word_at};
 use hq_order::Before;
 use std::alloc::{AllocError, Global};
 
@@ -42,17 +42,11 @@ impl Needs {
     ///
     /// `AllocError` where there is no memory.
     pub fn new(alloc: Global, before: &Before) -> Result<Needs, AllocError>
-        ensures { IfOk result (HasRoom before.now) }
+        ensures room { IfOk result (HasRoom before.now) }
+        ensures none { IfOk result (λ needs. (p r : ℕ) → IsNeeded needs p r → ⊥) }
     {
         before.job().valid();
         let bits = vec![in alloc; 0; before.len() * WORDS]?;
-        Ok(Needs { bits })
-    }
-
-    /// The same once more.
-    pub(crate) fn copied(&self, alloc: Global) -> Result<Needs, AllocError> {
-        let mut bits = Vec::new(alloc);
-        bits.extend_from_slice(&self.bits)?;
         Ok(Needs { bits })
     }
 
@@ -81,11 +75,10 @@ impl Needs {
 
     /// The bits at a place, or none where there is no such place.
     #[inline(always)]
-    pub(crate) fn word(&self, place: usize) -> u64 {
-        match self.bits.get(place) {
-            Some(word) => *word,
-            None => 0,
-        }
+    pub(crate) fn word(&self, place: usize) -> u64
+        ensures { result ≡ slice_index self.now.bits.items place }
+    {
+        word_at(&self.bits, place)
     }
 
     /// A line that p is before r is needed.
@@ -107,6 +100,8 @@ impl Needs {
         ensures still { (n : ℕ) → IsTrue (has self.old.bits.items n) → IsTrue (has self.new.bits.items n) }
         ensures noted { p < WIDTH → r < WIDTH → (p * WIDTH + r) / 64 < length self.old.bits.items
             → IsTrue (has self.new.bits.items (p * WIDTH + r)) }
+        ensures only { p < WIDTH → r < WIDTH → (n : ℕ) → IsTrue (has self.new.bits.items n)
+            → IsTrue (has self.old.bits.items n) ⊎ (n ≡ p * WIDTH + r) }
     {
         if let Some(word) = self.bits.get_mut(place_of(p, r)) {
             *word |= 1 << (r % 64);

@@ -53,13 +53,22 @@ impl Told<'_> {
         }
     }
 
+    /// The packet that it says is before another, and that one.
+    #[inline(always)]
+    pub fn packets(&self) -> (usize, usize)
+        ensures { (result.0 ≡ (told self.now).p) × (result.1 ≡ (told self.now).r) }
+    {
+        let line = self.line();
+        (line.p as usize, line.r as usize)
+    }
+
     /// Whether it says that p is before r.
     #[inline(always)]
     pub fn says(&self, p: usize, r: usize) -> bool
         ensures { IsTrue result ↔ (((told self.now).p ≡ p) × ((told self.now).r ≡ r)) }
     {
-        let line = self.line();
-        line.p as usize == p && line.r as usize == r
+        let (first, second) = self.packets();
+        first == p && second == r
     }
 
     /// The line, for good.

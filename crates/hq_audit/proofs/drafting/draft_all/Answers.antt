@@ -1,5 +1,6 @@
-use Rattle.std.proofs.Common.{◌<◌, length, arith}
+use Rattle.std.proofs.Common.{◌<◌, length, arith, subst, sym}
 use Rattle.hq_audit.specs.Drafted.{drafts_of}
+use Rattle.hq_audit.specs.Paired.{AllPaired}
 use Rattle.hq_audit.specs.Refused.{IsFirstOfRow, IsFirstUnshown}
 use Rattle.hq_audit.proofs.Pairing.{rows_paired_next}
 use Rattle.hq_audit.proofs.Rowing.{upto_none}
@@ -23,9 +24,11 @@ pub returns-clause-all : goal.returns-clause-all
 returns-clause-all c =
     let over = c.loop-a-test.false in
     let count = c.len-a-end.ensures in
+    let job = c.args.before.now in
     record {
-      are = c.loop-a.invariant.are;
-      paired = λ q s above is. let low : s < length c.args.before.now.packets = is in c.loop-a.invariant.paired q s (omega arith) above is;
+      are = c.close.ensures.are;
+      paired = subst (AllPaired job) (sym c.close.ensures.same)
+          (λ q s above is. let low : s < length job.packets = is in c.loop-a.invariant.paired q s (omega arith) above is);
       shown = λ q s above is. let low : s < length c.args.before.now.packets = is in c.loop-a.invariant.shown q s (omega arith) above is;
     }
 

@@ -1,5 +1,6 @@
-use Rattle.std.proofs.Common.{◌≡◌, ◌<◌, min, length, arith, rules}
+use Rattle.std.proofs.Common.{◌≡◌, ◌<◌, min, length, arith, rules, subst, sym}
 use Rattle.hq_audit.specs.Drafted.{drafts_of}
+use Rattle.hq_audit.specs.Rowed.{RowsBetween}
 use Rattle.hq_audit.proofs.Rowing.{rows_next, shown_next}
 use Rattle.hq_audit.proofs.spreading.draft_rows.Goals as goal
 
@@ -25,8 +26,10 @@ returns c =
     let over = c.loop-a-test.false in
     let end : c.min-a-end.result ≡ min c.args.to c.len.result = search rules in
     let count = c.len.ensures in
+    let job = c.args.before.now in
     record {
-      are = c.loop-a.invariant.are;
-      paired = λ q s low upto above is. let within : s < length c.args.before.now.packets = is in c.loop-a.invariant.paired q s low (omega arith) above is;
+      are = c.close.ensures.are;
+      paired = subst (λ drafts. RowsBetween job drafts c.args.from c.args.to) (sym c.close.ensures.same)
+          (λ q s low upto above is. let within : s < length job.packets = is in c.loop-a.invariant.paired q s low (omega arith) above is);
       shown = λ q s low upto above is. let within : s < length c.args.before.now.packets = is in c.loop-a.invariant.shown q s low (omega arith) above is;
     }
