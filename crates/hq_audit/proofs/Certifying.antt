@@ -1,5 +1,5 @@
 -- The certificate holds, and what an ordered job isn't refused for.
-use Rattle.std.proofs.Common.{◌≡◌, ℕ, ◌<◌, ◌⊎◌, inl, inr, List, refl, sym, subst, Result, Ok, Err}
+use Rattle.std.proofs.Common.{◌≡◌, ℕ, ◌<◌, ◌⊎◌, inl, inr, List, refl, sym, ap, ◌∙◌, subst, Result, Ok, Err}
 use Rattle.std.specs.Prelude.{IfErr}
 use Rattle.std.specs.Result.{IsErrAnd}
 use Rattle.hq_schedule.specs.Faults.{StuckWhereSo}
@@ -12,16 +12,39 @@ use Rattle.hq_model.specs.Fence.{Conflict, Conflicts, Ordered}
 use Rattle.hq_model.specs.Fence.Conflict.{WriteRead, WriteWrite, ReadWrite}
 use Rattle.hq_model.specs.Certificate as model
 use Rattle.hq_model.specs.Certificate.{Certificate, CertHolds, LinesHold, HasPairs}
+use Rattle.hq_derive.specs.declared.lines.Lines.{Lines}
+use Rattle.hq_derive.specs.Gathered.{lines_of, AreSound}
+use Rattle.hq_derive.specs.Needed.{AllThere, HasLine, IsNeeded}
+use Rattle.hq_audit.specs.declared.drafting.Drafts.{Drafts}
+use Rattle.hq_audit.specs.Drafted.{AllDrafts, any_chained, drafts_of}
+use Rattle.hq_audit.specs.Rowed.{DraftsAll}
+use Rattle.hq_audit.proofs.Resting.{drafts_more}
 use Rattle.hq_audit.specs.declared.fault.AuditNo.{AuditNo}
 use Rattle.hq_audit.specs.declared.fault.AuditNo.TheVariants as audit
 use Rattle.hq_audit.specs.declared.directed.Unshown.{Unshown}
 use Rattle.hq_audit.specs.declared.audited.Audited.{Audited}
 use Rattle.hq_audit.specs.declared.draft.Draft.{Draft}
-use Rattle.hq_audit.specs.Audited.{order_in, lines_in, drafts_in, IsAudited}
+use Rattle.hq_audit.specs.Audited.{order_in, lines_in, drafts_in, IsAudited, IsMadeOf}
 use Rattle.hq_audit.specs.Paired.{HasAll, AllPaired, ArePairsOf}
 use Rattle.hq_audit.proofs.Numbering.{all_hold, has_pair}
 use Rattle.hq_audit.specs.Refused.{IsUnshown, AllShown, IsFirstUnshown, IsRefused, AllRefused, no_of_order}
 use Rattle.hq_audit.specs.Lawful.{OrderedIsNotRefused}
+
+-- ---- what is made of lines, drafts and an order
+
+pub audited_is : (job : Job) (lines : Lines) (drafts : Drafts) (order : List ℕ) (a : Audited) → OrderList job order → DraftsAll job drafts → AreSound job lines → AllThere drafts.needs (lines_of lines)
+    → IsMadeOf lines drafts order a → IsAudited job a
+audited_is job lines drafts order a o all sound there made =
+    let known = HasLine (lines_of lines) in
+    let same : drafts_of drafts ≡ drafts_in a = sym made.drafts in
+    let each : AllDrafts job known (drafts_of drafts) = drafts_more (IsNeeded drafts.needs) known there job (drafts_of drafts) all.are.each in
+    record {
+      order = subst (OrderList job) (sym made.order) o;
+      sound = subst (AreSound job) (sym made.lines) sound;
+      each = subst (λ (l : Lines). AllDrafts job (HasLine (lines_of l)) (drafts_in a)) (sym made.lines) (subst (AllDrafts job known) same each);
+      paired = subst (AllPaired job) same all.paired;
+      chained = made.chained ∙ all.are.chained ∙ ap any_chained same;
+    }
 
 -- ---- the certificate
 

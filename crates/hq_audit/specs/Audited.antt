@@ -4,12 +4,14 @@ use Rattle.std.specs.Global.{Vec}
 use Rattle.hq_model.specs.Job.{Job}
 use Rattle.hq_model.specs.Order.{OrderList}
 use Rattle.hq_model.specs.Certificate as model
+use Rattle.hq_derive.specs.declared.lines.Lines.{Lines}
 use Rattle.hq_derive.specs.Gathered.{lines_of, AreSound}
 use Rattle.hq_derive.specs.Needed.{HasLine}
 use Rattle.hq_audit.specs.declared.audited.Audited.{Audited}
 use Rattle.hq_audit.specs.declared.draft.Draft.{Draft}
+use Rattle.hq_audit.specs.declared.drafting.Drafts.{Drafts}
 use Rattle.hq_audit.specs.declared.packed.Packed.{Packed}
-use Rattle.hq_audit.specs.Drafted.{AllDrafts, seen, listed, any_chained}
+use Rattle.hq_audit.specs.Drafted.{AllDrafts, drafts_of, seen, listed, any_chained}
 use Rattle.hq_audit.specs.Paired.{AllPaired, IsPairOf, IsPlain}
 
 -- the order list
@@ -40,6 +42,13 @@ list_in a i = if_there (slice_get (lists_in a) i)
 -- whether one is chained
 abbrev pub chained_in : Audited → Bool
 chained_in a = a.chained
+
+-- It has these lines, these drafts and this order.
+pub record IsMadeOf (l : Lines) (d : Drafts) (o : List ℕ) (a : Audited) : Type 0 where
+  pub order : order_in a ≡ o
+  pub lines : a.lines ≡ l
+  pub drafts : drafts_in a ≡ drafts_of d
+  pub chained : chained_in a ≡ d.chained
 
 -- Its order is an order list, each line follows from lines of lower number, each draft is right and what it rests on
 -- are lines that are there, each pair that conflicts has its drafts in one direction, and it is told whether a draft

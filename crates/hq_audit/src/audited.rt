@@ -8,9 +8,8 @@ ghost use Rattle.hq_cert.specs.View.{pair_of};
 ghost use Rattle.hq_derive.specs.Short.{told};
 ghost use Rattle.hq_parts.specs.Parts.{AreParts};
 ghost use Rattle.hq_audit.specs.Free.{NoneConflict};
-ghost use Rattle.hq_audit.specs.Audited.{order_in, lines_in, lists_in, list_in, chained_in, IsAudited, IsPairAt};
+ghost use Rattle.hq_audit.specs.Audited.{order_in, lines_in, lists_in, list_in, chained_in, IsAudited, IsMadeOf, IsPairAt};
 ghost use Rattle.hq_audit.specs.Refused.{AllRefused, AllShown};
-ghost use Rattle.hq_audit.specs.Rowed.{DraftsAll};
 
 use crate::citing::{cite_all, plain_pair};
 use crate::draft::Draft;
@@ -156,18 +155,15 @@ pub fn audited_free(
     }))
 }
 
-/// What an audit finds of a job that has this order list, whose drafts these are.
-pub fn audited_of(
+/// What is made of these lines, these drafts and this order list.
+pub fn audited_from(
     alloc: Global,
-    before: &Before,
+    lines: Lines,
     drafts: Drafts,
     order: &[u16],
 ) -> Result<Audited, AllocError>
-    requires order { OrderList before.now order.now }
-    requires all { DraftsAll before.now drafts }
-    ensures { IfOk result (IsAudited before.now) }
+    ensures { IfOk result (IsMadeOf lines drafts order.now) }
 {
-    let lines = lines_for(alloc, before, &drafts.needs)?;
     let order = widened(alloc, order)?;
     let chained = drafts.chained;
     let lists = drafts.into_lists()?;
@@ -193,6 +189,7 @@ pub fn audited_alone(
     ensures refused { IfErr result (AllRefused before.now) }
 {
     let drafts = draft_all(alloc, before, parts)?;
-    let audited = audited_of(alloc, before, drafts, order)?;
+    let lines = lines_for(alloc, before, &drafts.needs)?;
+    let audited = audited_from(alloc, lines, drafts, order)?;
     Ok(audited)
 }

@@ -8,17 +8,20 @@ ghost use Rattle.hq_model.specs.Order.{OrderList};
 ghost use Rattle.hq_parts.specs.Parts.{AreParts};
 ghost use Rattle.hq_audit.specs.Audited.{IsAudited};
 ghost use Rattle.hq_audit.specs.Refused.{IsRefused, AllRefused, AllShown};
+ghost use Rattle.hq_audit.specs.Rowed.{DraftsAll};
 ghost use Rattle.hq_audit.specs.declared.fault.AuditNo.TheVariants.{Memory};
 
-use crate::audited::{Audited, audited_alone, audited_free, audited_of};
+use crate::audited::{Audited, audited_alone, audited_free, audited_from};
+use crate::drafting::Drafts;
 use crate::fault::AuditNo;
 use crate::spreading::draft_wide;
 use hq_cert::Certificate;
+use hq_derive::lines_for_wide;
 use hq_job::Job;
 use hq_order::Before;
 use hq_parts::Parts;
 use hq_schedule::schedule;
-use std::alloc::Global;
+use std::alloc::{AllocError, Global};
 use std::thread;
 use std::thread::Threads;
 
@@ -49,6 +52,24 @@ fn is_much(before: &Before, parts: &Parts) -> bool
     others >= 2 * MANY / STEP
 }
 
+/// What an audit finds of a job that has this order list, whose drafts these are, with lines made in many threads where
+/// these are many.
+fn audited_by<R: Threads>(
+    rt: &R,
+    alloc: Global,
+    before: &Before,
+    drafts: Drafts,
+    order: &[u16],
+) -> Result<Audited, AllocError>
+    requires order { OrderList before.now order.now }
+    requires all { DraftsAll before.now drafts }
+    ensures { IfOk result (IsAudited before.now) }
+{
+    let lines = lines_for_wide(rt, alloc, before, &drafts.needs)?;
+    let audited = audited_from(alloc, lines, drafts, order)?;
+    Ok(audited)
+}
+
 /// What an audit finds of a job that has this order list, unless a pair isn't ordered or there is no memory.
 fn audited_wide<R: Threads + Sync>(
     rt: &R,
@@ -63,7 +84,7 @@ fn audited_wide<R: Threads + Sync>(
     ensures shown { IfSome result (λ _. AllShown before.now) }
 {
     let drafts = draft_wide(rt, alloc, before, parts)?;
-    match audited_of(alloc, before, drafts, order) {
+    match audited_by(rt, alloc, before, drafts, order) {
         Ok(audited) => Some(audited),
         Err(_) => None,
     }

@@ -4,3 +4,4 @@ pub mod Adding
 pub mod Branching
 pub mod Noting
 pub mod Storing
+pub mod Middles

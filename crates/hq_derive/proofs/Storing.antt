@@ -73,7 +73,7 @@ stay_placed form a old new s e f i = λ kept there all. placed_push kept old new
 
 -- ---- of which packets a line is that isn't kept
 
-by_form : (kept : List Line) (form p r a b : ℕ) → form < 4 → ((line_by kept form p r a b).p ≡ p) × ((line_by kept form p r a b).r ≡ r)
+pub by_form : (kept : List Line) (form p r a b : ℕ) → form < 4 → ((line_by kept form p r a b).p ≡ p) × ((line_by kept form p r a b).r ≡ r)
 by_form kept zero p r a b l = (refl, refl)
 by_form kept (suc zero) p r a b l = (refl, refl)
 by_form kept (suc (suc zero)) p r a b l = (refl, refl)

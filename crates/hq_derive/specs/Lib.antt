@@ -2,3 +2,4 @@ pub mod Short
 pub mod Rests
 pub mod Gathered
 pub mod Needed
+pub mod Through

@@ -10,9 +10,11 @@ use crate::lines::Lines;
 use crate::needs::Needs;
 use crate::ranks::{Place, Ranks};
 use hq_bits::{WIDTH, WORDS, lowest, without};
+use hq_job::Job;
 use hq_order::Before;
 use hq_packet::Packet;
 use std::alloc::{AllocError, Global};
+use std::thread::Threads;
 
 /// Adds the line that p is before r; answers whether that is so.
 #[inline(always)]
@@ -258,6 +260,65 @@ fn add_rounds(
     Ok(())
 }
 
+/// How many lines of later rounds are worth more threads than one.
+const MANY: usize = 16_384;
+
+/// Whether a packet is a barrier-OR.
+fn has_either(job: &Job) -> bool {
+    for packet in job.packets() {
+        if let Packet::Or(_) = packet.packet {
+            return true;
+        }
+    }
+    false
+}
+
+/// Adds the needed lines of all rounds but round 0, made by several threads where that is worth it: the same ones.
+fn add_rounds_wide<R: Threads>(
+    rt: &R,
+    lines: &mut Lines,
+    alloc: Global,
+    before: &Before,
+    needs: &Needs,
+) -> Result<(), AllocError>
+    requires { AreSound before.now lines.old }
+    ensures { OnOk result (Goes before.now lines.old lines.new) }
+{
+    if lines.later() >= MANY && !has_either(before.job()) {
+        if lines.add_made(rt, alloc, before)? {
+            return Ok(());
+        }
+    }
+    add_rounds(lines, alloc, before, needs)
+}
+
+/// The needed lines of round 0, with room for the others.
+fn initial_lines(alloc: Global, before: &Before, needs: &Needs) -> Result<Lines, AllocError>
+    ensures sound { IfOk result (AreSound before.now) }
+    ensures initial { IfOk result (λ lines. InitialThere (lines_of lines) lines.ranks) }
+{
+    let ranks = Ranks::new(alloc, before, needs)?;
+    let mut lines = Lines::new(alloc, before, ranks.initial(), ranks.later())?;
+    if !add_initial(&mut lines, alloc, before, &ranks)? {
+        return Err(AllocError);
+    }
+    lines.number_by(ranks);
+    Ok(lines)
+}
+
+/// These lines, if all are there that are needed.
+fn if_all(lines: Lines, alloc: Global, before: &Before, needs: &Needs) -> Result<Lines, AllocError>
+    requires initial { InitialThere (lines_of lines) lines.ranks }
+    requires room { HasRoom before.now needs.now }
+    ensures { IfOk result (λ all. (all ≡ lines) × AllThere needs.now (lines_of all)) }
+{
+    if lines.has_all(alloc, before, needs)? {
+        Ok(lines)
+    } else {
+        Err(AllocError)
+    }
+}
+
 /// A line for each that is needed: by round, then by the first packet, then by the second, where `Needs::close` noted
 /// what they rest on too. What isn't noted goes ahead of the first line that cites it. That the lines stand so, and
 /// that there are no others, isn't promised.
@@ -270,16 +331,27 @@ pub fn lines_for(alloc: Global, before: &Before, needs: &Needs) -> Result<Lines,
     ensures sound { IfOk result (AreSound before.now) }
     ensures there { IfOk result (λ lines. AllThere needs.now (lines_of lines)) }
 {
-    let ranks = Ranks::new(alloc, before, needs)?;
-    let mut lines = Lines::new(alloc, before, ranks.initial(), ranks.later())?;
-    if !add_initial(&mut lines, alloc, before, &ranks)? {
-        return Err(AllocError);
-    }
-    lines.number_by(ranks);
+    let mut lines = initial_lines(alloc, before, needs)?;
     add_rounds(&mut lines, alloc, before, needs)?;
-    if lines.has_all(alloc, before, needs)? {
-        Ok(lines)
-    } else {
-        Err(AllocError)
-    }
+    if_all(lines, alloc, before, needs)
+}
+
+/// What `lines_for` answers, made by several threads where lines of later rounds are many.
+///
+/// # Errors
+///
+/// Those of `lines_for`.
+pub fn lines_for_wide<R: Threads>(
+    rt: &R,
+    alloc: Global,
+    before: &Before,
+    needs: &Needs,
+) -> Result<Lines, AllocError>
+    requires room { HasRoom before.now needs.now }
+    ensures sound { IfOk result (AreSound before.now) }
+    ensures there { IfOk result (λ lines. AllThere needs.now (lines_of lines)) }
+{
+    let mut lines = initial_lines(alloc, before, needs)?;
+    add_rounds_wide(rt, &mut lines, alloc, before, needs)?;
+    if_all(lines, alloc, before, needs)
 }

@@ -10,22 +10,27 @@ ghost use Rattle.hq_model.specs.Job.{IsPacket};
 ghost use Rattle.hq_model.specs.Certificate.{Says, signals};
 ghost use Rattle.hq_order.specs.Rounds.{IsFirstWithin, Reaches, ByOr};
 ghost use Rattle.hq_derive.specs.Rests.{Below, ByMiddle, FollowsAlone};
-ghost use Rattle.hq_derive.specs.Gathered.{lines_of, AreSound, AddsLine, InitialThere, Numbered, Ruled};
+ghost use Rattle.hq_derive.specs.Gathered.{lines_of, AreSound, AddsLine, Goes, InitialThere, Numbered, Ruled};
 ghost use Rattle.hq_derive.specs.Short.{told};
 ghost use Rattle.hq_derive.specs.Gathered.{Branched, AllBranched};
 ghost use Rattle.hq_derive.specs.Needed.{AllThere, HasLine, HasRoom, IsNumber};
 
 use crate::grounds::{Ground, branch_of, ground_of};
+use crate::making::{Making, make_parts};
 use crate::needs::Needs;
+use crate::numbering::{PARTS, number_later};
 use crate::ranks::{Rank, Ranks};
+use crate::short::Short;
 use crate::store::Store;
 use crate::there::are_there;
+use crate::through::are_through;
 use crate::told::Told;
 use hq_bits::WIDTH;
 use hq_cert::{Branches, Citation, Line, Rule};
 use hq_job::Job;
 use hq_order::Before;
 use std::alloc::{AllocError, Global};
+use std::thread::Threads;
 
 /// Stands for the number of a line that isn't there yet: no line has it.
 const NONE: u32 = u32::MAX;
@@ -185,6 +190,36 @@ impl Lines {
     {
         self.lines.push(p, r, rule)?;
         Ok(())
+    }
+
+    /// How many lines of later rounds are needed.
+    pub(crate) fn later(&self) -> usize {
+        self.ranks.later()
+    }
+
+    /// Adds all needed lines of later rounds, made by several threads; answers whether it did: not where they don't hold,
+    /// through two lines ahead of them each.
+    pub(crate) fn add_made<R: Threads>(
+        &mut self,
+        rt: &R,
+        alloc: Global,
+        before: &Before,
+    ) -> Result<bool, AllocError>
+        requires { AreSound before.now self.old }
+        ensures { OnOk result (Goes before.now self.old self.new) }
+    {
+        let first = self.lines.len() as u32;
+        let starts = number_later(alloc, &mut self.numbers, before, &self.ranks, first)?;
+        let mut made = vec![in alloc; Short::none(); self.ranks.later()]?;
+        let making = Making {
+            ranks: &self.ranks,
+            numbers: &self.numbers,
+        };
+        make_parts(rt, &making, before, &mut made, &starts);
+        if !are_through(rt, &self.lines, &made, PARTS) {
+            return Ok(false);
+        }
+        Ok(self.lines.take(alloc, made))
     }
 
     /// Whether each line is there that is noted as needed. Those of round 0 are.

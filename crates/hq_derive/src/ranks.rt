@@ -21,6 +21,16 @@ pub struct Place {
     pub later_ahead: u32,
 }
 
+impl Place {
+    /// The rank of the line of a later round that is needed at a bit.
+    #[inline(always)]
+    pub fn later_rank(&self, bit: usize) -> u32 {
+        let ahead = (1u64 << (bit % 64)).wrapping_sub(1);
+        let count = (self.later & ahead).count_ones();
+        self.later_ahead.wrapping_add(count)
+    }
+}
+
 /// No line is needed.
 const NOTHING: Place = Place {
     initial: 0,
@@ -157,8 +167,7 @@ impl Ranks {
             return Some(Rank::Initial(place.initial_ahead.wrapping_add(count)));
         }
         if place.later & bit != 0 {
-            let count = (place.later & ahead).count_ones();
-            return Some(Rank::Later(place.later_ahead.wrapping_add(count)));
+            return Some(Rank::Later(place.later_rank(r)));
         }
         None
     }

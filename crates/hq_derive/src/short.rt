@@ -8,6 +8,9 @@ use hq_bits::WIDTH;
 /// How many forms there is room for.
 pub const FORMS: u64 = 8;
 
+/// The form of a line through two others.
+pub const THROUGH: u64 = 3;
+
 /// How many numbers there are that twenty bits can say.
 pub const NUMBERS: u64 = 1 << 20;
 
@@ -20,6 +23,11 @@ pub struct Short {
 }
 
 impl Short {
+    /// The line whose number is 0, in place of one that isn't made yet.
+    pub fn none() -> Short {
+        Short { word: 0 }
+    }
+
     /// A line of this form.
     #[inline(always)]
     pub fn new(form: u64, p: usize, r: usize, first: u32, second: u32) -> Short

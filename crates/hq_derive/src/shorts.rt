@@ -4,9 +4,10 @@ ghost use Rattle.std.specs.Prelude.{◌≡◌, ◌<◌, ◌≤◌, ◌+◌, ◌+
 ghost use Rattle.std.specs.Prelude.{Some, length, map, slice_get};
 ghost use Rattle.hq_cert.specs.View.{rule_of};
 ghost use Rattle.hq_model.specs.Certificate.{Says};
-ghost use Rattle.hq_derive.specs.Short.{told, PutsLine, StayPlaced};
+ghost use Rattle.hq_derive.specs.Short.{told, ArePlaced, PutsLine, StayPlaced};
+ghost use Rattle.hq_derive.specs.Through.{lines_by};
 
-use crate::short::{FORMS, NUMBERS, Short};
+use crate::short::{FORMS, NUMBERS, Short, THROUGH};
 use crate::told::Told;
 use hq_bits::WIDTH;
 use hq_cert::{Branches, Line, Rule};
@@ -69,6 +70,17 @@ impl Shorts {
         })
     }
 
+    /// These lines, none of which is that of a barrier-OR.
+    pub fn of(alloc: Global, shorts: Vec<Short>) -> Shorts
+        requires { ArePlaced [] shorts.items }
+        ensures { result ≡ lines_by shorts.items }
+    {
+        Shorts {
+            shorts,
+            kept: Vec::new(alloc),
+        }
+    }
+
     /// How many there are.
     pub fn len(&self) -> usize
         ensures { result ≡ length self.now }
@@ -114,7 +126,7 @@ impl Shorts {
             Rule::Bit(packet) => put(&mut self.shorts, 0, p, r, packet, 0),
             Rule::Queue => put(&mut self.shorts, 1, p, r, 0, 0),
             Rule::And(slot) => put(&mut self.shorts, 2, p, r, slot, 0),
-            Rule::Through(first, second) => put(&mut self.shorts, 3, p, r, first, second),
+            Rule::Through(first, second) => put(&mut self.shorts, THROUGH, p, r, first, second),
             Rule::Or(branches) => self.keep(p, r, branches),
         }
     }

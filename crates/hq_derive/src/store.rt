@@ -1,12 +1,13 @@
 //! The lines of a certificate in little memory.
 
-ghost use Rattle.std.specs.Prelude.{◌≡◌, ◌<◌, ◌≤◌, ◌++◌, ◌∷◌, [], IfOk, IsTrue, OnOk, Some, length, map, slice_get};
+ghost use Rattle.std.specs.Prelude.{◌≡◌, ◌<◌, ◌≤◌, ◌++◌, ◌∷◌, [], false, IfOk, IsTrue, OnOk, Some, length, map, slice_get};
 ghost use Rattle.hq_cert.specs.View.{rule_of, line_of};
 ghost use Rattle.hq_derive.specs.Needed.{IsNumber};
-ghost use Rattle.hq_derive.specs.Short.{told};
+ghost use Rattle.hq_derive.specs.Short.{told, ArePlaced};
+ghost use Rattle.hq_derive.specs.Through.{lines_by};
 
 use crate::lone::Lone;
-use crate::short::NUMBERS;
+use crate::short::{NUMBERS, Short};
 use crate::shorts::Shorts;
 use crate::told::Told;
 use hq_bits::WIDTH;
@@ -80,6 +81,20 @@ impl Store {
             }
         }
         self.shorts.push(p, r, rule)
+    }
+
+    /// Adds these lines, none of which is that of a barrier-OR, unless there are too many, or a line that cites another is
+    /// there; answers whether they are added.
+    pub fn take(&mut self, alloc: Global, shorts: Vec<Short>) -> bool
+        requires { ArePlaced [] shorts.items }
+        ensures taken { IsTrue result → self.new ≡ self.old ++ lines_by shorts.items }
+        ensures left { result ≡ false → self.new ≡ self.old }
+    {
+        if self.shorts.len() != 0 || shorts.len() > LIMIT - self.lone.len() {
+            return false;
+        }
+        self.shorts = Shorts::of(alloc, shorts);
+        true
     }
 
     /// Line k.

@@ -1,0 +1,11 @@
+use Rattle.std.proofs.Common.{sym, subst}
+use Rattle.hq_derive.specs.Gathered.{lines_of, InitialThere}
+use Rattle.hq_derive.proofs.Growing.{initial_grown}
+use Rattle.hq_derive.proofs.gathering.lines_for_wide.Goals as goal
+
+pub if_all-requires-clause-initial : goal.if_all-requires-clause-initial
+if_all-requires-clause-initial g c =
+    let old = c.in_ok-lines.lines in
+    let new = c.add_rounds_wide.new.lines in
+    let goes = c.in_ok-add_rounds_wide.ensures in
+    subst (InitialThere (lines_of new)) (sym goes.ranks) (initial_grown (lines_of old) (lines_of new) old.ranks goes.grown c.in_ok-lines.ensures.initial)

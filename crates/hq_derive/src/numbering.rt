@@ -1,0 +1,85 @@
+//! The numbers that lines of later rounds are to have, by their ranks, before the lines are made.
+
+use crate::ranks::{Place, Ranks};
+use hq_bits::{lowest, without};
+use hq_order::Before;
+use std::alloc::{AllocError, Global};
+
+/// In how many parts the lines are made, each in a thread of its own.
+pub const PARTS: usize = 4;
+
+/// Where a part of the lines begins: in a round, with those that a packet is before others; and how many lines of later
+/// rounds are ahead of it.
+#[derive(Clone, Copy, Debug)]
+pub struct Start {
+    pub round: usize,
+    pub packet: usize,
+    pub ahead: usize,
+}
+
+/// Numbers the lines of a word that are needed at a place, the first of them so; answers the number behind them.
+#[inline(always)]
+fn number_word(numbers: &mut [u32], place: &Place, word: u64, first: u32) -> u32 {
+    let mut next = first;
+    let mut rest = word;
+    'each: while rest != 0 {
+        let bit = lowest(rest);
+        if let Some(number) = numbers.get_mut(place.later_rank(bit) as usize) {
+            *number = next;
+        }
+        next = next.saturating_add(1);
+        rest = without(rest, bit);
+    }
+    next
+}
+
+/// Numbers the needed lines that p is before others, of those that come first in this round.
+fn number_row(
+    numbers: &mut [u32],
+    before: &Before,
+    ranks: &Ranks,
+    round: usize,
+    p: usize,
+    first: u32,
+) -> u32 {
+    let mut next = first;
+    for (k, place) in ranks.row(p).iter().enumerate() {
+        if place.later != 0 {
+            let word = place.later & before.fresh(round, p, k);
+            next = number_word(numbers, place, word, next);
+        }
+    }
+    next
+}
+
+/// Numbers the needed lines of later rounds, the first of them so: by round, then by the first packet, then by the
+/// second. Answers where parts of about as many lines each begin.
+///
+/// # Errors
+///
+/// `AllocError` where there is no memory.
+pub fn number_later(
+    alloc: Global,
+    numbers: &mut [u32],
+    before: &Before,
+    ranks: &Ranks,
+    first: u32,
+) -> Result<Vec<Start>, AllocError> {
+    let share = ranks.later().div_ceil(PARTS);
+    let mut starts = Vec::with_capacity(alloc, PARTS)?;
+    let mut next = first;
+    for round in 1..before.rounds() {
+        for packet in 0..before.len() {
+            let ahead = next.saturating_sub(first) as usize;
+            if starts.len() < PARTS && ahead >= share.saturating_mul(starts.len()) {
+                starts.push(Start {
+                    round,
+                    packet,
+                    ahead,
+                })?;
+            }
+            next = number_row(numbers, before, ranks, round, packet, next);
+        }
+    }
+    Ok(starts)
+}
