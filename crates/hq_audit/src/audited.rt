@@ -20,7 +20,7 @@ use crate::packed::Packed;
 use hq_cert::{Certificate, Pair};
 use hq_derive::{Lines, Told, lines_for};
 use hq_job::Job;
-use hq_order::Before;
+use hq_order::{Alone, Before};
 use hq_parts::Parts;
 use std::alloc::{AllocError, Global};
 
@@ -189,7 +189,7 @@ pub fn audited_alone(
     ensures refused { IfErr result (AllRefused before.now) }
 {
     let drafts = draft_all(alloc, before, parts)?;
-    let lines = lines_for(alloc, before, &drafts.needs)?;
+    let lines = lines_for(&Alone, alloc, before, &drafts.needs)?;
     let audited = audited_from(alloc, lines, drafts, order)?;
     Ok(audited)
 }

@@ -16,11 +16,12 @@ use crate::drafting::Drafts;
 use crate::fault::AuditNo;
 use crate::spreading::draft_wide;
 use hq_cert::Certificate;
-use hq_derive::lines_for_wide;
+use hq_derive::lines_for;
 use hq_job::Job;
-use hq_order::Before;
+use hq_order::{Before, Together};
 use hq_parts::Parts;
 use hq_schedule::schedule;
+use hq_waits::OrderFault;
 use std::alloc::{AllocError, Global};
 use std::thread;
 use std::thread::Threads;
@@ -41,12 +42,13 @@ fn has_processors(rt: &impl Threads) -> bool {
 }
 
 /// Whether there is much to be judged, by the packets that are looked at.
-fn is_much(before: &Before, parts: &Parts) -> bool
-    requires { AreParts before.now parts.now }
+fn is_much(job: &Job, parts: &Parts) -> bool
+    requires { AreParts (plan job.now) parts.now }
 {
+    job.valid();
     let mut others = 0usize;
-    for k in 0..before.len() / STEP {
-        others = others.saturating_add(parts.others(before.job(), k * STEP).count() as usize);
+    for k in 0..job.packets().len() / STEP {
+        others = others.saturating_add(parts.others(job, k * STEP).count() as usize);
     }
     // each pair is one of both packets'
     others >= 2 * MANY / STEP
@@ -65,7 +67,7 @@ fn audited_by<R: Threads>(
     requires all { DraftsAll before.now drafts }
     ensures { IfOk result (IsAudited before.now) }
 {
-    let lines = lines_for_wide(rt, alloc, before, &drafts.needs)?;
+    let lines = lines_for(&Together { rt }, alloc, before, &drafts.needs)?;
     let audited = audited_from(alloc, lines, drafts, order)?;
     Ok(audited)
 }
@@ -90,14 +92,31 @@ fn audited_wide<R: Threads + Sync>(
     }
 }
 
+/// The order of a job's packets, worked out by several threads where that is said to be worth it.
+fn ordered_by<'a, R: Threads>(
+    rt: &R,
+    alloc: Global,
+    job: &'a Job,
+    by_many: bool,
+) -> Result<Before<'a>, OrderFault>
+    ensures plan { IfOk result (λ b. b ≡ plan job.now) }
+    ensures memory { IfErr result (λ e. e ≡ OrderFault.Memory) }
+{
+    if by_many {
+        return Before::build_wide(rt, alloc, job);
+    }
+    Before::build(alloc, job)
+}
+
 /// What an audit finds of a job that has this order list, or the first two packets that aren't ordered, in many threads
-/// where that is worth it. What isn't ordered is told of by one thread.
+/// where that is said to be worth it. What isn't ordered is told of by one thread.
 fn audited_by_all<R: Threads + Sync>(
     rt: &R,
     alloc: Global,
     before: &Before,
     parts: &Parts,
     order: &[u16],
+    by_many: bool,
 ) -> Result<Audited, AuditNo>
     requires order { OrderList before.now order.now }
     requires parts { AreParts before.now parts.now }
@@ -105,7 +124,7 @@ fn audited_by_all<R: Threads + Sync>(
     ensures shown { IfOk result (λ _. AllShown before.now) }
     ensures refused { IfErr result (AllRefused before.now) }
 {
-    if is_much(before, parts) && has_processors(rt) {
+    if by_many {
         if let Some(audited) = audited_wide(rt, alloc, before, parts, order) {
             return Ok(audited);
         }
@@ -113,7 +132,7 @@ fn audited_by_all<R: Threads + Sync>(
     audited_alone(alloc, before, parts, order)
 }
 
-/// What `find` answers, with the pairs judged in many threads.
+/// What `find` answers, with the order worked out, the pairs judged and the lines made in many threads.
 ///
 /// # Errors
 ///
@@ -130,12 +149,13 @@ pub fn find_wide<R: Threads + Sync>(rt: &R, alloc: Global, job: &Job) -> Result<
     if let Some(found) = audited_free(alloc, job, &parts, &order)? {
         return Ok(found);
     }
-    let before = Before::build(alloc, job)?;
-    let audited = audited_by_all(rt, alloc, &before, &parts, &order)?;
+    let by_many = is_much(job, &parts) && has_processors(rt);
+    let before = ordered_by(rt, alloc, job, by_many)?;
+    let audited = audited_by_all(rt, alloc, &before, &parts, &order, by_many)?;
     Ok(audited)
 }
 
-/// What `audit` answers, with the pairs judged in many threads.
+/// What `audit` answers, with the order worked out, the pairs judged and the lines made in many threads.
 ///
 /// # Errors
 ///

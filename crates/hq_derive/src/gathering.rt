@@ -6,6 +6,7 @@ ghost use Rattle.hq_derive.specs.Gathered.{lines_of, AreSound, Goes, InitialTher
 ghost use Rattle.hq_derive.specs.Needed.{AllThere, HasLine, HasRoom, WordThere};
 
 use crate::grounds::rule_alone;
+use crate::hands::MakesLines;
 use crate::lines::Lines;
 use crate::needs::Needs;
 use crate::ranks::{Place, Ranks};
@@ -14,7 +15,6 @@ use hq_job::Job;
 use hq_order::Before;
 use hq_packet::Packet;
 use std::alloc::{AllocError, Global};
-use std::thread::Threads;
 
 /// Adds the line that p is before r; answers whether that is so.
 #[inline(always)]
@@ -260,9 +260,6 @@ fn add_rounds(
     Ok(())
 }
 
-/// How many lines of later rounds are worth more threads than one.
-const MANY: usize = 16_384;
-
 /// Whether a packet is a barrier-OR.
 fn has_either(job: &Job) -> bool {
     for packet in job.packets() {
@@ -273,9 +270,10 @@ fn has_either(job: &Job) -> bool {
     false
 }
 
-/// Adds the needed lines of all rounds but round 0, made by several threads where that is worth it: the same ones.
-fn add_rounds_wide<R: Threads>(
-    rt: &R,
+/// Adds the needed lines of all rounds but round 0: where no packet is a barrier-OR they are made all at once, by these
+/// hands, and else one by one.
+fn add_later_lines<H: MakesLines>(
+    hands: &H,
     lines: &mut Lines,
     alloc: Global,
     before: &Before,
@@ -284,10 +282,8 @@ fn add_rounds_wide<R: Threads>(
     requires { AreSound before.now lines.old }
     ensures { OnOk result (Goes before.now lines.old lines.new) }
 {
-    if lines.later() >= MANY && !has_either(before.job()) {
-        if lines.add_made(rt, alloc, before)? {
-            return Ok(());
-        }
+    if !has_either(before.job()) && lines.add_made(hands, alloc, before)? {
+        return Ok(());
     }
     add_rounds(lines, alloc, before, needs)
 }
@@ -326,23 +322,8 @@ fn if_all(lines: Lines, alloc: Global, before: &Before, needs: &Needs) -> Result
 /// # Errors
 ///
 /// `AllocError` where there is no memory; that it is answered nowhere else isn't promised.
-pub fn lines_for(alloc: Global, before: &Before, needs: &Needs) -> Result<Lines, AllocError>
-    requires room { HasRoom before.now needs.now }
-    ensures sound { IfOk result (AreSound before.now) }
-    ensures there { IfOk result (λ lines. AllThere needs.now (lines_of lines)) }
-{
-    let mut lines = initial_lines(alloc, before, needs)?;
-    add_rounds(&mut lines, alloc, before, needs)?;
-    if_all(lines, alloc, before, needs)
-}
-
-/// What `lines_for` answers, made by several threads where lines of later rounds are many.
-///
-/// # Errors
-///
-/// Those of `lines_for`.
-pub fn lines_for_wide<R: Threads>(
-    rt: &R,
+pub fn lines_for<H: MakesLines>(
+    hands: &H,
     alloc: Global,
     before: &Before,
     needs: &Needs,
@@ -352,6 +333,6 @@ pub fn lines_for_wide<R: Threads>(
     ensures there { IfOk result (λ lines. AllThere needs.now (lines_of lines)) }
 {
     let mut lines = initial_lines(alloc, before, needs)?;
-    add_rounds_wide(rt, &mut lines, alloc, before, needs)?;
+    add_later_lines(hands, &mut lines, alloc, before, needs)?;
     if_all(lines, alloc, before, needs)
 }

@@ -8,6 +8,7 @@
 
 mod gathering;
 mod grounds;
+mod hands;
 mod lines;
 mod lone;
 mod making;
@@ -22,7 +23,8 @@ mod there;
 mod through;
 mod told;
 
-pub use gathering::{lines_for, lines_for_wide};
+pub use gathering::lines_for;
+pub use hands::MakesLines;
 pub use lines::Lines;
 pub use needs::Needs;
 pub use told::Told;

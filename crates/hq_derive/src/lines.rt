@@ -16,21 +16,20 @@ ghost use Rattle.hq_derive.specs.Gathered.{Branched, AllBranched};
 ghost use Rattle.hq_derive.specs.Needed.{AllThere, HasLine, HasRoom, IsNumber};
 
 use crate::grounds::{Ground, branch_of, ground_of};
-use crate::making::{Making, make_parts};
+use crate::hands::MakesLines;
+use crate::making::Making;
 use crate::needs::Needs;
-use crate::numbering::{PARTS, number_later};
+use crate::numbering::number_later;
 use crate::ranks::{Rank, Ranks};
 use crate::short::Short;
 use crate::store::Store;
 use crate::there::are_there;
-use crate::through::are_through;
 use crate::told::Told;
 use hq_bits::WIDTH;
 use hq_cert::{Branches, Citation, Line, Rule};
 use hq_job::Job;
 use hq_order::Before;
 use std::alloc::{AllocError, Global};
-use std::thread::Threads;
 
 /// Stands for the number of a line that isn't there yet: no line has it.
 const NONE: u32 = u32::MAX;
@@ -192,16 +191,11 @@ impl Lines {
         Ok(())
     }
 
-    /// How many lines of later rounds are needed.
-    pub(crate) fn later(&self) -> usize {
-        self.ranks.later()
-    }
-
-    /// Adds all needed lines of later rounds, made by several threads; answers whether it did: not where they don't hold,
+    /// Adds all needed lines of later rounds, made by these hands; answers whether it did: not where they don't hold,
     /// through two lines ahead of them each.
-    pub(crate) fn add_made<R: Threads>(
+    pub(crate) fn add_made<H: MakesLines>(
         &mut self,
-        rt: &R,
+        hands: &H,
         alloc: Global,
         before: &Before,
     ) -> Result<bool, AllocError>
@@ -215,8 +209,8 @@ impl Lines {
             ranks: &self.ranks,
             numbers: &self.numbers,
         };
-        make_parts(rt, &making, before, &mut made, &starts);
-        if !are_through(rt, &self.lines, &made, PARTS) {
+        hands.make(&making, before, &mut made, &starts);
+        if !hands.are_through(&self.lines, &made) {
             return Ok(false);
         }
         Ok(self.lines.take(alloc, made))

@@ -1,4 +1,4 @@
-//! Lines of later rounds, made by several threads: each through two others, by the numbers that these are to have. Nothing
+//! Lines of later rounds, made all at once: each through two others, by the numbers that these are to have. Nothing
 //! is promised of them; whether they hold is looked at when all are there.
 
 ghost use Rattle.std.specs.Prelude.{◌+◌, ◌≤◌, length};
@@ -110,7 +110,7 @@ impl Making<'_> {
     }
 
     /// Makes the lines of a part.
-    fn part(&self, lines: &mut [Short], before: &Before, start: Start) {
+    pub fn part(&self, lines: &mut [Short], before: &Before, start: Start) {
         let mut at = self.round(lines, before, start.round, start.packet, 0);
         for round in start.round.saturating_add(1)..before.rounds() {
             at = self.round(lines, before, round, 0, at);

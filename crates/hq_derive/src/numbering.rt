@@ -17,6 +17,17 @@ pub struct Start {
     pub ahead: usize,
 }
 
+impl Start {
+    /// Where all lines begin.
+    pub fn first() -> Start {
+        Start {
+            round: 1,
+            packet: 0,
+            ahead: 0,
+        }
+    }
+}
+
 /// Numbers the lines of a word that are needed at a place, the first of them so; answers the number behind them.
 #[inline(always)]
 fn number_word(numbers: &mut [u32], place: &Place, word: u64, first: u32) -> u32 {

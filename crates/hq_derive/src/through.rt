@@ -92,8 +92,18 @@ fn are_through_from<R: Threads>(
     own && others
 }
 
+/// Whether all follow so.
+pub fn are_through(ahead: &Store, shorts: &[Short]) -> bool
+    ensures { IsTrue result → AreThrough ahead.now shorts.now 0 (length shorts.now) }
+{
+    if shorts.len() > LIMIT - ahead.len() {
+        return false;
+    }
+    are_through_between(ahead, shorts, 0, shorts.len())
+}
+
 /// Whether all follow so, looked at in as many parts, each by a thread of its own.
-pub fn are_through<R: Threads>(rt: &R, ahead: &Store, shorts: &[Short], parts: usize) -> bool
+pub fn are_through_wide<R: Threads>(rt: &R, ahead: &Store, shorts: &[Short], parts: usize) -> bool
     requires { 0 < parts }
     ensures { IsTrue result → AreThrough ahead.now shorts.now 0 (length shorts.now) }
 {

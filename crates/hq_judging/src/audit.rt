@@ -10,7 +10,6 @@ ghost use Rattle.hq_status.specs.Reports.{JobTextReport, ReaderReport, Reported,
 
 use crate::bodies::PrintsBodies;
 use crate::giving::say_audited;
-use crate::hands::{Alone, Together};
 use crate::laws::stuck_exactly;
 use crate::stuck::say_stuck;
 use hq_audit::{AuditNo, Audited, find, find_wide};
@@ -18,6 +17,7 @@ use hq_cert::Certificate;
 use hq_certtext::{PrintFault, print};
 use hq_finding::{Kind, Why};
 use hq_job::Job;
+use hq_order::{Alone, Together};
 use hq_status::{Status, say, say_memory, take_job};
 use std::alloc::Global;
 use std::fmt;

@@ -9,11 +9,11 @@ ghost use Rattle.hq_judging.specs.Giving.{IsWholeText, PrintsSuch};
 
 use crate::giving::print_between;
 use crate::giving_wide::print_body_wide;
-use crate::hands::{Alone, Together};
 use crate::place::Place;
 use hq_audit::Audited;
 use hq_certtext::{Printer, WriterFailed};
 use hq_job::Job;
+use hq_order::{Alone, Together};
 use std::alloc::Global;
 use std::io::Write;
 use std::thread::Threads;

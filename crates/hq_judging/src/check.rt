@@ -11,10 +11,10 @@ ghost use Rattle.hq_judging.specs.Check.{bad_pair_text};
 ghost use Rattle.hq_status.specs.Reports.{JobTextReport, ReaderReport, Reported, Said, with_feed};
 
 use crate::checking::{ReadCertificate, take_certificate};
-use crate::hands::Together;
 use hq_certcheck::{Accepted, CheckNo, check_seen_wide};
 use hq_certread::{CertFault, CertReason};
 use hq_job::Job;
+use hq_order::Together;
 use hq_status::{CheckFault, Status, say, say_memory, take_job};
 use std::alloc::Global;
 use std::fmt;

@@ -9,9 +9,9 @@ ghost use Rattle.hq_status.specs.Reports.{JobTextReport, ReaderReport, Reported}
 
 use crate::check::say_checked;
 use crate::checking::{ReadCertificate, take_certificate};
-use crate::hands::Alone;
 use hq_certcheck::check_seen;
 use hq_job::Job;
+use hq_order::Alone;
 use hq_status::{Status, take_job};
 use std::alloc::Global;
 use std::io::{Read, Write};

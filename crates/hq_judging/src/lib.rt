@@ -15,7 +15,6 @@ mod chunk;
 mod chunks;
 mod giving;
 mod giving_wide;
-mod hands;
 pub mod laws;
 mod piece;
 mod place;

@@ -9,8 +9,8 @@ ghost use Rattle.hq_judging.specs.Checking.{HasChecked, WasReadFor};
 
 use crate::checking::{Checking, ReadCertificate, read_source};
 use crate::checking_wide::read_source_wide;
-use crate::hands::{Alone, Together};
 use hq_certread::{CertFault, ReadFault};
+use hq_order::{Alone, Together};
 use hq_text::{Source, TURNS};
 use std::alloc::Global;
 use std::thread::Threads;

@@ -4,3 +4,4 @@ pub mod Closure
 pub mod Middles
 pub mod Scopes
 pub mod Swept
+pub mod Stepping

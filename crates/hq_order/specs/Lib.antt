@@ -1,3 +1,4 @@
 pub mod Rounds
 pub mod Sweeping
 pub mod View
+pub mod Wide

@@ -14,17 +14,18 @@ ghost use Rattle.hq_order.specs.Rounds.{Direct, Next, IsFirstWithin, Between, Is
 ghost use Rattle.hq_order.specs.View.{AreOf};
 
 use crate::direct::{direct_row, go_on};
-use crate::rounds::next_row;
+use crate::hands::{Alone, Hands, Together};
+use crate::rounds::has_no_either;
 use hq_bits::{WIDTH, WORDS};
 use hq_job::Job;
-use hq_packet::Packet;
 use hq_rows::{
-    Known, all_turned, are_same, are_whole, between, earlier_rows, first_turned, last_rows, marks,
-    row_of, unions_if_many,
+    Known, are_same, are_whole, between, earlier_rows, first_turned, last_rows, marks, row_of,
+    unions_if_many,
 };
 use hq_waits::{OrderFault, completing};
 use std::alloc::{AllocError, Global};
 use std::marker::Model;
+use std::thread::Threads;
 
 /// How many words a row has.
 pub fn words_of(job: &Job) -> usize
@@ -59,39 +60,10 @@ fn first_rows(
     Ok(rows)
 }
 
-/// The rows after one more round. Notes the packets before which an either puts more than the rows give.
-fn next_rows(
-    alloc: Global,
-    job: &Job,
-    completing: &[Vec<u64>],
-    known: &Known,
-    renewed: &mut [u64],
-) -> Result<Vec<Vec<u64>>, AllocError>
-    requires square { IsSquare (length job.now.packets) known.now.rows.now }
-    requires unions { CanUnite known.now.rows.now (words_for (length job.now.packets)) known.now.unions.now }
-    requires stepped { Stepped known.now.earlier.now known.now.rows.now known.now.renewed.now }
-    requires completing { AllAre
-        (λ s set. Completing (plan job.now) s set.items
-        × (length set.items ≡ words_for (length job.now.packets))) completing.now }
-    requires signals { length completing.now ≡ length job.now.signals }
-    requires room { length known.now.rows.now ≤ length renewed.old * 64 }
-    ensures square { IfOk result (λ new. IsSquare (length job.now.packets) new.items) }
-    ensures grown { IfOk result (λ new. (r : ℕ) → Grown (row known.now.rows.now r) (row new.items r)) }
-    ensures exact { IfOk result
-        (λ new. (p r : ℕ) → Marks new.items p r ↔ Next (plan job.now) (Marks known.now.rows.now) p r) }
-    ensures stepped { IfOk result (λ new. Stepped known.now.rows.now new.items renewed.new) }
-{
-    job.valid();
-    let mut new = Vec::with_capacity(alloc, known.rows.len())?;
-    for r in 0..known.rows.len() {
-        new.push(next_row(alloc, job, completing, known, renewed, r)?)?;
-    }
-    Ok(new)
-}
-
 /// The rows of the round after these. `renewed` has the packets whose rows in the last round have more than two of
 /// the rows before give, and `new` is to have those of the next.
-fn following(
+fn following<H: Hands>(
+    hands: &H,
     alloc: Global,
     job: &Job,
     completing: &[Vec<u64>],
@@ -121,20 +93,7 @@ fn following(
         renewed,
         unions: &unions,
     };
-    next_rows(alloc, job, completing, &known, new)
-}
-
-/// Whether no packet is a barrier-OR.
-fn has_no_either(job: &Job) -> bool
-    ensures { IsTrue result → (r : ℕ) → AwaitsAny (plan job.now) r → ⊥ }
-{
-    job.valid();
-    for r in 0..job.packets().len() {
-        if let Packet::Or(_) = job.packet(r).packet {
-            return false;
-        }
-    }
-    true
+    hands.next_rows(alloc, job, completing, &known, new)
 }
 
 /// Whether one more round would add nothing, as far as that is told without the rows of that round.
@@ -155,7 +114,8 @@ fn is_closed(job: &Job, rounds: &[Vec<Vec<u64>>], renewed: &[u64]) -> bool
 
 /// Adds the next round, and answers true, unless it would be the same as the last. `renewed` has the packets whose
 /// rows in the last round have more than two of the rows before give.
-fn add_round(
+fn add_round<H: Hands>(
+    hands: &H,
     alloc: Global,
     job: &Job,
     completing: &[Vec<u64>],
@@ -179,7 +139,7 @@ fn add_round(
         return Ok(false);
     }
     let mut new = hq_bits::empty(alloc, WORDS)?;
-    let next = following(alloc, job, completing, rounds, renewed, &mut new)?;
+    let next = following(hands, alloc, job, completing, rounds, renewed, &mut new)?;
     if are_same(&next, last_rows(rounds)) {
         return Ok(false);
     }
@@ -189,7 +149,8 @@ fn add_round(
 }
 
 /// All rounds, until one would add nothing.
-fn all_rounds(
+fn all_rounds<H: Hands>(
+    hands: &H,
     alloc: Global,
     job: &Job,
     completing: &[Vec<u64>],
@@ -205,7 +166,7 @@ fn all_rounds(
     let mut rounds = Vec::new(alloc);
     rounds.push(first_rows(alloc, job, completing)?)?;
     let mut renewed = hq_bits::full(alloc, WORDS)?;
-    'rounds: while add_round(alloc, job, completing, &mut rounds, &mut renewed)? {}
+    'rounds: while add_round(hands, alloc, job, completing, &mut rounds, &mut renewed)? {}
     Ok(rounds)
 }
 
@@ -250,7 +211,7 @@ impl<'a> Model for Before<'a> {
 }
 
 impl<'a> Before<'a> {
-    /// Works the order out. The only error is that there is no memory.
+    /// Works the order out.
     ///
     /// # Errors
     ///
@@ -259,10 +220,34 @@ impl<'a> Before<'a> {
         ensures plan { IfOk result (λ b. b ≡ plan job.now) }
         ensures memory { IfErr result (λ e. e ≡ OrderFault.Memory) }
     {
+        Before::build_by(&Alone, alloc, job)
+    }
+
+    /// Works the order out, by several threads where much is to be gone through.
+    ///
+    /// # Errors
+    ///
+    /// `Memory` alone.
+    pub fn build_wide<R: Threads>(
+        rt: &R,
+        alloc: Global,
+        job: &'a Job,
+    ) -> Result<Before<'a>, OrderFault>
+        ensures plan { IfOk result (λ b. b ≡ plan job.now) }
+        ensures memory { IfErr result (λ e. e ≡ OrderFault.Memory) }
+    {
+        Before::build_by(&Together { rt }, alloc, job)
+    }
+
+    /// Does so by these hands.
+    fn build_by<H: Hands>(hands: &H, alloc: Global, job: &'a Job) -> Result<Before<'a>, OrderFault>
+        ensures plan { IfOk result (λ b. b ≡ plan job.now) }
+        ensures memory { IfErr result (λ e. e ≡ OrderFault.Memory) }
+    {
         job.valid();
         let completing = completing(alloc, job, words_of(job))?;
-        let rounds = all_rounds(alloc, job, &completing)?;
-        let columns = all_turned(alloc, &rounds)?;
+        let rounds = all_rounds(hands, alloc, job, &completing)?;
+        let columns = hands.all_turned(alloc, &rounds)?;
         let found = Rounds {
             rounds,
             columns,

@@ -6,10 +6,13 @@
 
 mod before;
 mod direct;
+mod hands;
 pub mod laws;
 mod rounds;
 pub mod rules;
 mod sweeping;
+mod wide;
 
 pub use before::{Before, Rounds};
+pub use hands::{Alone, Together};
 pub use sweeping::sweep;

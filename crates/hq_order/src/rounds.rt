@@ -6,7 +6,8 @@ ghost use Rattle.hq_job.specs.Plan.{plan};
 ghost use Rattle.hq_model.specs.Job.{IsPacket};
 ghost use Rattle.hq_bits.specs.Bits.{has, Grown};
 ghost use Rattle.hq_order.specs.Rounds.{Next, Reaches, ByOr};
-ghost use Rattle.hq_rows.specs.Matrix.{row, Marks, Square};
+ghost use Rattle.hq_model.specs.Order.{AwaitsAny};
+ghost use Rattle.hq_rows.specs.Matrix.{row, words_for, Marks, IsSquare, Square};
 ghost use Rattle.hq_rows.specs.Lists.{AllAre};
 ghost use Rattle.hq_waits.specs.Waits.{Completing};
 ghost use Rattle.hq_rows.specs.Uniting.{CanUnite, Stepped, Through};
@@ -134,4 +135,47 @@ pub fn next_row(
     let more = unite_shared(alloc, &mut new, job, completing, known, r)?;
     note(renewed, r, more);
     Ok(new)
+}
+
+/// The rows after one more round. Notes the packets before which an either puts more than the rows give.
+pub fn next_rows(
+    alloc: Global,
+    job: &Job,
+    completing: &[Vec<u64>],
+    known: &Known,
+    renewed: &mut [u64],
+) -> Result<Vec<Vec<u64>>, AllocError>
+    requires square { IsSquare (length job.now.packets) known.now.rows.now }
+    requires unions { CanUnite known.now.rows.now (words_for (length job.now.packets)) known.now.unions.now }
+    requires stepped { Stepped known.now.earlier.now known.now.rows.now known.now.renewed.now }
+    requires completing { AllAre
+        (λ s set. Completing (plan job.now) s set.items
+        × (length set.items ≡ words_for (length job.now.packets))) completing.now }
+    requires signals { length completing.now ≡ length job.now.signals }
+    requires room { length known.now.rows.now ≤ length renewed.old * 64 }
+    ensures square { IfOk result (λ new. IsSquare (length job.now.packets) new.items) }
+    ensures grown { IfOk result (λ new. (r : ℕ) → Grown (row known.now.rows.now r) (row new.items r)) }
+    ensures exact { IfOk result
+        (λ new. (p r : ℕ) → Marks new.items p r ↔ Next (plan job.now) (Marks known.now.rows.now) p r) }
+    ensures stepped { IfOk result (λ new. Stepped known.now.rows.now new.items renewed.new) }
+{
+    job.valid();
+    let mut new = Vec::with_capacity(alloc, known.rows.len())?;
+    for r in 0..known.rows.len() {
+        new.push(next_row(alloc, job, completing, known, renewed, r)?)?;
+    }
+    Ok(new)
+}
+
+/// Whether no packet is a barrier-OR.
+pub fn has_no_either(job: &Job) -> bool
+    ensures { IsTrue result → (r : ℕ) → AwaitsAny (plan job.now) r → ⊥ }
+{
+    job.valid();
+    for r in 0..job.packets().len() {
+        if let Packet::Or(_) = job.packet(r).packet {
+            return false;
+        }
+    }
+    true
 }

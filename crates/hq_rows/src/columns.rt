@@ -57,8 +57,8 @@ fn turn_place(table: &mut [u64], rows: &[Vec<u64>], place: usize)
     }
 }
 
-/// Turns the words round that all rows have.
-fn turn_rows(table: &mut [u64], rows: &[Vec<u64>])
+/// Turns the words round that all rows have: for each packet there is then what it is before.
+pub fn turn_rows(table: &mut [u64], rows: &[Vec<u64>])
     requires { length table.old ≡ WIDTH * WORDS }
     ensures { Turned rows.now table.new }
 {
@@ -67,11 +67,22 @@ fn turn_rows(table: &mut [u64], rows: &[Vec<u64>])
     }
 }
 
+/// A table without bits, as large as rows turned round are.
+///
+/// # Errors
+///
+/// `AllocError` where there is no memory.
+pub fn bare_table(alloc: Global) -> Result<Vec<u64>, AllocError>
+    ensures { IfOk result (λ table. length table.items ≡ WIDTH * WORDS) }
+{
+    vec![in alloc; 0; WIDTH * WORDS]
+}
+
 /// The rows turned round.
 fn turned(alloc: Global, rows: &[Vec<u64>]) -> Result<Vec<u64>, AllocError>
     ensures { IfOk result (λ table. Turned rows.now table.items) }
 {
-    let mut table = vec![in alloc; 0; WIDTH * WORDS]?;
+    let mut table = bare_table(alloc)?;
     turn_rows(&mut table, rows);
     Ok(table)
 }

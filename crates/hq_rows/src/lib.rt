@@ -15,9 +15,9 @@ mod skipping;
 mod tables;
 mod turning;
 
-pub use columns::{all_turned, between, row_of};
+pub use columns::{all_turned, bare_table, between, row_of, turn_rows};
 pub use gathering::{Known, unions_if_many};
 pub use joining::{meet_each, note, unite_more};
-pub use reaching::{are_whole, reached, through_row};
+pub use reaching::{are_whole, reached, through_row, unite_through};
 pub use skipping::beyond;
 pub use tables::{are_same, earlier_rows, first_turned, last_rows, marks};

@@ -28,8 +28,23 @@ pub fn reached(alloc: Global, set: &[u64], known: &Known) -> Result<Vec<u64>, Al
     Ok(reached)
 }
 
-/// The packets that are before r by what is known, or before one of those. Only those that are fresh in its row, or are
-/// renewed, bring anything new.
+/// Takes in what is before those that are before r by what is known, where those are there already. Only those that are
+/// fresh in the row of r, or are renewed, bring anything new.
+pub fn unite_through(new: &mut [u64], known: &Known, r: usize)
+    requires unions { CanUnite known.now.rows.now (length (row known.now.rows.now r)) known.now.unions.now }
+    requires stepped { Stepped known.now.earlier.now known.now.rows.now known.now.renewed.now }
+    requires r_is { r < length known.now.rows.now }
+    requires few { length (row known.now.rows.now r) ≤ WORDS }
+    requires start { new.old ≡ row known.now.rows.now r }
+    ensures grown { Grown (row known.now.rows.now r) new.new }
+    ensures exact { (p : ℕ) → IsTrue (has new.new p) ↔ Through known.now.rows.now p r }
+{
+    let row = row_of(known.rows, r);
+    let earlier = row_of(known.earlier, r);
+    unite_fresh(new, known, row, earlier, known.renewed);
+}
+
+/// The packets that are before r by what is known, or before one of those.
 ///
 /// # Errors
 ///
@@ -42,15 +57,8 @@ pub fn through_row(alloc: Global, known: &Known, r: usize) -> Result<Vec<u64>, A
     ensures grown { IfOk result (λ new. Grown (row known.now.rows.now r) new.items) }
     ensures exact { IfOk result (λ new. (p : ℕ) → IsTrue (has new.items p) ↔ Through known.now.rows.now p r) }
 {
-    let row = row_of(known.rows, r);
-    let mut new = row.to_vec(alloc)?;
-    unite_fresh(
-        &mut new,
-        known,
-        row,
-        row_of(known.earlier, r),
-        known.renewed,
-    );
+    let mut new = row_of(known.rows, r).to_vec(alloc)?;
+    unite_through(&mut new, known, r);
     Ok(new)
 }
 

@@ -4,8 +4,8 @@ use Rattle.hq_derive.proofs.Growing.{initial_grown}
 use Rattle.hq_derive.proofs.gathering.lines_for.Goals as goal
 
 pub if_all-requires-clause-initial : goal.if_all-requires-clause-initial
-if_all-requires-clause-initial c =
+if_all-requires-clause-initial g c =
     let old = c.in_ok-lines.lines in
-    let new = c.add_rounds.new.lines in
-    let goes = c.in_ok-add_rounds.ensures in
+    let new = c.add_later_lines.new.lines in
+    let goes = c.in_ok-add_later_lines.ensures in
     subst (InitialThere (lines_of new)) (sym goes.ranks) (initial_grown (lines_of old) (lines_of new) old.ranks goes.grown c.in_ok-lines.ensures.initial)

@@ -13,7 +13,7 @@ use Rattle.hq_rows.proofs.Pushed.{last_pushed}
 use Rattle.hq_order.proofs.before.add_round.Goals as goal
 
 pub are_same-requires : goal.are_same-requires
-are_same-requires c =
+are_same-requires g c =
     let rounds = c.args.rounds.now.items in
     let some = c.requires.rounds.some in
     let square = c.requires.rounds.square (length rounds - 1) (omega arith) in
@@ -21,7 +21,7 @@ are_same-requires c =
     ap length c.deref-5.ensures.value ∙ c.in_ok-next.ensures.square.height ∙ sym (count c.args.job.now) ∙ sym square.height ∙ sym (ap length is)
 
 pub returns-clause-rounds : goal.returns-clause-rounds
-returns-clause-rounds c =
+returns-clause-rounds g c =
     let job = plan c.args.job.now in
     let rounds = c.args.rounds.now.items in
     let next = c.in_ok-next.next in
@@ -29,7 +29,7 @@ returns-clause-rounds c =
     subst (AreRounds job) (sym c.in_ok-push.ensures.items) (more_rounds job rounds next c.requires.rounds (subst (λ n. IsSquare n next.items) (sym (count c.args.job.now)) c.in_ok-next.ensures.square) exact)
 
 pub returns-clause-stepped : goal.returns-clause-stepped
-returns-clause-stepped c = λ answer.
+returns-clause-stepped g c = λ answer.
     let rounds = c.args.rounds.now.items in
     let next = c.in_ok-next.next in
     let new = c.following.new.new in
@@ -39,7 +39,7 @@ returns-clause-stepped c = λ answer.
     subst (λ renewed. Stepped (earlier c.push.new.self.items) (last c.push.new.self.items) renewed) (sym back) (subst (λ all. Stepped (earlier all) (last all) new) (sym c.in_ok-push.ensures.items) pushed)
 
 pub returns-clause-falls : goal.returns-clause-falls
-returns-clause-falls c = λ answer.
+returns-clause-falls g c = λ answer.
     let rounds = c.args.rounds.now.items in
     let some = c.requires.rounds.some in
     let next = c.in_ok-next.next in
@@ -50,10 +50,10 @@ returns-clause-falls c = λ answer.
     subst (λ rows. lag_of_rows rows < lag rounds) (sym (ap last c.in_ok-push.ensures.items ∙ last_pushed rounds next)) (lag_falls (last rounds) next.items len grown differ)
 
 pub returns-then-is_closed-clause-closed : goal.returns-then-is_closed-clause-closed
-returns-then-is_closed-clause-closed c = λ _. subst (IsClosed (plan c.args.job.now)) c.deref.ensures.value (c.is_closed.ensures c.if-is_closed.true)
+returns-then-is_closed-clause-closed g c = λ _. subst (IsClosed (plan c.args.job.now)) c.deref.ensures.value (c.is_closed.ensures c.if-is_closed.true)
 
 pub returns-then-are_same-clause-closed : goal.returns-then-are_same-clause-closed
-returns-then-are_same-clause-closed c = λ _ p r n.
+returns-then-are_same-clause-closed g c = λ _ p r n.
     let job = plan c.args.job.now in
     let rounds = c.args.rounds.now.items in
     let next = c.in_ok-next.next in

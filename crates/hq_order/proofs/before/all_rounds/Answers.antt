@@ -9,7 +9,7 @@ use Rattle.hq_rows.proofs.Gathered.{stepped_first}
 use Rattle.hq_order.proofs.before.all_rounds.Goals as goal
 
 pub rounds-init : goal.rounds-init
-rounds-init c =
+rounds-init g c =
     let first = c.in_ok-first_rows.field-0 in
     let is = c.in_ok-push.ensures.items ∙ ap (λ xs. xs ++ first ∷ []) c.new-rounds.ensures.items in
     let height = c.in_ok-first_rows.ensures.square.height in
@@ -20,4 +20,4 @@ rounds-init c =
     }
 
 pub returns-clause-closed : goal.returns-clause-closed
-returns-clause-closed c = c.in_ok-add_round.ensures.closed c.if-branch.false
+returns-clause-closed g c = c.in_ok-add_round.ensures.closed c.if-branch.false

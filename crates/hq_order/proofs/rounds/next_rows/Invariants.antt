@@ -4,7 +4,7 @@ use Rattle.hq_bits.specs.Bits.{has, Grown}
 use Rattle.hq_rows.specs.Matrix.{row, Marks}
 use Rattle.hq_rows.specs.Uniting.{Through}
 use Rattle.hq_order.specs.Rounds.{Next}
-use Rattle.hq_order.proofs.before.next_rows.Given as goal
+use Rattle.hq_order.proofs.rounds.next_rows.Given as goal
 
 abbrev pub invariant-loop-r : goal.invariant-loop-r
 invariant-loop-r l = record {

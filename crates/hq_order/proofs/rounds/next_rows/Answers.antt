@@ -10,7 +10,7 @@ use Rattle.hq_rows.proofs.Rows.{marked_below, grown_beyond}
 use Rattle.hq_order.proofs.Turns.{stepped_next}
 use Rattle.hq_rows.proofs.Pushed.{pushed, square_grown}
 use Rattle.hq_order.proofs.Closure.{next_within}
-use Rattle.hq_order.proofs.before.next_rows.Goals as goal
+use Rattle.hq_order.proofs.rounds.next_rows.Goals as goal
 
 pub loop-r-init : goal.loop-r-init
 loop-r-init c = record {
