@@ -12,7 +12,7 @@ use crate::needs::Needs;
 use crate::ranks::{Place, Ranks};
 use hq_bits::{WIDTH, WORDS, lowest, without};
 use hq_job::Job;
-use hq_order::Before;
+use hq_order::{Before, Fresh};
 use hq_packet::Packet;
 use std::alloc::{AllocError, Global};
 
@@ -209,6 +209,7 @@ fn add_later_row(
     lines: &mut Lines,
     alloc: Global,
     before: &Before,
+    fresh: &Fresh,
     round: usize,
     p: usize,
     needed: &[u64],
@@ -220,8 +221,8 @@ fn add_later_row(
 {
     for (place, word) in needed.iter().enumerate() {
         if *word != 0 {
-            let fresh = *word & before.fresh(round, p, place);
-            add_later_word(lines, alloc, before, round, p, fresh, place * 64)?;
+            let word = *word & fresh.word(p, place);
+            add_later_word(lines, alloc, before, round, p, word, place * 64)?;
         }
     }
     Ok(())
@@ -238,8 +239,9 @@ fn add_round(
     requires { AreSound before.now lines.old }
     ensures { OnOk result (Goes before.now lines.old lines.new) }
 {
+    let fresh = before.fresh(round);
     for p in 0..before.len() {
-        add_later_row(lines, alloc, before, round, p, needs.row(p))?;
+        add_later_row(lines, alloc, before, &fresh, round, p, needs.row(p))?;
     }
     Ok(())
 }

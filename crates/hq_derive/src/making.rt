@@ -8,7 +8,7 @@ use crate::numbering::Start;
 use crate::ranks::{Rank, Ranks};
 use crate::short::{NUMBERS, Short, THROUGH};
 use hq_bits::{WIDTH, lowest, without};
-use hq_order::Before;
+use hq_order::{Before, Fresh};
 use std::thread::{Threads, join_mut};
 
 /// What lines are made by: the order, and the number of each line by its rank.
@@ -77,13 +77,21 @@ impl Making<'_> {
     }
 
     /// Makes the needed lines that p is before others, of those that come first in this round.
-    fn row(&self, lines: &mut [Short], before: &Before, round: usize, p: usize, at: usize) -> usize
+    fn row(
+        &self,
+        lines: &mut [Short],
+        before: &Before,
+        fresh: &Fresh,
+        round: usize,
+        p: usize,
+        at: usize,
+    ) -> usize
         requires { IsPacket before.now p }
     {
         let mut next = at;
         for (k, place) in self.ranks.row(p).iter().enumerate() {
             if place.later != 0 {
-                let word = place.later & before.fresh(round, p, k);
+                let word = place.later & fresh.word(p, k);
                 next = self.word(lines, before, round, p, word, k * 64, next);
             }
         }
@@ -99,12 +107,13 @@ impl Making<'_> {
         packet: usize,
         at: usize,
     ) -> usize {
+        let fresh = before.fresh(round);
         let mut next = at;
         for p in packet..before.len() {
             if next >= lines.len() {
                 return next;
             }
-            next = self.row(lines, before, round, p, next);
+            next = self.row(lines, before, &fresh, round, p, next);
         }
         next
     }

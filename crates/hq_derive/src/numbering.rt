@@ -2,7 +2,7 @@
 
 use crate::ranks::{Place, Ranks};
 use hq_bits::{lowest, without};
-use hq_order::Before;
+use hq_order::{Before, Fresh};
 use std::alloc::{AllocError, Global};
 
 /// In how many parts the lines are made, each in a thread of its own.
@@ -44,19 +44,12 @@ fn number_word(numbers: &mut [u32], place: &Place, word: u64, first: u32) -> u32
     next
 }
 
-/// Numbers the needed lines that p is before others, of those that come first in this round.
-fn number_row(
-    numbers: &mut [u32],
-    before: &Before,
-    ranks: &Ranks,
-    round: usize,
-    p: usize,
-    first: u32,
-) -> u32 {
+/// Numbers the needed lines that p is before others, of those that come first in a round.
+fn number_row(numbers: &mut [u32], ranks: &Ranks, fresh: &Fresh, p: usize, first: u32) -> u32 {
     let mut next = first;
     for (k, place) in ranks.row(p).iter().enumerate() {
         if place.later != 0 {
-            let word = place.later & before.fresh(round, p, k);
+            let word = place.later & fresh.word(p, k);
             next = number_word(numbers, place, word, next);
         }
     }
@@ -80,6 +73,7 @@ pub fn number_later(
     let mut starts = Vec::with_capacity(alloc, PARTS)?;
     let mut next = first;
     for round in 1..before.rounds() {
+        let fresh = before.fresh(round);
         for packet in 0..before.len() {
             let ahead = next.saturating_sub(first) as usize;
             if starts.len() < PARTS && ahead >= share.saturating_mul(starts.len()) {
@@ -89,7 +83,7 @@ pub fn number_later(
                     ahead,
                 })?;
             }
-            next = number_row(numbers, before, ranks, round, packet, next);
+            next = number_row(numbers, ranks, &fresh, packet, next);
         }
     }
     Ok(starts)

@@ -5,7 +5,7 @@ ghost use Rattle.hq_derive.specs.Gathered.{IsPlaceOf, IsRowOf};
 
 use crate::needs::Needs;
 use hq_bits::{WORDS, less, word_at};
-use hq_order::Before;
+use hq_order::{Before, Fresh};
 use std::alloc::{AllocError, Global};
 
 /// Which lines are needed that a packet is before 64 others.
@@ -81,22 +81,23 @@ impl Ranks {
             initial: 0,
             later: 0,
         };
+        let fresh = before.fresh(0);
         for p in 0..before.len() {
-            let number = ranks.add(before, p, needs.row(p))?;
+            let number = ranks.add(&fresh, p, needs.row(p))?;
             ranks.numbers.push(number)?;
         }
         Ok(ranks)
     }
 
     /// Adds the row of p, where a line is needed that it is before another; answers one more than its number, or 0.
-    fn add(&mut self, before: &Before, p: usize, needed: &[u64]) -> Result<usize, AllocError> {
+    fn add(&mut self, fresh: &Fresh, p: usize, needed: &[u64]) -> Result<usize, AllocError> {
         if needed.is_empty() {
             return Ok(0);
         }
         let mut row = [NOTHING; WORDS];
         for k in 0..WORDS {
             let word = word_at(needed, k);
-            let initial = word & before.fresh(0, p, k);
+            let initial = word & fresh.word(p, k);
             row[k] = self.placed(initial, less(word, initial));
         }
         self.rows.push(row)?;

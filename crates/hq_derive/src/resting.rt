@@ -10,7 +10,7 @@ ghost use Rattle.hq_derive.specs.Rests.{ByMiddle};
 use crate::grounds::{Ground, branch_of, ground_of};
 use crate::needs::Needs;
 use hq_bits::{WIDTH, WORDS, lowest, without};
-use hq_order::Before;
+use hq_order::{Before, Fresh};
 use hq_packet::Packet;
 
 /// The line is needed by which p comes up to the signal.
@@ -133,7 +133,7 @@ fn need_under_word(
 }
 
 /// Does so for each packet r that p is needed to be before, of those that it comes before in this round.
-fn need_under_row(needs: &mut Needs, before: &Before, round: usize, p: usize)
+fn need_under_row(needs: &mut Needs, before: &Before, fresh: &Fresh, round: usize, p: usize)
     requires room { HasRoom before.now needs.old }
     requires p_is { IsPacket before.now p }
     ensures { Widens before.now needs.old needs.new }
@@ -145,7 +145,7 @@ fn need_under_row(needs: &mut Needs, before: &Before, round: usize, p: usize)
     for place in 0..WORDS {
         let needed = needs.word(p * WORDS + place);
         if needed != 0 {
-            let word = needed & before.fresh(round, p, place);
+            let word = needed & fresh.word(p, place);
             need_under_word(needs, before, round, p, word, place * 64);
         }
     }
@@ -156,8 +156,9 @@ fn need_under_round(needs: &mut Needs, before: &Before, round: usize)
     requires { HasRoom before.now needs.old }
     ensures { Widens before.now needs.old needs.new }
 {
+    let fresh = before.fresh(round);
     for p in 0..before.len() {
-        need_under_row(needs, before, round, p);
+        need_under_row(needs, before, &fresh, round, p);
     }
 }
 

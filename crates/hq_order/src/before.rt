@@ -170,6 +170,29 @@ fn all_rounds<H: Hands>(
     Ok(rounds)
 }
 
+/// Which packets come before which in a round and in none below it, asked for word by word.
+#[derive(Clone, Copy)]
+pub struct Fresh<'a> {
+    /// What packets come before by the rounds below this one.
+    earlier: &'a [u64],
+    /// What they come before by this one. Of the last round there is no table.
+    table: Option<&'a [u64]>,
+}
+
+impl Fresh<'_> {
+    /// The packets of a word that p comes before so, as bits. In the last round those are among them too that p doesn't
+    /// come before.
+    #[inline(always)]
+    pub fn word(&self, p: usize, place: usize) -> u64 {
+        let at = p.wrapping_mul(WORDS).wrapping_add(place);
+        let earlier = hq_bits::word_at(self.earlier, at);
+        match self.table {
+            Some(table) => hq_bits::less(hq_bits::word_at(table, at), earlier),
+            None => !earlier,
+        }
+    }
+}
+
 /// The order of a job's packets: which is complete before which becomes active, in every run. Contracts see it as
 /// the plan of the job.
 #[derive(Drop)]
@@ -333,19 +356,17 @@ impl<'a> Before<'a> {
         self.found.rounds.len()
     }
 
-    /// Which packets of a word p comes before in this round and in none below it, as bits. In the last round those are
-    /// among them too that p doesn't come before.
-    #[inline(always)]
-    pub fn fresh(&self, round: usize, p: usize, place: usize) -> u64 {
-        let at = p.wrapping_mul(WORDS).wrapping_add(place);
+    /// Which packets come before which in a round and in none below it.
+    pub fn fresh(&self, round: usize) -> Fresh<'_> {
         let earlier = match round.checked_sub(1) {
-            Some(earlier) => hq_bits::word_at(row_of(&self.found.columns, earlier), at),
-            None => 0,
+            Some(earlier) => row_of(&self.found.columns, earlier),
+            None => &[],
         };
-        match self.found.columns.get(round) {
-            Some(table) => hq_bits::less(hq_bits::word_at(table, at), earlier),
-            None => !earlier,
-        }
+        let table: Option<&[u64]> = match self.found.columns.get(round) {
+            Some(table) => Some(table),
+            None => None,
+        };
+        Fresh { earlier, table }
     }
 
     /// The least packet that completes on the signal and that p comes before by rounds below this one, where such a one

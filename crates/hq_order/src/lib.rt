@@ -13,6 +13,6 @@ pub mod rules;
 mod sweeping;
 mod wide;
 
-pub use before::{Before, Rounds};
+pub use before::{Before, Fresh, Rounds};
 pub use hands::{Alone, Together};
 pub use sweeping::sweep;
