@@ -57,6 +57,11 @@ pub record AddsLine (job : Job) (old new : Lines) (p r : ℕ) : Type 0 where
   pub goes : Goes job old new
   pub there : HasLine (lines_of new) p r
 
+-- so, behind which all lines are there that are noted as those of round 0
+pub record Begins (job : Job) (ranks : Ranks) (old new : Lines) : Type 0 where
+  pub goes : Goes job old new
+  pub there : InitialThere (lines_of new) ranks
+
 -- the line of this number concludes that p is before r
 pub record Numbered (job : Job) (old new : Lines) (p r k : ℕ) : Type 0 where
   pub goes : Goes job old new

@@ -2,16 +2,16 @@
 
 ghost use Rattle.std.specs.Prelude.{IfOk, IsTrue, OnOk, Some, length, slice_get, ◌≡◌, ◌+◌, ◌*◌, ◌<◌, ◌≤◌, ℕ};
 ghost use Rattle.hq_model.specs.Job.{IsPacket};
-ghost use Rattle.hq_derive.specs.Gathered.{lines_of, AreSound, Goes, InitialThere};
+ghost use Rattle.hq_derive.specs.Gathered.{lines_of, AreSound, Begins, Goes, InitialThere};
 ghost use Rattle.hq_derive.specs.Needed.{AllThere, HasLine, HasRoom, WordThere};
 
 use crate::grounds::rule_alone;
 use crate::hands::MakesLines;
 use crate::lines::Lines;
 use crate::needs::Needs;
+use crate::numbering::Unmade;
 use crate::ranks::{Place, Ranks};
 use hq_bits::{WIDTH, WORDS, lowest, without};
-use hq_job::Job;
 use hq_order::{Before, Fresh};
 use hq_packet::Packet;
 use std::alloc::{AllocError, Global};
@@ -111,27 +111,26 @@ fn add_row(
     Ok(true)
 }
 
-/// Adds the needed lines of round 0, by the first packet and then by the second, as long as they are so; answers
-/// whether all are.
-fn add_initial(
+/// Adds the needed lines of round 0, by the first packet and then by the second.
+///
+/// # Errors
+///
+/// `AllocError` where there is no memory, or one of them isn't so.
+pub fn add_initial(
     lines: &mut Lines,
     alloc: Global,
     before: &Before,
     ranks: &Ranks,
-) -> Result<bool, AllocError>
-    requires kept { AreSound before.now lines.old }
-    ensures goes { OnOk result (Goes before.now lines.old lines.new) }
-    ensures there { IfOk result (λ are. IsTrue are → InitialThere (lines_of lines.new) ranks.now) }
+) -> Result<(), AllocError>
+    requires { AreSound before.now lines.old }
+    ensures { OnOk result (Begins before.now ranks.now lines.old lines.new) }
 {
     for p in 0..ranks.len() {
-        if p >= before.len() {
-            return Ok(false);
-        }
-        if !add_row(lines, alloc, before, p, ranks.row(p))? {
-            return Ok(false);
+        if p >= before.len() || !add_row(lines, alloc, before, p, ranks.row(p))? {
+            return Err(AllocError);
         }
     }
-    Ok(true)
+    Ok(())
 }
 
 /// Adds the line that p is before r, if that is so through another packet, by lower rounds.
@@ -262,46 +261,25 @@ fn add_rounds(
     Ok(())
 }
 
-/// Whether a packet is a barrier-OR.
-fn has_either(job: &Job) -> bool {
-    for packet in job.packets() {
-        if let Packet::Or(_) = packet.packet {
-            return true;
-        }
-    }
-    false
-}
-
-/// Adds the needed lines of all rounds but round 0: where no packet is a barrier-OR they are made all at once, by these
-/// hands, and else one by one.
+/// Adds the needed lines of all rounds but round 0: where they can be made all at once, by these hands, and else one by
+/// one.
 fn add_later_lines<H: MakesLines>(
     hands: &H,
     lines: &mut Lines,
     alloc: Global,
     before: &Before,
     needs: &Needs,
+    unmade: Option<Unmade>,
 ) -> Result<(), AllocError>
     requires { AreSound before.now lines.old }
     ensures { OnOk result (Goes before.now lines.old lines.new) }
 {
-    if !has_either(before.job()) && lines.add_made(hands, alloc, before)? {
-        return Ok(());
+    if let Some(unmade) = unmade {
+        if lines.add_made(hands, alloc, before, unmade) {
+            return Ok(());
+        }
     }
     add_rounds(lines, alloc, before, needs)
-}
-
-/// The needed lines of round 0, with room for the others.
-fn initial_lines(alloc: Global, before: &Before, needs: &Needs) -> Result<Lines, AllocError>
-    ensures sound { IfOk result (AreSound before.now) }
-    ensures initial { IfOk result (λ lines. InitialThere (lines_of lines) lines.ranks) }
-{
-    let ranks = Ranks::new(alloc, before, needs)?;
-    let mut lines = Lines::new(alloc, before, ranks.initial(), ranks.later())?;
-    if !add_initial(&mut lines, alloc, before, &ranks)? {
-        return Err(AllocError);
-    }
-    lines.number_by(ranks);
-    Ok(lines)
 }
 
 /// These lines, if all are there that are needed.
@@ -334,7 +312,10 @@ pub fn lines_for<H: MakesLines>(
     ensures sound { IfOk result (AreSound before.now) }
     ensures there { IfOk result (λ lines. AllThere needs.now (lines_of lines)) }
 {
-    let mut lines = initial_lines(alloc, before, needs)?;
-    add_later_lines(hands, &mut lines, alloc, before, needs)?;
+    let ranks = Ranks::new(alloc, before, needs)?;
+    let mut lines = Lines::new(alloc, before.job(), ranks.initial(), ranks.later())?;
+    let later = hands.begin(&mut lines, alloc, before, &ranks)?;
+    lines.number_by(ranks, later.numbers);
+    add_later_lines(hands, &mut lines, alloc, before, needs, later.unmade)?;
     if_all(lines, alloc, before, needs)
 }

@@ -6,6 +6,7 @@
 //! that is there.
 #![tactic(auto)]
 
+mod beginning;
 mod gathering;
 mod grounds;
 mod hands;

@@ -19,9 +19,8 @@ use crate::grounds::{Ground, branch_of, ground_of};
 use crate::hands::MakesLines;
 use crate::making::Making;
 use crate::needs::Needs;
-use crate::numbering::number_later;
+use crate::numbering::Unmade;
 use crate::ranks::{Rank, Ranks};
-use crate::short::Short;
 use crate::store::Store;
 use crate::there::are_there;
 use crate::told::Told;
@@ -30,9 +29,6 @@ use hq_cert::{Branches, Citation, Line, Rule};
 use hq_job::Job;
 use hq_order::Before;
 use std::alloc::{AllocError, Global};
-
-/// Stands for the number of a line that isn't there yet: no line has it.
-const NONE: u32 = u32::MAX;
 
 /// The lines so far. Where the number of a line is found is only a guess: whether it is that line's is told by the line
 /// itself.
@@ -48,16 +44,17 @@ impl Lines {
     /// No lines, with room for so many of round 0 and so many of later rounds.
     pub(crate) fn new(
         alloc: Global,
-        before: &Before,
+        job: &Job,
         initial: usize,
         later: usize,
     ) -> Result<Lines, AllocError>
-        ensures { IfOk result (λ l. AreSound before.now l) }
+        ensures sound { IfOk result (AreSound (plan job.now)) }
+        ensures none { IfOk result (λ l. lines_of l ≡ []) }
     {
-        before.job().valid();
+        job.valid();
         Ok(Lines {
             ranks: Ranks::none(alloc),
-            numbers: vec![in alloc; NONE; later]?,
+            numbers: Vec::new(alloc),
             lines: Store::new(alloc, initial, later)?,
         })
     }
@@ -71,20 +68,16 @@ impl Lines {
         ensures sound { IfOk result (AreSound (plan job.now)) }
         ensures none { IfOk result (λ l. lines_of l ≡ []) }
     {
-        job.valid();
-        Ok(Lines {
-            ranks: Ranks::none(alloc),
-            numbers: Vec::new(alloc),
-            lines: Store::new(alloc, 0, 0)?,
-        })
+        Lines::new(alloc, job, 0, 0)
     }
 
-    /// The numbers of lines are found by these ranks.
-    pub(crate) fn number_by(&mut self, ranks: Ranks)
+    /// The numbers of lines are found by these ranks: of later rounds, those that are noted so.
+    pub(crate) fn number_by(&mut self, ranks: Ranks, numbers: Vec<u32>)
         ensures lines { self.new.lines ≡ self.old.lines }
         ensures ranks { self.new.ranks ≡ ranks }
     {
         self.ranks = ranks;
+        self.numbers = numbers;
     }
 
     /// How many lines there are.
@@ -198,22 +191,21 @@ impl Lines {
         hands: &H,
         alloc: Global,
         before: &Before,
-    ) -> Result<bool, AllocError>
+        unmade: Unmade,
+    ) -> bool
         requires { AreSound before.now self.old }
-        ensures { OnOk result (Goes before.now self.old self.new) }
+        ensures { Goes before.now self.old self.new }
     {
-        let first = self.lines.len() as u32;
-        let starts = number_later(alloc, &mut self.numbers, before, &self.ranks, first)?;
-        let mut made = vec![in alloc; Short::none(); self.ranks.later()]?;
+        let Unmade { mut lines, starts } = unmade;
         let making = Making {
             ranks: &self.ranks,
             numbers: &self.numbers,
         };
-        hands.make(&making, before, &mut made, &starts);
-        if !hands.are_through(&self.lines, &made) {
-            return Ok(false);
+        hands.make(&making, before, &mut lines, &starts);
+        if !hands.are_through(&self.lines, &lines) {
+            return false;
         }
-        Ok(self.lines.take(alloc, made))
+        self.lines.take(alloc, lines)
     }
 
     /// Whether each line is there that is noted as needed. Those of round 0 are.

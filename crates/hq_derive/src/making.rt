@@ -1,7 +1,7 @@
 //! Lines of later rounds, made all at once: each through two others, by the numbers that these are to have. Nothing
 //! is promised of them; whether they hold is looked at when all are there.
 
-ghost use Rattle.std.specs.Prelude.{◌+◌, ◌≤◌, length};
+ghost use Rattle.std.specs.Prelude.{◌+◌, ◌≤◌};
 ghost use Rattle.hq_model.specs.Job.{IsPacket};
 
 use crate::numbering::Start;

@@ -123,6 +123,11 @@ impl Ranks {
         self.initial as usize
     }
 
+    /// The number of the first line of a later round: those of round 0 stand ahead of it.
+    pub fn first_later(&self) -> u32 {
+        self.initial
+    }
+
     /// How many lines of later rounds are needed.
     pub fn later(&self) -> usize {
         self.later as usize

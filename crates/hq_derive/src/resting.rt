@@ -5,7 +5,6 @@ ghost use Rattle.std.specs.Prelude.{◌≤◌, ◌+◌, IsTrue};
 ghost use Rattle.hq_model.specs.Job.{IsPacket};
 ghost use Rattle.hq_order.specs.Rounds.{IsFirstWithin};
 ghost use Rattle.hq_derive.specs.Needed.{HasRoom, Widens};
-ghost use Rattle.hq_derive.specs.Rests.{ByMiddle};
 
 use crate::grounds::{Ground, branch_of, ground_of};
 use crate::needs::Needs;

@@ -1,6 +1,6 @@
 //! Whether lines follow that were made at once: each through two lines ahead of it.
 
-ghost use Rattle.std.specs.Prelude.{◌≡◌, ◌+◌, ◌<◌, ◌≤◌, ◌++◌, ℕ, IfSome, IsTrue, length};
+ghost use Rattle.std.specs.Prelude.{◌+◌, ◌<◌, ◌≤◌, ◌++◌, ℕ, IfSome, IsTrue, length};
 ghost use Rattle.hq_model.specs.Certificate.{Says};
 ghost use Rattle.hq_derive.specs.Through.{AreThrough, IsThrough, lines_by};
 

@@ -75,14 +75,8 @@ no_pairs job a text h = h.is ∙ ap (λ ps. lines_text (map pair_words ps)) (not
 
 -- ---- from place to place
 
-pub between_none : (job : Job) (a : Audited) (p : Place) → IsTextBetween job a p p []
-between_none job a p = λ front h. subst (IsTextUpto job a p) (sym (append-nil front)) h
-
 pub between_both : (job : Job) (a : Audited) (p q r : Place) (t s : List ℕ) → IsTextBetween job a p q t → IsTextBetween job a q r s → IsTextBetween job a p r (t ++ s)
 between_both job a p q r t s h k = λ front is. subst (IsTextUpto job a r) (append_assoc front t s) (k (front ++ t) (h front is))
-
-pub leads_self : (a : Audited) (p : Place) → IsPlace a p → Leads a p p
-leads_self a p is = record { from = is; to = is; lines = omega arith; lists = omega arith }
 
 pub leads_both : (a : Audited) (p q r : Place) → Leads a p q → Leads a q r → Leads a p r
 leads_both a p q r h k = record { from = h.from; to = k.to; lines = omega (arith, h.lines, k.lines); lists = omega (arith, h.lists, k.lists) }
@@ -129,12 +123,6 @@ pub whole_between : (job : Job) (a : Audited) (text : List ℕ) → IsTextBetwee
 whole_between job a text between =
     let none : IsTextUpto job a start_place [] = record { behind = []; pairs = pairs_none job a; is = refl } in
     subst (λ vs. IsBodyText job a (length (lines_in a)) (listed vs) text) (take_all (length (lists_in a)) (lists_in a) (omega arith)) (between [] none)
-
-pub is_start : (a : Audited) → IsPlace a start_place
-is_start a = record { within = omega arith; listed = omega arith; behind = inl refl }
-
-pub leads_end : (a : Audited) (p : Place) → IsPlace a p → Leads a p (end_place a)
-leads_end a p from = record { from = from; to = record { within = omega arith; listed = omega arith; behind = inr refl }; lines = from.within; lists = from.listed }
 
 -- ---- pieces
 

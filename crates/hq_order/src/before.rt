@@ -4,11 +4,10 @@ ghost use Rattle.std.specs.Prelude.{◌≡◌, ℕ, ◌+◌, ◌-◌, ◌<◌, �
 ghost use Rattle.std.specs.Prelude.{MatchOption, IfSome, length, ◌*◌};
 ghost use Rattle.hq_job.specs.Plan.{plan};
 ghost use Rattle.hq_model.specs.Order as order;
-ghost use Rattle.hq_model.specs.Order.{AwaitsAny};
 ghost use Rattle.hq_bits.specs.Bits.{Grown, has};
 ghost use Rattle.hq_rows.specs.Lists.{AllAre};
 ghost use Rattle.hq_rows.specs.Matrix.{row, words_for, Marks, IsSquare, last, earlier, lag};
-ghost use Rattle.hq_rows.specs.Uniting.{CanUnite, Stepped};
+ghost use Rattle.hq_rows.specs.Uniting.{Stepped};
 ghost use Rattle.hq_waits.specs.Waits.{Completing};
 ghost use Rattle.hq_order.specs.Rounds.{Direct, Next, IsFirstWithin, Between, IsMiddle, AreRounds, IsClosed};
 ghost use Rattle.hq_order.specs.View.{AreOf};

@@ -15,4 +15,5 @@ mod wide;
 
 pub use before::{Before, Fresh, Rounds};
 pub use hands::{Alone, Together};
+pub use rounds::has_no_either;
 pub use sweeping::sweep;

@@ -8,7 +8,7 @@ use Rattle.hq_derive.proofs.Adding.{goes_same, goes_more}
 use Rattle.hq_derive.proofs.gathering.add_initial.Goals as goal
 
 pub loop-p-init : goal.loop-p-init
-loop-p-init c = (goes_same c.args.before.now c.args.lines.now c.requires.kept, λ p k place low is. absurd (omega (arith, low)))
+loop-p-init c = (goes_same c.args.before.now c.args.lines.now c.requires, λ p k place low is. absurd (omega (arith, low)))
 
 pub loop-p-preserved : goal.loop-p-preserved
 loop-p-preserved c =
@@ -24,7 +24,10 @@ loop-p-preserved c =
       ],
     )
 
-pub returns-clause-there : goal.returns-clause-there
-returns-clause-there c = λ t p k place is.
+pub returns : goal.returns
+returns c = record {
+  goes = c.loop-p.invariant.0;
+  there = λ p k place is.
     let low = slice_get_within c.args.ranks.now.numbers.items p (is.1.number + 1) is.1.numbered in
-    c.loop-p.invariant.1 p k place (omega (arith, low, c.loop-p-test.false)) is
+    c.loop-p.invariant.1 p k place (omega (arith, low, c.loop-p-test.false)) is;
+}
