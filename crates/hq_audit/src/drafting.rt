@@ -285,6 +285,15 @@ impl Drafts {
         self.needs.close(before);
     }
 
+    /// Does so, and keeps what one thread makes these lines by.
+    pub fn close_keeping(&mut self, alloc: Global, before: &Before)
+        requires { AreDrafts before.now self.old }
+        ensures are { AreDrafts before.now self.new }
+        ensures same { drafts_of self.new ≡ drafts_of self.old }
+    {
+        self.needs.close_keeping(alloc, before);
+    }
+
     /// Takes over the drafts of others, and what these need; the drafts stand behind those that are there.
     pub fn join(
         &mut self,
@@ -325,6 +334,6 @@ pub fn draft_all(alloc: Global, before: &Before, parts: &Parts) -> Result<Drafts
     for a in 0..before.len() {
         drafts.add_row(alloc, before, parts, a)?;
     }
-    drafts.close(before);
+    drafts.close_keeping(alloc, before);
     Ok(drafts)
 }

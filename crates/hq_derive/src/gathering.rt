@@ -7,10 +7,11 @@ ghost use Rattle.hq_derive.specs.Needed.{AllThere, HasLine, HasRoom, WordThere};
 
 use crate::grounds::rule_alone;
 use crate::hands::MakesLines;
+use crate::later::Later;
 use crate::lines::Lines;
 use crate::needs::Needs;
-use crate::numbering::Unmade;
 use crate::ranks::{Place, Ranks};
+use crate::short::Short;
 use hq_bits::{WIDTH, WORDS, lowest, without};
 use hq_order::{Before, Fresh};
 use hq_packet::Packet;
@@ -261,21 +262,20 @@ fn add_rounds(
     Ok(())
 }
 
-/// Adds the needed lines of all rounds but round 0: where they can be made all at once, by these hands, and else one by
-/// one.
+/// Adds the needed lines of all rounds but round 0: those that were made all at once, where they hold, or else one by one.
 fn add_later_lines<H: MakesLines>(
     hands: &H,
     lines: &mut Lines,
     alloc: Global,
     before: &Before,
     needs: &Needs,
-    unmade: Option<Unmade>,
+    made: Option<Vec<Short>>,
 ) -> Result<(), AllocError>
     requires { AreSound before.now lines.old }
     ensures { OnOk result (Goes before.now lines.old lines.new) }
 {
-    if let Some(unmade) = unmade {
-        if lines.add_made(hands, alloc, before, unmade) {
+    if let Some(made) = made {
+        if lines.add_made(hands, alloc, before, made) {
             return Ok(());
         }
     }
@@ -314,8 +314,8 @@ pub fn lines_for<H: MakesLines>(
 {
     let ranks = Ranks::new(alloc, before, needs)?;
     let mut lines = Lines::new(alloc, before.job(), ranks.initial(), ranks.later())?;
-    let later = hands.begin(&mut lines, alloc, before, &ranks)?;
-    lines.number_by(ranks, later.numbers);
-    add_later_lines(hands, &mut lines, alloc, before, needs, later.unmade)?;
+    let Later { numbers, made } = hands.begin(&mut lines, alloc, before, &ranks, needs)?;
+    lines.number_by(ranks, numbers);
+    add_later_lines(hands, &mut lines, alloc, before, needs, made)?;
     if_all(lines, alloc, before, needs)
 }

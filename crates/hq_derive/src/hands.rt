@@ -6,14 +6,15 @@ ghost use Rattle.hq_derive.specs.Through.{AreThrough};
 
 use crate::beginning::begin_wide;
 use crate::gathering::add_initial;
+use crate::later::Later;
 use crate::lines::Lines;
-use crate::making::{Making, make_parts};
-use crate::numbering::{Later, PARTS, Start};
+use crate::needs::Needs;
+use crate::numbering::PARTS;
 use crate::ranks::Ranks;
 use crate::short::Short;
 use crate::store::Store;
 use crate::through::{are_through, are_through_wide};
-use hq_order::{Alone, Before, Together};
+use hq_order::{Alone, Before, Together, has_no_either};
 use std::alloc::{AllocError, Global};
 use std::thread::Threads;
 
@@ -22,7 +23,7 @@ const MANY: usize = 16_384;
 
 /// What makes lines, and looks at them.
 pub trait MakesLines {
-    /// Adds the needed lines of round 0, and makes ready for those of later rounds.
+    /// Adds the needed lines of round 0, and makes those of later rounds, or leaves them to be added one by one.
     ///
     /// # Errors
     ///
@@ -33,12 +34,10 @@ pub trait MakesLines {
         alloc: Global,
         before: &Before,
         ranks: &Ranks,
+        needs: &Needs,
     ) -> Result<Later, AllocError>
         requires { AreSound before.now lines.old }
         ensures { OnOk result (Begins before.now ranks.now lines.old lines.new) };
-
-    /// Makes all lines, whose parts begin here.
-    fn make(&self, making: &Making, before: &Before, lines: &mut [Short], starts: &[Start]);
 
     /// Whether each follows through two lines ahead of it.
     fn are_through(&self, ahead: &Store, lines: &[Short]) -> bool
@@ -46,19 +45,20 @@ pub trait MakesLines {
 }
 
 impl MakesLines for Alone {
+    /// Lines are made where it was kept through which packets they go.
     fn begin(
         &self,
         lines: &mut Lines,
         alloc: Global,
         before: &Before,
         ranks: &Ranks,
+        needs: &Needs,
     ) -> Result<Later, AllocError> {
         add_initial(lines, alloc, before, ranks)?;
-        Later::ready(alloc, before, ranks)
-    }
-
-    fn make(&self, making: &Making, before: &Before, lines: &mut [Short], _starts: &[Start]) {
-        making.part(lines, before, Start::first());
+        match needs.middles() {
+            Some(middles) => Later::through(alloc, ranks, middles),
+            None => Later::unmade(alloc, ranks),
+        }
     }
 
     fn are_through(&self, ahead: &Store, lines: &[Short]) -> bool {
@@ -67,24 +67,24 @@ impl MakesLines for Alone {
 }
 
 impl<'a, R: Threads> MakesLines for Together<'a, R> {
+    /// Lines are made where no packet is a barrier-OR.
     fn begin(
         &self,
         lines: &mut Lines,
         alloc: Global,
         before: &Before,
         ranks: &Ranks,
+        _needs: &Needs,
     ) -> Result<Later, AllocError> {
-        if ranks.later() < MANY {
-            return Alone.begin(lines, alloc, before, ranks);
+        let can_be_made = has_no_either(before.job());
+        if can_be_made && ranks.later() >= MANY {
+            return begin_wide(self.rt, lines, alloc, before, ranks);
         }
-        begin_wide(self.rt, lines, alloc, before, ranks)
-    }
-
-    fn make(&self, making: &Making, before: &Before, lines: &mut [Short], starts: &[Start]) {
-        if lines.len() < MANY {
-            return Alone.make(making, before, lines, starts);
+        add_initial(lines, alloc, before, ranks)?;
+        if can_be_made {
+            return Later::sought(alloc, before, ranks);
         }
-        make_parts(self.rt, making, before, lines, starts);
+        Later::unmade(alloc, ranks)
     }
 
     fn are_through(&self, ahead: &Store, lines: &[Short]) -> bool {

@@ -10,6 +10,8 @@ mod beginning;
 mod gathering;
 mod grounds;
 mod hands;
+mod kept;
+mod later;
 mod lines;
 mod lone;
 mod making;

@@ -17,10 +17,10 @@ ghost use Rattle.hq_derive.specs.Needed.{AllThere, HasLine, HasRoom, IsNumber};
 
 use crate::grounds::{Ground, branch_of, ground_of};
 use crate::hands::MakesLines;
-use crate::making::Making;
 use crate::needs::Needs;
-use crate::numbering::Unmade;
+use crate::numbering::note_number;
 use crate::ranks::{Rank, Ranks};
+use crate::short::Short;
 use crate::store::Store;
 use crate::there::are_there;
 use crate::told::Told;
@@ -141,11 +141,7 @@ impl Lines {
         ensures lines { self.new.lines ≡ self.old.lines }
         ensures ranks { self.new.ranks ≡ self.old.ranks }
     {
-        if let Some(Rank::Later(rank)) = self.ranks.rank(p, r) {
-            if let Some(noted) = self.numbers.get_mut(rank as usize) {
-                *noted = number;
-            }
-        }
+        note_number(&mut self.numbers, &self.ranks, p, r, number);
     }
 
     /// Adds a line, and answers its number.
@@ -184,28 +180,23 @@ impl Lines {
         Ok(())
     }
 
-    /// Adds all needed lines of later rounds, made by these hands; answers whether it did: not where they don't hold,
-    /// through two lines ahead of them each.
+    /// Adds lines that were made all at once; answers whether it did: not where they don't hold, through two lines ahead
+    /// of them each, as these hands look at it.
     pub(crate) fn add_made<H: MakesLines>(
         &mut self,
         hands: &H,
         alloc: Global,
         before: &Before,
-        unmade: Unmade,
+        made: Vec<Short>,
     ) -> bool
         requires { AreSound before.now self.old }
         ensures { Goes before.now self.old self.new }
     {
-        let Unmade { mut lines, starts } = unmade;
-        let making = Making {
-            ranks: &self.ranks,
-            numbers: &self.numbers,
-        };
-        hands.make(&making, before, &mut lines, &starts);
-        if !hands.are_through(&self.lines, &lines) {
+        before.job().valid();
+        if !hands.are_through(&self.lines, &made) {
             return false;
         }
-        self.lines.take(alloc, lines)
+        self.lines.take(alloc, made)
     }
 
     /// Whether each line is there that is noted as needed. Those of round 0 are.

@@ -31,18 +31,23 @@ impl Making<'_> {
         }
     }
 
+    /// The line that p is before r, through m.
+    #[inline(always)]
+    pub fn through(&self, p: usize, m: usize, r: usize) -> Option<Short> {
+        let (first, second) = (self.number(p, m)?, self.number(m, r)?);
+        if p >= WIDTH || r >= WIDTH || first as u64 >= NUMBERS || second as u64 >= NUMBERS {
+            return None;
+        }
+        Some(Short::new(THROUGH, p, r, first, second))
+    }
+
     /// The line that p is before r, through the least packet between them by lower rounds.
     #[inline(always)]
     fn line(&self, before: &Before, round: usize, p: usize, r: usize) -> Option<Short>
         requires { IsPacket before.now p }
     {
-        before.job().valid();
         let m = before.between(round, p, r)?;
-        let (first, second) = (self.number(p, m)?, self.number(m, r)?);
-        if r >= WIDTH || first as u64 >= NUMBERS || second as u64 >= NUMBERS {
-            return None;
-        }
-        Some(Short::new(THROUGH, p, r, first, second))
+        self.through(p, m, r)
     }
 
     /// Makes the lines that p is before the packets of a word, of which the first one is this, and puts them from a

@@ -5,8 +5,9 @@ ghost use Rattle.hq_bits.specs.Bits.{has};
 ghost use Rattle.hq_model.specs.Job.{IsPacket};
 ghost use Rattle.hq_derive.specs.Needed.{IsNeeded, HasRoom, Widens};
 
+use crate::kept::{Middle, Middles};
 use hq_bits::{WIDTH, WORDS, column_of, unite, word_at};
-use hq_order::Before;
+use hq_order::{Before, has_no_either};
 use std::alloc::{AllocError, Global};
 
 /// The place of r's word in the row of p.
@@ -33,6 +34,8 @@ fn is_bare(row: &[u64]) -> bool
 pub struct Needs {
     /// Bit `r % 64` at the place of p and r tells whether a line that p is before r is needed.
     bits: Vec<u64>,
+    /// Through which packets the lines go that others were found to rest on, where that is kept.
+    middles: Option<Middles>,
 }
 
 impl Needs {
@@ -47,7 +50,10 @@ impl Needs {
     {
         before.job().valid();
         let bits = vec![in alloc; 0; before.len() * WORDS]?;
-        Ok(Needs { bits })
+        Ok(Needs {
+            bits,
+            middles: None,
+        })
     }
 
     /// The packets that p is needed to be before, as bits; none at all where there is no such packet.
@@ -91,6 +97,54 @@ impl Needs {
         ensures widens { Widens before.now self.old self.new }
     {
         self.note(p, r);
+    }
+
+    /// What is found from here on of the packets that lines go through is kept, unless a packet is a barrier-OR.
+    pub(crate) fn keep_middles(&mut self, alloc: Global, before: &Before)
+        requires { HasRoom before.now self.old }
+        ensures { Widens before.now self.old self.new }
+    {
+        if has_no_either(before.job()) {
+            self.middles = Some(Middles::new(alloc));
+        }
+    }
+
+    /// What was kept of the packets that lines go through, if that is all.
+    pub(crate) fn middles(&self) -> Option<&Middles> {
+        self.middles.as_ref()
+    }
+
+    /// What lines of the round below rest on is found next.
+    pub(crate) fn go_down(&mut self, before: &Before)
+        requires { HasRoom before.now self.old }
+        ensures { Widens before.now self.old self.new }
+    {
+        let lost = match &mut self.middles {
+            Some(middles) => middles.go_down().is_err(),
+            None => false,
+        };
+        if lost {
+            self.middles = None;
+        }
+    }
+
+    /// The line that p is before r goes through m: kept, where that is asked for, as long as there is memory.
+    #[inline(always)]
+    pub(crate) fn keep(&mut self, before: &Before, p: usize, m: usize, r: usize)
+        requires room { HasRoom before.now self.old }
+        requires p_is { IsPacket before.now p }
+        requires m_is { IsPacket before.now m }
+        requires r_is { IsPacket before.now r }
+        ensures { Widens before.now self.old self.new }
+    {
+        before.job().valid();
+        let lost = match &mut self.middles {
+            Some(middles) => middles.keep(Middle::new(p, m, r)).is_err(),
+            None => false,
+        };
+        if lost {
+            self.middles = None;
+        }
     }
 
     /// Notes that a line that p is before r is needed, where there is room for that.

@@ -1,9 +1,8 @@
-//! What is made ready for the lines of later rounds before they are made: the numbers that they are to have.
+//! The numbers that lines of later rounds are to have, by their ranks, before the lines are made.
 
-use crate::ranks::{Place, Ranks};
-use crate::short::Short;
+use crate::ranks::{Place, Rank, Ranks};
 use hq_bits::{lowest, without};
-use hq_order::{Before, Fresh, has_no_either};
+use hq_order::{Before, Fresh};
 use std::alloc::{AllocError, Global};
 
 /// In how many parts the lines are made, each in a thread of its own.
@@ -32,20 +31,23 @@ impl Start {
     }
 }
 
-/// Lines that are to be made all at once, and where parts of about as many each begin.
-#[derive(Drop)]
-pub struct Unmade {
-    pub lines: Vec<Short>,
-    pub starts: Vec<Start>,
+/// A number for each needed line of a later round, none of them known yet.
+///
+/// # Errors
+///
+/// `AllocError` where there is no memory.
+pub fn unnumbered(alloc: Global, ranks: &Ranks) -> Result<Vec<u32>, AllocError> {
+    vec![in alloc; NONE; ranks.later()]
 }
 
-/// What is ready for the lines of later rounds.
-#[derive(Drop)]
-pub struct Later {
-    /// The number that each is to have, by its rank.
-    pub numbers: Vec<u32>,
-    /// The lines, where they can be made all at once: no packet is a barrier-OR.
-    pub unmade: Option<Unmade>,
+/// Notes the number of the line that p is before r, if that is a needed line of a later round.
+#[inline(always)]
+pub fn note_number(numbers: &mut [u32], ranks: &Ranks, p: usize, r: usize, number: u32) {
+    if let Some(Rank::Later(rank)) = ranks.rank(p, r) {
+        if let Some(noted) = numbers.get_mut(rank as usize) {
+            *noted = number;
+        }
+    }
 }
 
 /// Numbers the lines of a word that are needed at a place, the first of them so; answers the number behind them.
@@ -76,54 +78,40 @@ fn number_row(numbers: &mut [u32], ranks: &Ranks, fresh: &Fresh, p: usize, first
     next
 }
 
-/// Numbers the needed lines of later rounds, behind those of round 0: by round, then by the first packet, then by the
-/// second. Answers where parts of about as many lines each begin.
-fn number_all(
-    alloc: Global,
-    numbers: &mut [u32],
-    before: &Before,
-    ranks: &Ranks,
-) -> Result<Vec<Start>, AllocError> {
-    let share = ranks.later().div_ceil(PARTS);
-    let mut starts = Vec::with_capacity(alloc, PARTS)?;
-    let first = ranks.first_later();
-    let mut next = first;
-    for round in 1..before.rounds() {
-        let fresh = before.fresh(round);
-        for packet in 0..before.len() {
-            let ahead = next.saturating_sub(first) as usize;
-            if starts.len() < PARTS && ahead >= share.saturating_mul(starts.len()) {
-                starts.push(Start {
-                    round,
-                    packet,
-                    ahead,
-                })?;
-            }
-            next = number_row(numbers, ranks, &fresh, packet, next);
-        }
-    }
-    Ok(starts)
+/// The number of each needed line of a later round, by its rank, and where parts of about as many lines each begin.
+#[derive(Drop)]
+pub struct Numbered {
+    pub numbers: Vec<u32>,
+    pub starts: Vec<Start>,
 }
 
-impl Later {
-    /// Numbers the needed lines of later rounds, and takes room for them, unless a packet is a barrier-OR.
+impl Numbered {
+    /// Numbers the needed lines of later rounds, behind those of round 0: by round, then by the first packet, then by
+    /// the second.
     ///
     /// # Errors
     ///
     /// `AllocError` where there is no memory.
-    pub fn ready(alloc: Global, before: &Before, ranks: &Ranks) -> Result<Later, AllocError> {
-        let mut numbers = vec![in alloc; NONE; ranks.later()]?;
-        if !has_no_either(before.job()) {
-            return Ok(Later {
-                numbers,
-                unmade: None,
-            });
+    pub fn new(alloc: Global, before: &Before, ranks: &Ranks) -> Result<Numbered, AllocError> {
+        let mut numbers = unnumbered(alloc, ranks)?;
+        let share = ranks.later().div_ceil(PARTS);
+        let mut starts = Vec::with_capacity(alloc, PARTS)?;
+        let first = ranks.first_later();
+        let mut next = first;
+        for round in 1..before.rounds() {
+            let fresh = before.fresh(round);
+            for packet in 0..before.len() {
+                let ahead = next.saturating_sub(first) as usize;
+                if starts.len() < PARTS && ahead >= share.saturating_mul(starts.len()) {
+                    starts.push(Start {
+                        round,
+                        packet,
+                        ahead,
+                    })?;
+                }
+                next = number_row(&mut numbers, ranks, &fresh, packet, next);
+            }
         }
-        let starts = number_all(alloc, &mut numbers, before, ranks)?;
-        let lines = vec![in alloc; Short::none(); ranks.later()]?;
-        Ok(Later {
-            numbers,
-            unmade: Some(Unmade { lines, starts }),
-        })
+        Ok(Numbered { numbers, starts })
     }
 }

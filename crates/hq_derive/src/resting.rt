@@ -11,6 +11,7 @@ use crate::needs::Needs;
 use hq_bits::{WIDTH, WORDS, lowest, without};
 use hq_order::{Before, Fresh};
 use hq_packet::Packet;
+use std::alloc::Global;
 
 /// The line is needed by which p comes up to the signal.
 fn need_branch(needs: &mut Needs, before: &Before, round: usize, p: usize, signal: u16)
@@ -89,6 +90,7 @@ fn need_through(needs: &mut Needs, before: &Before, round: usize, p: usize, r: u
     ensures { Widens before.now needs.old needs.new }
 {
     if let Some(m) = before.between(round, p, r) {
+        needs.keep(before, p, m, r);
         need_both(needs, before, p, m, r);
     }
 }
@@ -155,6 +157,7 @@ fn need_under_round(needs: &mut Needs, before: &Before, round: usize)
     requires { HasRoom before.now needs.old }
     ensures { Widens before.now needs.old needs.new }
 {
+    needs.go_down(before);
     let fresh = before.fresh(round);
     for p in 0..before.len() {
         need_under_row(needs, before, &fresh, round, p);
@@ -171,5 +174,14 @@ impl Needs {
         for ahead in 0..last {
             need_under_round(self, before, last - ahead);
         }
+    }
+
+    /// Does so, and keeps through which packets lines go, so that one thread makes them in less time.
+    pub fn close_keeping(&mut self, alloc: Global, before: &Before)
+        requires { HasRoom before.now self.old }
+        ensures { Widens before.now self.old self.new }
+    {
+        self.keep_middles(alloc, before);
+        self.close(before);
     }
 }

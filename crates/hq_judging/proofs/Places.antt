@@ -16,7 +16,7 @@ use Rattle.hq_certtext.specs.Grammar.{line_words, lines_words, pair_words}
 use Rattle.hq_judging.specs.declared.piece.Piece.{Piece}
 use Rattle.hq_judging.specs.declared.place.Place.{Place}
 use Rattle.hq_judging.specs.Giving.{IsLinesText, IsPairsText, IsBodyText, IsWholeText}
-use Rattle.hq_judging.specs.Places.{ArePieces, HasText, IsPlace, Leads, start_place, end_place, IsListsText, IsTextUpto, IsTextBetween}
+use Rattle.hq_judging.specs.Places.{ArePieces, HasText, Leads, start_place, end_place, IsListsText, IsTextUpto, IsTextBetween}
 use Rattle.hq_judging.proofs.Audited.{pairs_none, pairs_both, listed_step}
 
 -- ---- lines behind lines

@@ -26,8 +26,8 @@ returns-clause-all c =
     let count = c.len-a-end.ensures in
     let job = c.args.before.now in
     record {
-      are = c.close.ensures.are;
-      paired = subst (AllPaired job) (sym c.close.ensures.same)
+      are = c.close_keeping.ensures.are;
+      paired = subst (AllPaired job) (sym c.close_keeping.ensures.same)
           (λ q s above is. let low : s < length job.packets = is in c.loop-a.invariant.paired q s (omega arith) above is);
       shown = λ q s above is. let low : s < length c.args.before.now.packets = is in c.loop-a.invariant.shown q s (omega arith) above is;
     }

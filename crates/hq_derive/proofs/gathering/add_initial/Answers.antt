@@ -28,6 +28,6 @@ pub returns : goal.returns
 returns c = record {
   goes = c.loop-p.invariant.0;
   there = λ p k place is.
-    let low = slice_get_within c.args.ranks.now.numbers.items p (is.1.number + 1) is.1.numbered in
-    c.loop-p.invariant.1 p k place (omega (arith, low, c.loop-p-test.false)) is;
+      let low = slice_get_within c.args.ranks.now.numbers.items p (is.1.number + 1) is.1.numbered in
+      c.loop-p.invariant.1 p k place (omega (arith, low, c.loop-p-test.false)) is;
 }

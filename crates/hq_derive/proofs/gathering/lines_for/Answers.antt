@@ -10,5 +10,5 @@ if_all-requires-clause-initial g c =
     let new = c.add_later_lines.new.lines in
     let goes = c.in_ok-add_later_lines.ensures in
     let begun : InitialThere (lines_of old) old.ranks = subst (InitialThere (lines_of old)) (sym c.number_by.ensures.ranks)
-      (subst (λ lines. InitialThere lines ranks) (sym c.number_by.ensures.lines) c.in_ok-later.ensures.there) in
+    (subst (λ lines. InitialThere lines ranks) (sym c.number_by.ensures.lines) c.in_ok-numbers.ensures.there) in
     subst (InitialThere (lines_of new)) (sym goes.ranks) (initial_grown (lines_of old) (lines_of new) old.ranks goes.grown begun)
