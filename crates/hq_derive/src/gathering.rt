@@ -313,7 +313,7 @@ pub fn lines_for<H: MakesLines>(
     ensures there { IfOk result (λ lines. AllThere needs.now (lines_of lines)) }
 {
     let ranks = Ranks::new(alloc, before, needs)?;
-    let mut lines = Lines::new(alloc, before.job(), ranks.initial(), ranks.later())?;
+    let mut lines = Lines::new(alloc, before.job(), ranks.initial())?;
     let Later { numbers, made } = hands.begin(&mut lines, alloc, before, &ranks, needs)?;
     lines.number_by(ranks, numbers);
     add_later_lines(hands, &mut lines, alloc, before, needs, made)?;

@@ -41,13 +41,8 @@ pub struct Lines {
 }
 
 impl Lines {
-    /// No lines, with room for so many of round 0 and so many of later rounds.
-    pub(crate) fn new(
-        alloc: Global,
-        job: &Job,
-        initial: usize,
-        later: usize,
-    ) -> Result<Lines, AllocError>
+    /// No lines, with room for so many of round 0.
+    pub(crate) fn new(alloc: Global, job: &Job, initial: usize) -> Result<Lines, AllocError>
         ensures sound { IfOk result (AreSound (plan job.now)) }
         ensures none { IfOk result (λ l. lines_of l ≡ []) }
     {
@@ -55,7 +50,7 @@ impl Lines {
         Ok(Lines {
             ranks: Ranks::none(alloc),
             numbers: Vec::new(alloc),
-            lines: Store::new(alloc, initial, later)?,
+            lines: Store::new(alloc, initial)?,
         })
     }
 
@@ -68,7 +63,7 @@ impl Lines {
         ensures sound { IfOk result (AreSound (plan job.now)) }
         ensures none { IfOk result (λ l. lines_of l ≡ []) }
     {
-        Lines::new(alloc, job, 0, 0)
+        Lines::new(alloc, job, 0)
     }
 
     /// The numbers of lines are found by these ranks: of later rounds, those that are noted so.

@@ -1,6 +1,6 @@
 //! Lines by any rule, in eight bytes each.
 
-ghost use Rattle.std.specs.Prelude.{◌≡◌, ◌<◌, ◌≤◌, ◌+◌, ◌++◌, ◌∷◌, [], IfOk, IsTrue, OnOk};
+ghost use Rattle.std.specs.Prelude.{◌≡◌, ◌<◌, ◌≤◌, ◌+◌, ◌++◌, ◌∷◌, [], IsTrue, OnOk};
 ghost use Rattle.std.specs.Prelude.{Some, length, map, slice_get};
 ghost use Rattle.hq_cert.specs.View.{rule_of};
 ghost use Rattle.hq_model.specs.Certificate.{Says};
@@ -59,15 +59,14 @@ fn put(
 }
 
 impl Shorts {
-    /// No lines, with room for so many.
-    pub fn new(alloc: Global, room: usize) -> Result<Shorts, AllocError>
-        ensures { IfOk result (λ s. s ≡ []) }
+    /// No lines.
+    pub fn new(alloc: Global) -> Shorts
+        ensures { result ≡ [] }
     {
-        let shorts = Vec::with_capacity(alloc, room)?;
-        Ok(Shorts {
-            shorts,
+        Shorts {
+            shorts: Vec::new(alloc),
             kept: Vec::new(alloc),
-        })
+        }
     }
 
     /// These lines, none of which is that of a barrier-OR.

@@ -40,12 +40,12 @@ impl Model for Store {
 }
 
 impl Store {
-    /// No lines, with room for so many that cite no line, and for so many behind them.
-    pub fn new(alloc: Global, lone: usize, others: usize) -> Result<Store, AllocError>
+    /// No lines, with room for so many that cite no line.
+    pub fn new(alloc: Global, lone: usize) -> Result<Store, AllocError>
         ensures { IfOk result (λ s. s ≡ []) }
     {
         let lone = Vec::with_capacity(alloc, lone)?;
-        let shorts = Shorts::new(alloc, others)?;
+        let shorts = Shorts::new(alloc);
         Ok(Store { lone, shorts })
     }
 
