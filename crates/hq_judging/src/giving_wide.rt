@@ -86,7 +86,7 @@ fn print_turn<R: Threads, W: Write>(
         (λ to. PrintsSuch (IsTextBetween (plan job.now) audited.now from to) (W.contents writer.old) printer.old
         (W.contents writer.new) printer.new) }
 {
-    let Ok(mut pieces) = pieces_from(alloc, job, audited, from, threads, many) else {
+    let Ok(mut pieces) = pieces_from(alloc, audited, from, threads, many) else {
         return Ok(from);
     };
     print_pieces(rt, alloc, job, audited, from, &mut pieces, many);

@@ -2,6 +2,7 @@
 
 ghost use Rattle.std.specs.Prelude.{◌≡◌, IfOk, IfSome, false};
 ghost use Rattle.hq_job.specs.Plan.{plan};
+ghost use Rattle.hq_model.specs.Job.{Job as Plan};
 ghost use Rattle.hq_audit.specs.Audited.{chained_in, IsAudited};
 ghost use Rattle.hq_judging.specs.Places.{ArePieces, HasText, IsPlace, IsTextBetween, Leads};
 
@@ -68,16 +69,14 @@ impl Piece {
 /// So many pieces from a place on, none of them printed, of so many lines and pair lines each.
 pub fn pieces_from(
     alloc: Global,
-    job: &Job,
     audited: &Audited,
     from: Place,
     count: usize,
     many: usize,
 ) -> Result<Vec<Piece>, AllocError>
     requires { IsPlace audited.now from }
-    ensures { IfOk result (λ pieces. ArePieces (plan job.now) audited.now from pieces.items) }
+    ensures { IfOk result (λ pieces. (job : Plan) → ArePieces job audited.now from pieces.items) }
 {
-    let _packets = job.packets();
     let mut pieces = Vec::with_capacity(alloc, count)?;
     let mut last = from;
     for _piece in 0..count {
