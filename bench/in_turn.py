@@ -1,6 +1,7 @@
 """Runs hsaq and another program of the same command line in turn, and says what each took."""
 import hashlib
 import os
+import statistics
 import subprocess
 import tempfile
 import time
@@ -19,11 +20,11 @@ def surroundings():
     os.environ.setdefault('GLIBC_TUNABLES', tunables[0])
 
 
-class Best:
-    """The least processor time on one processor and the least time by the clock on all of the runs so far, and the memory of one, in KB."""
+class Times:
+    """The processor times on one processor and the times by the clock on all of the runs so far, and the memory of one, in KB."""
 
     def __init__(self):
-        self.one, self.all, self.memory = float('inf'), float('inf'), 0
+        self.one, self.all, self.memory = [], [], 0
 
     def run(self, words, core):
         """Runs the words once more, on one processor or, with None, on all. No copy of this process is made for that, whose time would count."""
@@ -35,9 +36,9 @@ class Best:
         took = time.perf_counter() - start
         os.sched_setaffinity(0, every)
         if core is None:
-            self.all = min(self.all, took)
+            self.all.append(took)
         else:
-            self.one = min(self.one, use.ru_utime + use.ru_stime)
+            self.one.append(use.ru_utime + use.ru_stime)
 
     def weigh(self, words, note):
         """Runs the words once more, under a small program that tells how much memory they took."""
@@ -67,25 +68,30 @@ def digest(words):
 
 
 def compared(hsaq, other, command, job, runs, core):
-    """The best of the runs of both programs, which take turns, and whether both write the same."""
+    """The times of both programs, which take turns, and whether both write the same."""
     with tempfile.TemporaryDirectory() as scratch:
         words = words_for(command, other, job, scratch)
-        best = [(hsaq, Best()), (other, Best())]
+        times = [(hsaq, Times()), (other, Times())]
         for _ in range(runs):
             for where in (core, None):
-                for program, it in best:
+                for program, it in times:
                     it.run([program] + words, where)
-        for program, it in best:
+        for program, it in times:
             it.weigh([program] + words, os.path.join(scratch, 'note'))
-        return best[0][1], best[1][1], digest([hsaq] + words) == digest([other] + words)
+        return times[0][1], times[1][1], digest([hsaq] + words) == digest([other] + words)
 
 
-HEAD = '%-20s %8s %8s %6s %9s %8s %6s %9s %6s' % ('job', 'one, ms', 'other', 'ratio', 'all, ms', 'other', 'ratio', 'KB', 'ratio')
+HEAD = '%-20s %8s %8s %6s %6s %9s %8s %6s %6s %9s %6s' % ('job', 'one, ms', 'other', 'ratio', 'half', 'all, ms', 'other', 'ratio', 'half', 'KB', 'ratio')
+
+
+def told(ours, theirs):
+    """The least of these times, in ms, and the ratios of the least and of the medians: those of half of the runs are below."""
+    half = statistics.median(ours) / statistics.median(theirs)
+    return '%8.2f %8.2f %6.2f %6.2f' % (min(ours) * 1000, min(theirs) * 1000, min(ours) / min(theirs), half)
 
 
 def line(job, ours, theirs, same):
     """A line of the table: what both took, and the ratios."""
     name = os.path.splitext(os.path.basename(job))[0]
-    text = '%-20s %8.2f %8.2f %6.2f' % (name, ours.one * 1000, theirs.one * 1000, ours.one / theirs.one)
-    text += ' %9.2f %8.2f %6.2f' % (ours.all * 1000, theirs.all * 1000, ours.all / theirs.all)
+    text = '%-20s %s  %s' % (name, told(ours.one, theirs.one), told(ours.all, theirs.all))
     return text + ' %9d %6.2f%s' % (ours.memory, ours.memory / theirs.memory, '' if same else '  DIFFERENT')
